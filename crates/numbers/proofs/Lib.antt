@@ -1,0 +1,7 @@
+-- Laws that the proofs of this crate and of those above it cite.
+pub mod Integers
+pub mod Naturals
+pub mod Rows
+pub mod Sums
+pub mod Floor
+pub mod Shares

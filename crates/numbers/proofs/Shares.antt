@@ -1,0 +1,69 @@
+-- Shares of an entry add up to its energy, by the one telescope, and the code's raised floors are these. Assumes nothing.
+use mathlib.Core.Path.{_≡_, refl, sym, ap, ap₂, _∙_}
+use Prim.Native.Nat.{ℕ, suc, _+_, _-_, _*_, _/_, _≤_, _<_}
+use native.Mathlib.Nat.{div-le-of-le-mul, mul-le-mul, mul-le-mul-right, add-mul}
+use native.Mathlib.Omega.{arith}
+use native.Mathlib.Numerals.{add-one}
+use lib.IntN.{ℤ, pos, subℕ, _-ℤ_, _*ℤ_, +ℤ-idr}
+use Rattle.numbers.specs.Naturals.{energyOf}
+use Rattle.numbers.specs.Sums.{sumFrom}
+use Rattle.numbers.specs.Shares.{floorDiv, floorPart, partialEnergy, share}
+use Rattle.numbers.proofs.Integers.{up, dn, eqZ, sub-fact, mul-fact, sub-minus}
+use Rattle.numbers.proofs.Sums.{telescope}
+use Rattle.numbers.proofs.Floor.{floor-shift, floor-all, floor-none}
+
+-- none of the days have nothing, all of them have all
+pub partial-none : (E : ℤ) (n : ℕ) → 0 < n → partialEnergy E n 0 ≡ pos 0
+unfolding partialEnergy
+partial-none E n p = floor-none E n p
+
+pub partial-all : (E : ℤ) (n : ℕ) → 0 < n → partialEnergy E n n ≡ E
+unfolding partialEnergy
+partial-all E n p = floor-all E n p
+
+-- m shares from day a on are one difference
+pub shares-between : (E : ℤ) (n a m : ℕ) → sumFrom (share E n) a m ≡ partialEnergy E n (a + m) -ℤ partialEnergy E n a
+unfolding share
+shares-between E n a m = telescope (partialEnergy E n) a m
+
+-- all n shares are the energy
+pub shares-whole : (E : ℤ) (n : ℕ) → 0 < n → sumFrom (share E n) 0 n ≡ E
+shares-whole E n p =
+    let z : 0 + n ≡ n = omega arith in
+    shares-between E n 0 n
+    ∙ ap₂ _-ℤ_ (ap (partialEnergy E n) z ∙ partial-all E n p) (partial-none E n p)
+    ∙ +ℤ-idr E
+
+-- ---- the code's floor, on naturals: u is the energy raised by 1,000,000
+
+abbrev pub raisedPart : ℕ → ℕ → ℕ → ℕ
+raisedPart u n k = (u * k + 1000000 * (n - k)) / n
+
+pub raised-fits : (u n k : ℕ) → u ≤ 2000000 → n ≤ 40001 → k ≤ n → u * k ≤ 80002000000
+raised-fits u n k a b l = let h : k ≤ 40001 = omega arith in omega (arith, mul-le-mul a h)
+
+pub raised-small : (u n k : ℕ) → u ≤ 2000000 → k ≤ n → raisedPart u n k ≤ 2000000
+raised-small u n k a l = div-le-of-le-mul n (omega (arith, mul-le-mul-right k a))
+
+pub raised-partial : (u n k : ℕ) → 0 < n → k ≤ n → energyOf (raisedPart u n k) ≡ partialEnergy (energyOf u) n k
+unfolding partialEnergy floorPart
+raised-partial u n k p l =
+    sym
+    (ap (λ (x : ℤ). floorDiv x n)
+    (eqZ (E *ℤ pos k) (subℕ (u * k + 1000000 * (n - k)) (1000000 * n))
+    (omega (arith, mul-fact E k, sub-fact (u * k + 1000000 * (n - k)) (1000000 * n), add-mul (up E) 1000000 k, add-mul u (dn E) k, ap (λ (x : ℕ). x * k) (sub-fact u 1000000))))
+    ∙ floor-shift (u * k + 1000000 * (n - k)) 1000000 n p)
+  where
+    E : ℤ
+    E = energyOf u
+
+-- the sum of the shares of days a to b - 1, from two raised floors
+pub raised-shares : (E : ℤ) (n a b r s : ℕ) → a ≤ b → energyOf r ≡ partialEnergy E n b → energyOf s ≡ partialEnergy E n a → subℕ r s ≡ sumFrom (share E n) a (b - a)
+raised-shares E n a b r s l p q =
+    let e : a + (b - a) ≡ b = omega arith in
+    sym (shares-between E n a (b - a) ∙ rw (e, ← p, ← q) (sub-minus r s 1000000))
+
+-- and the share of one day
+pub raised-share : (E : ℤ) (n k r s : ℕ) → energyOf r ≡ partialEnergy E n (k + 1) → energyOf s ≡ partialEnergy E n k → subℕ r s ≡ share E n k
+unfolding share
+raised-share E n k r s p q = sym (rw (← add-one k, ← p, ← q) (sub-minus r s 1000000))

@@ -1,0 +1,5 @@
+-- Integers as the register reads them: naturals of a table, energies, sums over days, floor parts and shares.
+pub mod Naturals
+pub mod Rows
+pub mod Sums
+pub mod Shares
