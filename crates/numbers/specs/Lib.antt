@@ -3,3 +3,4 @@ pub mod Naturals
 pub mod Rows
 pub mod Sums
 pub mod Shares
+pub mod Search
