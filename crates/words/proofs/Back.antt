@@ -1,5 +1,6 @@
 -- There and back: what is encoded is decoded again, and what is decoded is encoded again. Assumes nothing.
 use Prim.Native.Nat.{ℕ, zero, suc, _+_, _*_, _<_, _≤_}
+use native.Mathlib.Nat.{add-assoc}
 use native.Mathlib.Omega.{arith}
 use mathlib.Core.Path.{_≡_, refl, ap₂, _∙_, sym}
 use mathlib.Core.List.{List}
@@ -10,28 +11,39 @@ use mir.Syntax.{w64}
 use mir.Val.{SFits}
 use Rattle.words.specs.Words.{wordAt, withWord}
 use Rattle.words.specs.Tables.{decodedInto, encodedInto}
-use Rattle.words.proofs.Words.{word-again}
+use Rattle.words.proofs.Words.{word-alike, word-again}
 use Rattle.words.proofs.Tables.{length-decoded, decoded-at, encoded-at}
 
+length-part : {A : Type 0} (l : List A) (a n : ℕ) → a + n ≤ length l → length (take n (drop a l)) ≡ n
+length-part l a n h = length-take-le n (drop a l) (rw length-drop (omega arith))
+
 -- two parts of n elements are equal when they agree at each index
-module _ {A : Type 0} (d : A) (l₁ l₂ : List A) (a₁ a₂ n : ℕ) (h₁ : a₁ + n ≤ length l₁) (h₂ : a₂ + n ≤ length l₂) where
-  length-part : (l : List A) (a : ℕ) → a + n ≤ length l → length (take n (drop a l)) ≡ n
-  length-part l a h = length-take-le n (drop a l) (rw length-drop (omega arith))
+pub part-ext : {A : Type 0} (d : A) (l₁ l₂ : List A) (a₁ a₂ n : ℕ) → a₁ + n ≤ length l₁ → a₂ + n ≤ length l₂ → ((i : ℕ) → i < n → getD l₁ (a₁ + i) d ≡ getD l₂ (a₂ + i) d) → take n (drop a₁ l₁) ≡ take n (drop a₂ l₂)
+part-ext d l₁ l₂ a₁ a₂ n h₁ h₂ f =
+    let e : length (take n (drop a₁ l₁)) ≡ n = length-part l₁ a₁ n h₁ in
+    ext-getD d (take n (drop a₁ l₁)) (take n (drop a₂ l₂)) (e ∙ sym (length-part l₂ a₂ n h₂))
+    (λ i y.
+    let k : i < n = omega arith in
+    getD-take n (drop a₁ l₁) i d k ∙ getD-drop a₁ l₁ i d ∙ f i k ∙ sym (getD-take n (drop a₂ l₂) i d k ∙ getD-drop a₂ l₂ i d))
 
-  pub part-ext : ((i : ℕ) → i < n → getD l₁ (a₁ + i) d ≡ getD l₂ (a₂ + i) d) → take n (drop a₁ l₁) ≡ take n (drop a₂ l₂)
-  part-ext f =
-      let e₁ : length (take n (drop a₁ l₁)) ≡ n = length-part l₁ a₁ h₁ in
-      ext-getD d (take n (drop a₁ l₁)) (take n (drop a₂ l₂)) (e₁ ∙ sym (length-part l₂ a₂ h₂))
-      (λ i y.
-      let k : i < n = omega arith in
-      getD-take n (drop a₁ l₁) i d k ∙ getD-drop a₁ l₁ i d ∙ f i k ∙ sym (getD-take n (drop a₂ l₂) i d k ∙ getD-drop a₂ l₂ i d))
+-- ---- what is decoded depends on the bytes alone, and what is encoded on the numbers alone
 
--- what is decoded depends on the bytes alone
-pub decoded-alike : (t₁ : List ℤ) (to₁ : ℕ) (t₂ : List ℤ) (to₂ : ℕ) (b : List ℕ) (at n : ℕ) → to₁ + n ≤ length t₁ → to₂ + n ≤ length t₂ → take n (drop to₁ (decodedInto t₁ to₁ b at n)) ≡ take n (drop to₂ (decodedInto t₂ to₂ b at n))
-decoded-alike t₁ to₁ t₂ to₂ b at n h₁ h₂ =
-    part-ext (pos 0) (decodedInto t₁ to₁ b at n) (decodedInto t₂ to₂ b at n) to₁ to₂ n
+pub decoded-alike : (t₁ : List ℤ) (to₁ : ℕ) (t₂ : List ℤ) (to₂ : ℕ) (b₁ : List ℕ) (at₁ : ℕ) (b₂ : List ℕ) (at₂ n : ℕ) → to₁ + n ≤ length t₁ → to₂ + n ≤ length t₂ → ((k : ℕ) → k < 8 * n → getD b₁ (at₁ + k) 0 ≡ getD b₂ (at₂ + k) 0) → take n (drop to₁ (decodedInto t₁ to₁ b₁ at₁ n)) ≡ take n (drop to₂ (decodedInto t₂ to₂ b₂ at₂ n))
+decoded-alike t₁ to₁ t₂ to₂ b₁ at₁ b₂ at₂ n h₁ h₂ f =
+    part-ext (pos 0) (decodedInto t₁ to₁ b₁ at₁ n) (decodedInto t₂ to₂ b₂ at₂ n) to₁ to₂ n
     (rw length-decoded h₁) (rw length-decoded h₂)
-    (λ i l. decoded-at t₁ to₁ b at n i (pos 0) h₁ l ∙ sym (decoded-at t₂ to₂ b at n i (pos 0) h₂ l))
+    (λ i l.
+    decoded-at t₁ to₁ b₁ at₁ n i (pos 0) h₁ l
+    ∙ word-alike b₁ b₂ (at₁ + 8 * i) (at₂ + 8 * i) (λ k y. rw (add-assoc at₁ (8 * i) k, add-assoc at₂ (8 * i) k) (f (8 * i + k) (omega arith)))
+    ∙ sym (decoded-at t₂ to₂ b₂ at₂ n i (pos 0) h₂ l))
+
+pub encoded-alike : (b : List ℕ) (at : ℕ) (t₁ : List ℤ) (from₁ : ℕ) (t₂ : List ℤ) (from₂ n : ℕ) → ((i : ℕ) → i < n → getD t₁ (from₁ + i) (pos 0) ≡ getD t₂ (from₂ + i) (pos 0)) → encodedInto b at t₁ from₁ n ≡ encodedInto b at t₂ from₂ n
+unfolding encodedInto
+encoded-alike b at t₁ from₁ t₂ from₂ zero f = refl
+encoded-alike b at t₁ from₁ t₂ from₂ (suc n) f =
+    ap₂ (λ (c : List ℕ) (x : ℤ). withWord c (at + 8 * n) x)
+    (encoded-alike b at t₁ from₁ t₂ from₂ n (λ i l. f i (omega arith)))
+    (f n (omega arith))
 
 -- ---- decoding the words just encoded gives back the numbers
 

@@ -1,6 +1,6 @@
 -- Numbers of any width as bytes: what is written is read back, and the rest stays. Assumes nothing.
 use Prim.Native.Nat.{ℕ, zero, suc, _+_, _*_, _/_, _%_, _^_, _<_, _≤_}
-use native.Mathlib.Nat.{pow-suc, pow-succ', one-le-pow, mod-one, div-one, zero-add, add-zero, suc-add, div-div-eq-div-mul, mul-assoc}
+use native.Mathlib.Nat.{pow-suc, pow-succ', one-le-pow, mod-one, mod-eq-of-lt, div-one, zero-add, add-zero, add-assoc, suc-add, div-div-eq-div-mul, mul-assoc}
 use native.Mathlib.Omega.{arith}
 use mathlib.Core.Path.{_≡_, refl, ap, ap₂, _∙_, sym}
 use mathlib.Core.Logic.{_⊎_, inl, inr, ⊎-elim}
@@ -37,14 +37,21 @@ byte-number b at (suc w) n k h =
     byte-number (set b at (n % 256)) (at + 1) w (n / 256) k (⊎-elim (λ (l : k < at). inl (omega arith)) (λ (g : at + suc w ≤ k). inr (omega arith)) h)
     ∙ getD-set-other b at k (n % 256) 0 (λ (e : k ≡ at). ⊎-elim (λ (l : k < at). omega arith) (λ (g : at + suc w ≤ k). omega arith) h)
 
--- so does every number that lies apart from it
-pub number-apart : (b : List ℕ) (at w n j v : ℕ) → (j + v ≤ at) ⊎ (at + w ≤ j) → numberAt (withNumber b at w n) j v ≡ numberAt b j v
+-- ---- a number depends on its bytes alone
+
+pub number-alike : (b₁ b₂ : List ℕ) (at₁ at₂ w : ℕ) → ((k : ℕ) → k < w → getD b₁ (at₁ + k) 0 ≡ getD b₂ (at₂ + k) 0) → numberAt b₁ at₁ w ≡ numberAt b₂ at₂ w
 unfolding numberAt
-number-apart b at w n j zero h = refl
-number-apart b at w n j (suc v) h =
+number-alike b₁ b₂ at₁ at₂ zero f = refl
+number-alike b₁ b₂ at₁ at₂ (suc w) f =
     ap₂ (λ (x y : ℕ). x + 256 * y)
-    (byte-number b at w n j (⊎-elim (λ (l : j + suc v ≤ at). inl (omega arith)) (λ (g : at + w ≤ j). inr g) h))
-    (number-apart b at w n (j + 1) v (⊎-elim (λ (l : j + suc v ≤ at). inl (omega arith)) (λ (g : at + w ≤ j). inr (omega arith)) h))
+    (rw (add-zero at₁, add-zero at₂) at (f 0 (omega arith)))
+    (number-alike b₁ b₂ (at₁ + 1) (at₂ + 1) w (λ k l. rw (add-assoc at₁ 1 k, add-assoc at₂ 1 k) (f (1 + k) (omega arith))))
+
+-- so one that lies apart from what is written stays
+pub number-apart : (b : List ℕ) (at w n j v : ℕ) → (j + v ≤ at) ⊎ (at + w ≤ j) → numberAt (withNumber b at w n) j v ≡ numberAt b j v
+number-apart b at w n j v h =
+    number-alike (withNumber b at w n) b j j v
+    (λ k y. byte-number b at w n (j + k) (⊎-elim (λ (l : j + v ≤ at). inl (omega arith)) (λ (g : at + w ≤ j). inr (omega arith)) h))
 
 -- ---- the number is read back
 
@@ -57,6 +64,9 @@ number-same b at (suc w) n h =
     let first : getD (withNumber s (at + 1) w (n / 256)) at 0 ≡ n % 256 = byte-number s (at + 1) w (n / 256) at (inl (omega arith)) ∙ getD-set-same b at (n % 256) 0 (omega arith) in
     let rest : numberAt (withNumber s (at + 1) w (n / 256)) (at + 1) w ≡ n / 256 % 256 ^ w = number-same s (at + 1) w (n / 256) (omega arith) in
     omega (arith, first, rest, mod-mul n {m = 256 ^ w} {c = 256} (one-le-pow w 256 (lit< tt)) (lit< tt), ap (λ (x : ℕ). n % x) (pow-suc 256 w))
+
+pub number-back : (b : List ℕ) (at w n : ℕ) → at + w ≤ length b → n < 256 ^ w → numberAt (withNumber b at w n) at w ≡ n
+number-back b at w n h f = number-same b at w n h ∙ mod-eq-of-lt f
 
 -- ---- a number of v + w bytes is one of v bytes and one of w bytes
 

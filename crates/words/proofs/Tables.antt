@@ -13,10 +13,11 @@ use mir.Syntax.{w64}
 use mir.Val.{toZ, SFits}
 use Rattle.words.specs.Words.{numberAt, wordAt, withWord}
 use Rattle.words.specs.Tables.{decodedInto, encodedInto}
-use Rattle.words.proofs.Words.{length-word, take-word, drop-word, byte-word, number-apart-word, word-apart, word-same}
+use Rattle.words.proofs.Numbers.{number-alike}
+use Rattle.words.proofs.Words.{length-word, take-word, drop-word, byte-word, word-apart, word-same}
 
 -- the last of the first suc n, or one before it
-pub last-or-before : (i n : ℕ) → i < suc n → (i ≡ n) ⊎ (i < n)
+last-or-before : (i n : ℕ) → i < suc n → (i ≡ n) ⊎ (i < n)
 last-or-before i n h = eq-or-lt-of-le (omega arith)
 
 -- ---- decoded
@@ -95,11 +96,9 @@ module _ (b : List ℕ) (at : ℕ) (t : List ℤ) (from : ℕ) where
 
   -- so does every number, and every word, that lies apart from them
   pub number-apart-encoded : (n j v : ℕ) → (j + v ≤ at) ⊎ (at + 8 * n ≤ j) → numberAt (encodedInto b at t from n) j v ≡ numberAt b j v
-  unfolding encodedInto
-  number-apart-encoded zero j v h = refl
-  number-apart-encoded (suc n) j v h =
-      number-apart-word (encodedInto b at t from n) (at + 8 * n) (getD t (from + n) (pos 0)) j v (⊎-elim (λ (l : j + v ≤ at). inl (omega arith)) (λ (g : at + 8 * suc n ≤ j). inr (omega arith)) h)
-      ∙ number-apart-encoded n j v (⊎-elim (λ (l : j + v ≤ at). inl l) (λ (g : at + 8 * suc n ≤ j). inr (omega arith)) h)
+  number-apart-encoded n j v h =
+      number-alike (encodedInto b at t from n) b j j v
+      (λ k y. byte-encoded n (j + k) (⊎-elim (λ (l : j + v ≤ at). inl (omega arith)) (λ (g : at + 8 * n ≤ j). inr (omega arith)) h))
 
   pub word-apart-encoded : (n j : ℕ) → (j + 8 ≤ at) ⊎ (at + 8 * n ≤ j) → wordAt (encodedInto b at t from n) j ≡ wordAt b j
   unfolding wordAt

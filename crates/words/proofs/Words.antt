@@ -1,6 +1,6 @@
 -- Signed words: what is written is read back, and the rest stays. Assumes nothing.
 use Prim.Native.Nat.{ℕ, _+_, _-_, _<_, _≤_}
-use native.Mathlib.Nat.{eq-zero-or-pos, mod-eq-of-lt}
+use native.Mathlib.Nat.{eq-zero-or-pos}
 use native.Mathlib.Omega.{arith}
 use mathlib.Core.Path.{_≡_, ap, _∙_, sym, subst}
 use mathlib.Core.Logic.{_⊎_, ⊎-elim}
@@ -12,7 +12,7 @@ use mir.Val.{toZ, ofZ, SFits}
 use mir.Facts.{toZ-ofZ, ofZ-toZ, toZ-pos, fits-ofZ, fits-of-lt}
 use borrow.Author.Tests.{le-ltb}
 use Rattle.words.specs.Words.{numberAt, withNumber, wordAt, withWord}
-use Rattle.words.proofs.Numbers.{length-number, take-number, drop-number, byte-number, number-apart, number-same, number-below, number-again}
+use Rattle.words.proofs.Numbers.{length-number, take-number, drop-number, byte-number, number-alike, number-apart, number-back, number-below, number-again}
 
 pub length-word : (b : List ℕ) (at : ℕ) (x : ℤ) → length (withWord b at x) ≡ length b
 unfolding withWord
@@ -40,12 +40,17 @@ pub word-apart : (b : List ℕ) (at : ℕ) (x : ℤ) (j : ℕ) → (j + 8 ≤ at
 unfolding wordAt
 word-apart b at x j h = ap (toZ w64) (number-apart-word b at x j 8 h)
 
+-- a word depends on its bytes alone
+pub word-alike : (b₁ b₂ : List ℕ) (at₁ at₂ : ℕ) → ((k : ℕ) → k < 8 → getD b₁ (at₁ + k) 0 ≡ getD b₂ (at₂ + k) 0) → wordAt b₁ at₁ ≡ wordAt b₂ at₂
+unfolding wordAt
+word-alike b₁ b₂ at₁ at₂ f = ap (toZ w64) (number-alike b₁ b₂ at₁ at₂ 8 f)
+
 -- ---- the word is read back
 
 pub word-same : (b : List ℕ) (at : ℕ) (x : ℤ) → at + 8 ≤ length b → SFits w64 x → wordAt (withWord b at x) at ≡ x
 unfolding wordAt withWord
 word-same b at x h f =
-    ap (toZ w64) (number-same b at 8 (ofZ w64 x) h ∙ mod-eq-of-lt (fits-ofZ f .fits)) ∙ toZ-ofZ f
+    ap (toZ w64) (number-back b at 8 (ofZ w64 x) h (fits-ofZ f .fits)) ∙ toZ-ofZ f
 
 -- writing the word that was read changes nothing
 pub word-again : (b : List ℕ) (at : ℕ) → ((k : ℕ) → getD b k 0 < 256) → withWord b at (wordAt b at) ≡ b
@@ -57,10 +62,11 @@ word-again b at f =
 
 fits-any : (n : ℕ) → SFits w64 (toZ w64 n)
 fits-any n =
+    let half : ℕ = 9223372036854775808 in
     ⊎-elim
-    (λ e. let h : 9223372036854775808 ≤ n = omega arith in rw (le-ltb n 9223372036854775808 h) (record { sfits = omega arith }))
-    (λ p. let h : n < 9223372036854775808 = omega arith in subst (SFits w64) (sym (toZ-pos w64 h)) (record { sfits = h }))
-    (eq-zero-or-pos (9223372036854775808 - n))
+    (λ (e : half - n ≡ 0). rw (le-ltb n half (omega arith)) (record { sfits = omega arith }))
+    (λ (p : 0 < half - n). let h : n < half = omega arith in subst (SFits w64) (sym (toZ-pos w64 h)) (record { sfits = h }))
+    (eq-zero-or-pos (half - n))
 
 pub word-fits : (b : List ℕ) (at : ℕ) → SFits w64 (wordAt b at)
 unfolding wordAt

@@ -1,5 +1,5 @@
 // Little-endian words of 4 and 8 bytes; a signed word is two's complement.
-// What is required is that the bytes and the places are there: a caller tests the lengths first.
+// Every `requires` is about lengths alone: callers (the hub's functions) test the lengths first.
 ghost use mathlib.Core.Path.{_≡_};
 ghost use Prim.Native.Nat.{_+_, _*_, _<_, _≤_, _^_, _%_};
 ghost use lib.ListN.{length};
@@ -8,12 +8,14 @@ ghost use mir.Val.{toZ, ofZ};
 ghost use Rattle.words.specs.Words.{numberAt, wordAt, withNumber, withWord};
 ghost use Rattle.words.specs.Tables.{decodedInto, encodedInto};
 
+// A byte as a number.
 fn wide(x: u8) -> u64
     ensures { λ r. ⌜ (r ≡ x) × (r < 256) ⌝ }
 {
     x as u64
 }
 
+// The lowest byte of n.
 fn low(n: u64) -> u8
     ensures { λ r. ⌜ r ≡ n % 256 ⌝ }
 {

@@ -9,7 +9,7 @@ use lib.Signed.{leZ, nonNeg, mag}
 use mir.Syntax.{w64}
 use mir.Val.{toZ, ofZ, Fits, SFits}
 use mir.Facts.{toZ-ofZ}
-use Rattle.words.proofs.Signs.{yes-cast, yes-is, no-fits, turned, no-back}
+use Rattle.words.proofs.Signs.{natural-cast, natural-is, negative-fits, negative-turned, negative-is}
 use Rattle.words.proofs.bits.Statement.{statement}
 use Rattle.words.proofs.bits.Tie as tie
 
@@ -25,19 +25,19 @@ module _ (x : ℤ) (f : SFits w64 x) where
   no h = ap (leZ (pos 0)) (sym back) ∙ h
 
   down : leZ (pos 0) (toZ w64 (ofZ w64 x)) ≡ false → toZ w64 (ofZ w64 (negsuc 0 -ℤ toZ w64 (ofZ w64 x))) ≡ pos (mag x)
-  down h = ap (λ (z : ℤ). toZ w64 (ofZ w64 (negsuc 0 -ℤ z))) back ∙ turned x f (no h)
+  down h = ap (λ (z : ℤ). toZ w64 (ofZ w64 (negsuc 0 -ℤ z))) back ∙ negative-turned x f (no h)
 
 cast-result : tie.Need-cast-result
 cast-result c =
     let x = c .before .args .x in
     let f = c .before .fits .x in
-    subst (λ (z : ℤ). T (nonNeg z) × Fits w64 (natAbs z)) (sym (back x f)) (yes-cast x f (yes x f (c .if1 .taken)))
+    subst (λ (z : ℤ). T (nonNeg z) × Fits w64 (natAbs z)) (sym (back x f)) (natural-cast x f (yes x f (c .if1 .taken)))
 
 sub-result : tie.Need-sub-result
 sub-result c =
     let x = c .before .args .x in
     let f = c .before .fits .x in
-    subst (λ (z : ℤ). SFits w64 (negsuc 0 -ℤ z)) (sym (back x f)) (no-fits x f (no x f (c .if1 .left)))
+    subst (λ (z : ℤ). SFits w64 (negsuc 0 -ℤ z)) (sym (back x f)) (negative-fits x f (no x f (c .if1 .left)))
 
 cast-result-2 : tie.Need-cast-result-2
 cast-result-2 c =
@@ -55,13 +55,13 @@ returns : tie.Need-returns
 returns c =
     let x = c .before .args .x in
     let f = c .before .fits .x in
-    ap natAbs (back x f) ∙ yes-is x (yes x f (c .if1 .taken))
+    ap natAbs (back x f) ∙ natural-is x (yes x f (c .if1 .taken))
 
 returns-2 : tie.Need-returns-2
 returns-2 c =
     let x = c .before .args .x in
     let f = c .before .fits .x in
-    ap (λ (z : ℤ). 18446744073709551615 - natAbs z) (down x f (c .if1 .left)) ∙ no-back x (no x f (c .if1 .left))
+    ap (λ (z : ℤ). 18446744073709551615 - natAbs z) (down x f (c .if1 .left)) ∙ negative-is x (no x f (c .if1 .left))
 
 pub bits-spec : {M : Type 1} → statement M
 bits-spec =
