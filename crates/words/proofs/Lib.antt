@@ -1,0 +1,6 @@
+-- Laws that several proofs, and other crates' proofs, cite.
+pub mod Numbers
+pub mod Words
+pub mod Tables
+pub mod Back
+pub mod Signs
