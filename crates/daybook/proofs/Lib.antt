@@ -1,0 +1,6 @@
+-- The lists behind the days: a point as three lists, what the book reads off their days, and each notice as a step on
+-- the lists. Function extensionality is used; no axiom is.
+pub mod Lists
+pub mod Steps
+pub mod Well
+pub mod Scan

@@ -1,0 +1,6 @@
+-- The day book of document 01: what a reader must believe. Each rule stands beside its clause of document 003; a rule
+-- that document 01 marks as its own is marked *ours*.
+pub mod Book
+pub mod Notices
+pub mod Queries
+pub mod Calls

@@ -1,0 +1,93 @@
+// The numbers of each call, in document 01's order, and its answer. Numbers come in by value, as any i64; an answer is
+// an enum, so that a refusal carries no field. Allocate's answer holds an array and so is a struct.
+use calendar::Day;
+
+pub struct Ranges {
+    pub nondaily: i64,
+    pub daily: i64,
+}
+
+pub struct Opening {
+    pub mirn: i64,
+    pub kind: i64,
+    pub user: i64,
+    pub install: i64,
+    pub base: i64,
+}
+
+pub struct EnergyNotice {
+    pub mirn: i64,
+    pub start: i64,
+    pub end: i64,
+    pub energy: i64,
+    pub quality: i64,
+    pub confirmed: i64,
+}
+
+pub struct StatusNotice {
+    pub mirn: i64,
+    pub day: i64,
+    pub on: i64,
+}
+
+// The holidays are lent beside it.
+pub struct TransferRequest {
+    pub mirn: i64,
+    pub user: i64,
+    pub proposed: i64,
+    pub nochange: i64,
+}
+
+pub struct Withdrawal {
+    pub mirn: i64,
+    pub user: i64,
+}
+
+pub struct AccountQuery {
+    pub user: i64,
+    pub from: i64,
+    pub to: i64,
+}
+
+// The answer table is lent beside it.
+pub struct AllocationQuery {
+    pub gasday: i64,
+    pub from: i64,
+    pub to: i64,
+    pub tdq: i64,
+    pub uag: i64,
+    pub clp: i64,
+}
+
+// Of fresh, open, status and withdraw, which answer with no field.
+pub enum NoticeAnswer {
+    Entered,
+    Refused(u64),
+}
+
+pub enum EnergyAnswer {
+    Entered {
+        which: u64,
+        removed: u64,
+        user: u64,
+        lapsed: u64,
+    },
+    Refused(u64),
+}
+
+pub enum RequestAnswer {
+    Entered { first: Day, last: Day },
+    Refused(u64),
+}
+
+pub enum AccountAnswer {
+    Given(i64),
+    Refused(u64),
+}
+
+// With a refusal of 0 the net section load and the sixteen Users' totals; else zeros.
+pub struct AllocationAnswer {
+    pub refusal: u64,
+    pub nsl: i64,
+    pub totals: [i64; 16],
+}
