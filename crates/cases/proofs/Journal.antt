@@ -1,57 +1,59 @@
--- Calls as the journals write them: numbers in document 01's order.
+-- Calls as a journal writes them, numbers in document 01's order, and what the day book answers to a list of them.
 use mathlib.Core.List.{List, [], _∷_, map}
-use Prim.Native.Nat.{ℕ, zero, suc}
-use lib.IntN.{ℤ, pos, negsuc}
-use lib.ListN.{replicate}
-use Rattle.daybook.specs.Book.{Book, Edition, State}
-use Rattle.daybook.specs.Rows.{Numbers}
-use Rattle.daybook.specs.Run.{Call, Fresh, Open, Energy, Status, Request, Withdraw, Account, Allocate, Answer, answers}
+use Prim.Native.Nat.{ℕ}
+use lib.IntN.{ℤ, pos}
+use Rattle.numbers.specs.Rows.{all}
+use Rattle.numbers.specs.Search.{firstFrom, lastBelow}
+use Rattle.numbers.specs.Sums.{sumFrom}
+use Rattle.numbers.specs.Shares.{floorPart, partialEnergy, share}
+use Rattle.calendar.specs.Business.{allowablePeriod, businessDayBefore, businessDayAfter, listed, holidayList}
+use Rattle.daybook.specs.Book.{Edition, fromOn, fill, withEntries, withOff, withFro, withPending, lastOf, gather, recordAt, records, begins, registrationAt, registrations, latest, spanAt, spans, lastFilled, appendDay, dayShare}
+use Rattle.daybook.specs.Notices.{least, Numbers, decide, find, put, withPoint, onPoint, freshRows, fresh, factsOf, opened, openingRows, opening, which, entryOf, energyEarly, offWithin, energyRows, laterStarts, entered, enter, energy, statusEarly, statusRows, switched, status, requestEarly, requestRows, request, withdrawEarly, withdrawRows, withdraw}
+use Rattle.daybook.specs.Queries.{sumOf, ownShare, accountOf, accountRows, account, someFilled, allFilled, dailyGas, tdmOf, nslOf, weight, weights, total, split, pointShares, totalOf, allocateRows, allocate}
+use Rattle.daybook.specs.Calls.{Call, fresh!, open!, energy!, status!, request!, withdraw!, account!, allocate!, State, Answer, step, answers}
 
-abbrev pub fresh! : ℤ → ℤ → Call
-fresh! r s = Fresh (record { nondaily = r; daily = s })
+abbrev pub Fresh : ℤ → ℤ → Call
+Fresh r s = fresh! (record { nondaily = r; daily = s })
 
-abbrev pub open! : ℕ → ℕ → ℕ → ℕ → ℤ → Call
-open! m k u i b = Open (record { mirn = pos m; kind = pos k; user = pos u; install = pos i; base = b })
+abbrev pub Open : ℕ → ℕ → ℕ → ℕ → ℤ → Call
+Open m k u i b = open! (record { mirn = pos m; kind = pos k; user = pos u; install = pos i; base = b })
 
 -- an actual reading, not confirmed
-abbrev pub energy! : ℕ → ℕ → ℕ → ℤ → Call
-energy! m s e x =
-    Energy (record { mirn = pos m; start = pos s; end = pos e; energy = x; quality = pos 0; confirmed = pos 0 })
+abbrev pub Energy : ℕ → ℕ → ℕ → ℤ → Call
+Energy m s e x =
+    energy! (record { mirn = pos m; start = pos s; end = pos e; energy = x; quality = pos 0; confirmed = pos 0 })
 
-abbrev pub status! : ℕ → ℕ → ℕ → Call
-status! m d on = Status (record { mirn = pos m; day = pos d; on = pos on })
+abbrev pub Status : ℕ → ℕ → ℕ → Call
+Status m d on = status! (record { mirn = pos m; day = pos d; on = pos on })
 
--- with weekends only
-abbrev pub request! : ℕ → ℕ → ℕ → ℕ → Call
-request! m u d n = Request (record { mirn = pos m; user = pos u; proposed = pos d; nochange = pos n }) []
+-- without a no-change statement; an empty list means weekends only
+abbrev pub Request : ℕ → ℕ → ℕ → List ℤ → Call
+Request m u d holidays = request! (record { mirn = pos m; user = pos u; proposed = pos d; nochange = pos 0 }) holidays
 
-abbrev pub withdraw! : ℕ → ℕ → Call
-withdraw! m u = Withdraw (record { mirn = pos m; user = pos u })
+abbrev pub Withdraw : ℕ → ℕ → Call
+Withdraw m u = withdraw! (record { mirn = pos m; user = pos u })
 
-abbrev pub account! : ℕ → ℕ → ℕ → Call
-account! u a b = Account (record { user = pos u; from = pos a; to = pos b })
+abbrev pub Account : ℕ → ℕ → ℕ → Call
+Account u a b = account! (record { user = pos u; from = pos a; to = pos b })
 
--- with an answer table of 32 numbers
-abbrev pub allocate! : ℕ → ℕ → ℕ → ℕ → Call
-allocate! g a b tdq =
-    Allocate (record { gasday = pos g; from = pos a; to = pos b; tdq = pos tdq; uag = pos 0; clp = pos 0 }) 32
+-- with no unaccounted gas or linepack change, and an answer table of 32 numbers
+abbrev pub Allocate : ℕ → ℕ → ℕ → ℕ → Call
+Allocate g a b tdq =
+    allocate! (record { gasday = pos g; from = pos a; to = pos b; tdq = pos tdq; uag = pos 0; clp = pos 0 }) 32
 
--- ---- answers
-
-abbrev pub numbers : List Answer → List Numbers
+abbrev numbers : List Answer → List Numbers
 numbers [] = []
-numbers (a ∷ l) = a .numbers ∷ numbers l
+numbers (a ∷ l) = a .0 ∷ numbers l
 
-abbrev pub naturals : List ℕ → Numbers
-naturals ns = map pos ns
+-- Each call's numbers, the refusal first. To unfold this definition is to unfold the whole day book.
+unfoldable pub toldFrom : State → List Call → List Numbers
+unfolding all firstFrom lastBelow sumFrom floorPart partialEnergy share allowablePeriod businessDayBefore businessDayAfter listed holidayList fromOn fill withEntries withOff withFro withPending lastOf gather recordAt records begins registrationAt registrations latest spanAt spans lastFilled appendDay dayShare least decide find put withPoint onPoint freshRows fresh factsOf opened openingRows opening which entryOf energyEarly offWithin energyRows laterStarts entered enter energy statusEarly statusRows switched status requestEarly requestRows request withdrawEarly withdrawRows withdraw sumOf ownShare accountOf accountRows account someFilled allFilled dailyGas tdmOf nslOf weight weights total split pointShares totalOf allocateRows allocate step answers
+toldFrom S calls = numbers (answers calls S)
 
--- ---- where a list of calls starts: what stands in the book before fresh does not matter
+-- From nothing: what stands in the book before fresh does not matter.
+abbrev pub told : Edition → List Call → List Numbers
+told ed calls = toldFrom (record { edition = ed; book = record { nondaily = pos 0; daily = pos 0; points = [] } }) calls
 
-abbrev pub standard : Edition
-standard = record { points = 32; records = 48 }
-
-abbrev pub small : Edition
-small = record { points = 2; records = 3 }
-
-abbrev pub start : Edition → State
-start ed = record { edition = ed; book = record { nondaily = pos 0; daily = pos 0; points = [] } }
+-- answers of numbers that are not negative
+abbrev pub these : List (List ℕ) → List Numbers
+these l = map (map pos) l

@@ -56,14 +56,14 @@ days = 40001
 
 -- v from day d on, as before until then.
 unfoldable pub fromOn : {A : Type 0} → ℕ → A → (ℕ → A) → ℕ → A
-fromOn d v f x = cond (leb d x) v (f x)
+fromOn {A} d v f x = let before : A = f x in cond (leb d x) v before
 
 abbrev pub covers : Entry → ℕ → Bool
 covers e x = leb (e .start) x && leb x (e .end)
 
 -- The entry on its own days.
 unfoldable pub fill : Entry → (ℕ → Option Entry) → ℕ → Option Entry
-fill e f x = cond (covers e x) (some e) (f x)
+fill e f x = let other : Option Entry = f x in cond (covers e x) (some e) other
 
 -- A point with one part changed.
 unfoldable pub withEntries : (ℕ → Option Entry) → Point → Point

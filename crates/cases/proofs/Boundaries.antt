@@ -1,0 +1,198 @@
+-- Answers at the boundaries, as the outside vectors have them, each list computed from the definitions.
+use mathlib.Core.Path.{_≡_, refl}
+use mathlib.Core.Bool.{true, false, cond}
+use mathlib.Core.Option.{Option, none, some}
+use mathlib.Core.List.{List, [], _∷_, _++_}
+use Prim.Native.Nat.{ℕ, _+_}
+use lib.Dec.{leb, ltb}
+use lib.IntN.{pos, negsuc}
+use lib.ListN.{replicate}
+use Rattle.daybook.specs.Book.{Entry, Pending, Point, Edition}
+use Rattle.daybook.specs.Notices.{least, append, replacement, recut, registers, lapses, stays, outcomeOf, statusRows, requestRows}
+use Rattle.daybook.specs.Calls.{Call, State}
+use Rattle.cases.proofs.Journal.{Fresh, Open, Energy, Status, Request, Withdraw, Account, Allocate, toldFrom, told, these}
+
+-- 1 point of 1 record, where only the bounds of the edition count
+abbrev small : Edition
+small = record { points = 1; records = 1 }
+
+-- a full point takes a replacement and no append; a full table takes no point
+full : List Call
+full =
+    Fresh (negsuc 0) (negsuc 0)
+    ∷ Open 1 1 1 0 (negsuc 0)
+    ∷ Energy 1 0 0 (pos 1)
+    ∷ Energy 1 1 1 (pos 1)
+    ∷ Energy 1 2 2 (pos 1)
+    ∷ Energy 1 0 0 (pos 5)
+    ∷ Open 2 0 1 0 (pos 7)
+    ∷ Open 1 0 1 0 (pos 7)
+    ∷ []
+
+full-told :
+    told small full
+    ≡ these
+    ((0 ∷ [])
+    ∷ (0 ∷ [])
+    ∷ (0 ∷ 1 ∷ 0 ∷ 0 ∷ 0 ∷ [])
+    ∷ (16 ∷ 0 ∷ 0 ∷ 0 ∷ 0 ∷ [])
+    ∷ (7 ∷ 0 ∷ 0 ∷ 0 ∷ 0 ∷ [])
+    ∷ (0 ∷ 2 ∷ 0 ∷ 0 ∷ 0 ∷ [])
+    ∷ (16 ∷ [])
+    ∷ (5 ∷ [])
+    ∷ [])
+unfolding toldFrom full
+full-told = refl
+
+-- off while off, at or before the last on day or the last filled day, before install; on while on, not after the off day
+switched : List Call
+switched =
+    Fresh (negsuc 0) (negsuc 0)
+    ∷ Open 1 1 1 5 (negsuc 0)
+    ∷ Status 1 4 0
+    ∷ Status 1 5 0
+    ∷ Status 1 6 0
+    ∷ Status 1 5 1
+    ∷ Energy 1 5 5 (pos 1)
+    ∷ Status 1 6 1
+    ∷ Status 1 7 1
+    ∷ Status 1 6 0
+    ∷ Energy 1 6 6 (pos 1)
+    ∷ Status 1 7 0
+    ∷ []
+
+switched-told :
+    told small switched
+    ≡ these
+    ((0 ∷ [])
+    ∷ (0 ∷ [])
+    ∷ (14 ∷ [])
+    ∷ (0 ∷ [])
+    ∷ (14 ∷ [])
+    ∷ (14 ∷ [])
+    ∷ (7 ∷ 0 ∷ 0 ∷ 0 ∷ 0 ∷ [])
+    ∷ (0 ∷ [])
+    ∷ (14 ∷ [])
+    ∷ (14 ∷ [])
+    ∷ (0 ∷ 1 ∷ 0 ∷ 0 ∷ 0 ∷ [])
+    ∷ (0 ∷ [])
+    ∷ [])
+unfolding toldFrom switched
+switched-told = refl
+
+-- with eight closed spans an off notice would be the ninth; an on notice is refused by 14
+eight : List (ℕ × Option ℕ)
+eight =
+    (0, some 1) ∷ (2, some 3) ∷ (4, some 5) ∷ (6, some 7) ∷ (8, some 9) ∷ (10, some 11) ∷ (12, some 13) ∷ (14, some 15) ∷ []
+
+ninth-span :
+    (least (statusRows 16 0 0 none eight) ≡ 16) × (least (statusRows 15 0 0 none eight) ≡ 14) × (least (statusRows 16 1 0 none eight) ≡ 14)
+unfolding toldFrom eight
+ninth-span = (refl, refl, refl)
+
+-- with eight registrations no request is taken; of two rows that apply the lower is returned
+ninth-registration :
+    (least (requestRows 2 (some (0, 28)) none (replicate 8 (0, 1)) 1) ≡ 16)
+    × (least (requestRows 2 (some (0, 28)) none (replicate 7 (0, 1)) 1) ≡ 0)
+    × (least (requestRows 1 none none (replicate 8 (0, 1)) 1) ≡ 12)
+unfolding toldFrom
+ninth-registration = (refl, refl, refl)
+
+-- a record that ends before the window leaves the request, on its first and on its last day it registers, unless a later
+-- registration stands there already, and after it the request lapses
+ending : ℕ → Entry
+ending d = record { start = 1; end = d; energy = pos 10; type = 0 }
+
+asked : Option Pending
+asked = some (record { user = 2; first = 11; last = 39 })
+
+window :
+    (outcomeOf append (ending 10) 1 asked ≡ stays)
+    × (outcomeOf append (ending 11) 1 asked ≡ registers 2)
+    × (outcomeOf recut (ending 39) 1 asked ≡ registers 2)
+    × (outcomeOf replacement (ending 39) 40 asked ≡ stays)
+    × (outcomeOf recut (ending 40) 1 asked ≡ lapses)
+unfolding ending asked
+window = (refl, refl, refl, refl, refl)
+
+-- a lapsed request is gone
+lapsed : List Call
+lapsed =
+    Fresh (negsuc 0) (negsuc 0)
+    ∷ Open 5 0 1 1 (negsuc 0)
+    ∷ Request 5 2 14 []
+    ∷ Request 5 3 14 []
+    ∷ Energy 5 1 29 (pos 10)
+    ∷ Withdraw 5 2
+    ∷ []
+
+lapsed-told :
+    told small lapsed
+    ≡ these
+    ((0 ∷ []) ∷ (0 ∷ []) ∷ (0 ∷ 0 ∷ 28 ∷ []) ∷ (10 ∷ 0 ∷ 0 ∷ []) ∷ (0 ∷ 1 ∷ 0 ∷ 0 ∷ 1 ∷ []) ∷ (11 ∷ []) ∷ [])
+unfolding toldFrom lapsed
+lapsed-told = refl
+
+-- the last days: a window that would end on day 40,000, a registration from day 40,000, and no day left to append
+last-days : List Call
+last-days =
+    Fresh (negsuc 0) (negsuc 0)
+    ∷ Open 7 0 1 39980 (negsuc 0)
+    ∷ Request 8 2 39985 (pos 5 ∷ pos 5 ∷ [])
+    ∷ Request 8 2 39985 []
+    ∷ Request 7 2 39988 []
+    ∷ Request 7 2 39987 []
+    ∷ Energy 7 39980 39999 (pos 10)
+    ∷ Request 7 2 39985 []
+    ∷ Energy 7 39998 39999 (pos 1)
+    ∷ Account 1 39990 39999
+    ∷ []
+
+last-days-told :
+    told small last-days
+    ≡ these
+    ((0 ∷ [])
+    ∷ (0 ∷ [])
+    ∷ (3 ∷ 0 ∷ 0 ∷ [])
+    ∷ (4 ∷ 0 ∷ 0 ∷ [])
+    ∷ (13 ∷ 0 ∷ 0 ∷ [])
+    ∷ (0 ∷ 39974 ∷ 39999 ∷ [])
+    ∷ (0 ∷ 1 ∷ 0 ∷ 2 ∷ 0 ∷ [])
+    ∷ (12 ∷ 0 ∷ 0 ∷ [])
+    ∷ (7 ∷ 0 ∷ 0 ∷ 0 ∷ 0 ∷ [])
+    ∷ (0 ∷ 5 ∷ [])
+    ∷ [])
+unfolding toldFrom last-days
+last-days-told = refl
+
+-- TDM: day g; else g - 7 where all seven days are filled; else g - 1; else 0. Here day d of a daily point has 10 + d,
+-- for the days before n, and a non-daily point of User 2 takes the rest.
+metered : ℕ → State
+metered n =
+    let reading : ℕ → Entry = λ d. record { start = d; end = d; energy = pos (10 + d); type = 0 } in
+    let daily : Point = record {
+      facts = record { mirn = 1; kind = 1; install = 0; base = 1000 };
+      entry = λ d. cond (ltb d n) (some (reading d)) none;
+      off = λ d. false;
+      fro = λ d. 1;
+      pending = none;
+    } in
+    let other : Point = record {
+      facts = record { mirn = 2; kind = 0; install = 0; base = 7 };
+      entry = λ d. none;
+      off = λ d. leb 9 d;
+      fro = λ d. 2;
+      pending = none;
+    } in
+    record { edition = small; book = record { nondaily = negsuc 0; daily = negsuc 0; points = daily ∷ other ∷ [] } }
+
+-- all goes to User 2
+load : ℕ → List ℕ
+load nsl = 0 ∷ nsl ∷ 0 ∷ nsl ∷ replicate 14 0
+
+metered-told :
+    (toldFrom (metered 6) (Allocate 6 0 1 50 ∷ Allocate 7 0 1 50 ∷ []) ≡ these (load 35 ∷ load 50 ∷ []))
+    × (toldFrom (metered 7) (Allocate 6 0 1 50 ∷ Allocate 7 0 1 50 ∷ Allocate 7 0 1 5 ∷ Allocate 8 0 1 50 ∷ []) ≡ these (load 34 ∷ load 40 ∷ load 0 ∷ load 50 ∷ []))
+    × (toldFrom (metered 7) (Allocate 9 0 1 50 ∷ Allocate 8 8 8 50 ∷ []) ≡ these ((15 ∷ replicate 17 0) ∷ (2 ∷ replicate 17 0) ∷ []))
+unfolding toldFrom metered load
+metered-told = (refl, refl, refl)
