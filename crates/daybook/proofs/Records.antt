@@ -168,12 +168,12 @@ pub data LastIs (hi lo : ℕ) (l : List Entry) : Option ℕ → Type 0 where
       {e : ℕ} → lo ≤ e → e < hi → isSome (entryOn l e) ≡ true → ((d : ℕ) → e < d → entryOn l d ≡ none)
       → LastIs hi lo l (some e)
 
-last-end-nil : lastEnd [] ≡ none
+pub last-end-nil : lastEnd [] ≡ none
 unfolding lastEnd lastOf
 last-end-nil = refl
 
 -- with one more record in front
-last-end-cons : (x : Entry) (l : List Entry) → lastEnd (x ∷ l) ≡ some (maybe (x .end) (λ e. e) (lastEnd l))
+pub last-end-cons : (x : Entry) (l : List Entry) → lastEnd (x ∷ l) ≡ some (maybe (x .end) (λ e. e) (lastEnd l))
 unfolding lastEnd lastOf
 last-end-cons x l = go (lastOf l)
   where
