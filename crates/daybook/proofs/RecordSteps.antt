@@ -4,20 +4,20 @@ use mathlib.Core.Path.{_≡_, refl, sym, _∙_, ap, ap₂, subst, fun-ext}
 use mathlib.Core.Bool.{Bool, true, false, cond, _&&_}
 use mathlib.Core.Option.{Option, none, some, Option·none-ne-some, Option·some-injective}
 use mathlib.Core.List.{List, [], _∷_, _++_}
-use Prim.Native.Nat.{ℕ, zero, suc, _+_, _≤_, _<_}
+use Prim.Native.Nat.{ℕ, suc, _≤_, _<_}
 use native.Mathlib.Omega.{arith}
 use lib.Dec.{leb, ltb, eqb}
 use lib.ListN.{length, length-append}
 use lib.IntN.{pos, negsuc}
-use borrow.Author.Tests.{leb-false, ltb-true, ltb-false, eqb-true, eqb-false, lt-leb, ne-eqb}
-use Rattle.numbers.specs.Search.{maybe}
+use borrow.Author.Tests.{leb-false, ltb-true, ltb-false, eqb-true, lt-leb}
 use Rattle.calendar.specs.Dates.{within}
 use Rattle.daybook.specs.Book.{Entry, fromOn, covers, fill}
 use Rattle.daybook.specs.Notices.{Which, append, replacement, recut, whichOf, kept, fitsKind}
 use Rattle.daybook.proofs.Lists.{offOn, entryOn}
-use Rattle.daybook.proofs.Steps.{lastEnd, startingOn, skip, earlier, replaced, recsAfter}
+use Rattle.daybook.proofs.Steps.{startingOn, skip, earlier, replaced, recsAfter}
 use Rattle.daybook.proofs.Well.{Recs, norec, rec}
-use Rattle.daybook.proofs.Records.{Apart, noentry, apart, recs-apart, Place, inside, under, over, place, entry-none, starting-none, last-end-nil, last-end-cons}
+use Rattle.daybook.proofs.Apart.{Apart, noentry, apart, recs-apart, Place, inside, under, over, place, entry-none, starting-ge, starting-head, starting-tail}
+use Rattle.daybook.proofs.Records.{dayAfter, day-after-nil, day-after-cons, apart-tight}
 
 -- Which of the three x is, with the record that starts on its start.
 pub data Chosen (x : Entry) (l : List Entry) : Which → Type 0 where
@@ -35,47 +35,6 @@ chosen x l w e = subst (Chosen x l) e (go (startingOn l (x .start)) refl)
     go : (o : Option Entry) → startingOn l (x .start) ≡ o → Chosen x l (whichOf (x .end) o)
     go none h = appends
     go (some y) h = some-end y (eqb (y .end) (x .end)) h refl
-
--- the records before a record's start end before it
-starting-ge : {hi lo : ℕ} {l : List Entry} → Apart hi lo l → (d : ℕ) (y : Entry) → startingOn l d ≡ some y → lo ≤ d
-starting-ge {lo = lo} r d y e = go (ltb d lo) refl
-  where
-    go : (t : Bool) → ltb d lo ≡ t → lo ≤ d
-    go true h = absurd (Option·none-ne-some y (sym (starting-none r d (ltb-true d lo h)) ∙ e))
-    go false h = ltb-false d lo h
-
-starting-head : {hi lo : ℕ} {z : Entry} {l : List Entry} → Apart hi lo (z ∷ l) → (d : ℕ) (y : Entry) → startingOn (z ∷ l) d ≡ some y → z .start ≤ d
-starting-head {z = z} (apart a b c r) d y e = starting-ge (apart {lo = z .start} {x = z} (omega arith) b c r) d y e
-
--- a record that starts on a later day isn't the first
-starting-tail : (z y : Entry) (l : List Entry) (s : ℕ) → z .start < s → startingOn (z ∷ l) s ≡ some y → startingOn l s ≡ some y
-unfolding startingOn
-starting-tail z y l s h e = rw (ne-eqb (z .start) s (omega arith)) at e
-
--- The day after the last record; `from` if there is none.
-abbrev pub dayAfter : ℕ → List Entry → ℕ
-dayAfter from l = maybe from suc (lastEnd l)
-
-day-after-nil : (from : ℕ) → dayAfter from [] ≡ from
-day-after-nil from = ap (maybe from suc) last-end-nil
-
-day-after-cons : (from : ℕ) (x : Entry) (l : List Entry) → dayAfter from (x ∷ l) ≡ dayAfter (suc (x .end)) l
-day-after-cons from x l = ap (maybe from suc) (last-end-cons x l) ∙ go (lastEnd l)
-  where
-    go : (o : Option ℕ) → suc (maybe (x .end) (λ e. e) o) ≡ maybe (suc (x .end)) suc o
-    go none = refl
-    go (some e) = refl
-
-pub day-after-ge : {hi lo : ℕ} {l : List Entry} → Apart hi lo l → lo ≤ dayAfter lo l
-day-after-ge {lo = lo} noentry = omega (arith, day-after-nil lo)
-day-after-ge {lo = lo} (apart {x = x} {l = l} a b c r) = omega (arith, day-after-cons lo x l, day-after-ge r)
-
--- records end before any day that is after the last
-pub apart-tight : {hi lo : ℕ} {l : List Entry} → Apart hi lo l → (s : ℕ) → dayAfter lo l ≤ s → Apart s lo l
-apart-tight noentry s h = noentry
-apart-tight {lo = lo} (apart {x = x} {l = l} a b c r) s h =
-    let k : dayAfter (suc (x .end)) l ≤ s = omega (arith, day-after-cons lo x l) in
-    apart a b (omega (arith, day-after-ge r)) (apart-tight r s k)
 
 -- ---- the days after each of the three
 

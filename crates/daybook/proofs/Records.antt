@@ -1,139 +1,22 @@
--- Records as a list: they stand apart, and the book reads them, their starts and the last filled day off their days.
--- Assumes nothing.
-use mathlib.Core.Path.{_≡_, refl, sym, _∙_, ap, ap₂}
-use mathlib.Core.Bool.{Bool, true, false, cond, _&&_}
+-- Records as a list: the book reads them, their starts and the last filled day off their days. Assumes nothing.
+use mathlib.Core.Path.{_≡_, refl, sym, _∙_, ap}
+use mathlib.Core.Bool.{Bool, true, false, cond}
 use mathlib.Core.Option.{Option, none, some, Option·none-ne-some, Option·some-injective}
 use mathlib.Core.List.{List, [], _∷_}
 use Prim.Native.Nat.{ℕ, zero, suc, _≤_, _<_}
 use native.Mathlib.Omega.{arith}
-use lib.Dec.{leb, ltb, eqb}
-use borrow.Author.Tests.{leb-true, leb-false, ltb-true, eqb-true, eqb-false, le-leb, lt-leb, ne-eqb}
+use lib.Dec.{eqb}
+use borrow.Author.Tests.{eqb-true, eqb-false, ne-eqb}
 use Rattle.numbers.specs.Search.{maybe, isSome, lastBelow}
-use Rattle.daybook.specs.Book.{Entry, days, covers, fill, filled, lastOf, recordAt, records, lastFilled}
-use Rattle.daybook.specs.Notices.{whichOf, which, fitsKind}
+use Rattle.daybook.specs.Book.{Entry, days, fill, lastOf, recordAt, records, lastFilled}
+use Rattle.daybook.specs.Notices.{whichOf, which}
 use Rattle.daybook.proofs.Lists.{Lists, entryOn, pointOf}
-use Rattle.daybook.proofs.Steps.{lastEnd, startingOn, whichIn, skip}
+use Rattle.daybook.proofs.Steps.{lastEnd, startingOn, whichIn}
+use Rattle.daybook.proofs.Apart.{Apart, noentry, apart, apart-widen, recs-apart, Place, inside, under, over, place, fill-inside, fill-over, starting-none}
 use Rattle.daybook.proofs.Scan.{at, Asc, nil, cons, asc-widen, scan}
-use Rattle.daybook.proofs.Well.{Recs, norec, rec, Well}
-
--- ---- records stand apart
-
--- Records from day lo on and before day hi: none ends before it starts, and the next starts after its end.
-pub data Apart (hi : ℕ) : ℕ → List Entry → Type 0 where
-  noentry : {lo : ℕ} → Apart hi lo []
-  apart :
-      {lo : ℕ} {x : Entry} {l : List Entry} → lo ≤ x .start → x .start ≤ x .end → x .end < hi → Apart hi (suc (x .end)) l
-      → Apart hi lo (x ∷ l)
-
-pub apart-widen : {hi hi′ lo lo′ : ℕ} {l : List Entry} → hi ≤ hi′ → lo′ ≤ lo → Apart hi lo l → Apart hi′ lo′ l
-apart-widen h k noentry = noentry
-apart-widen {lo′ = lo′} h k (apart {x = x} a b c r) = apart {lo = lo′} {x = x} (omega arith) b (omega arith) (apart-widen h (omega arith) r)
-
--- skipping off days never goes back
-pub skip-ge : (l : List (ℕ × Option ℕ)) (d k : ℕ) → skip l d ≡ some k → d ≤ k
-unfolding skip
-skip-ge [] d k e = omega (arith, Option·some-injective d k e)
-skip-ge (x ∷ l) d k e = go (ltb d (x .0)) (x .1) e (skip-ge l d k)
-  where
-    past : (on : ℕ) (t : Bool) → ltb d on ≡ t → cond t (some on) (skip l d) ≡ some k → (skip l d ≡ some k → d ≤ k) → d ≤ k
-    past on true h e ih = omega (arith, ltb-true d on h, Option·some-injective on k e)
-    past on false h e ih = ih e
-
-    go : (t : Bool) (o : Option ℕ) → cond t (some d) (maybe none (λ on. cond (ltb d on) (some on) (skip l d)) o) ≡ some k → (skip l d ≡ some k → d ≤ k) → d ≤ k
-    go true o e ih = omega (arith, Option·some-injective d k e)
-    go false none e ih = absurd (Option·none-ne-some k e)
-    go false (some on) e ih = past on (ltb d on) refl e ih
-
--- a record of either kind ends no earlier than it starts
-pub fits-le : (kind start end : ℕ) → fitsKind kind start end ≡ true → start ≤ end
-fits-le kind start end h = go (eqb kind 0) h
-  where
-    go : (t : Bool) → cond t (ltb start end) (eqb start end) ≡ true → start ≤ end
-    go true e = omega (arith, ltb-true start end e)
-    go false e = omega (arith, eqb-true start end e)
-
-pub recs-apart : {kind from : ℕ} {offs : List (ℕ × Option ℕ)} {l : List Entry} → Recs kind offs from l → Apart 40000 from l
-recs-apart norec = noentry
-recs-apart {kind} {from} {offs} (rec {x = x} a b c e t f r) =
-    apart (skip-ge offs from (x .start) a) (fits-le kind (x .start) (x .end) b) (omega arith) (recs-apart r)
-
--- ---- a day and a record
-
--- A day is on a record's days, before them or after them.
-pub data Place (x : Entry) (d : ℕ) : Type 0 where
-  inside : x .start ≤ d → d ≤ x .end → covers x d ≡ true → Place x d
-  under : d < x .start → covers x d ≡ false → Place x d
-  over : x .end < d → covers x d ≡ false → Place x d
-
-pub place : (x : Entry) (d : ℕ) → Place x d
-place x d = go (leb (x .start) d) (leb d (x .end)) refl refl
-  where
-    go : (s t : Bool) → leb (x .start) d ≡ s → leb d (x .end) ≡ t → Place x d
-    go false t h k = under (leb-false _ _ h) (rw h refl)
-    go true true h k = inside (leb-true _ _ h) (leb-true _ _ k) (rw (h, k) refl)
-    go true false h k = over (leb-false _ _ k) (rw (h, k) refl)
-
-pub fill-inside : (x : Entry) (f : ℕ → Option Entry) (d : ℕ) → x .start ≤ d → d ≤ x .end → fill x f d ≡ some x
-unfolding fill
-fill-inside x f d h k = rw (le-leb (x .start) d h, le-leb d (x .end) k) refl
-
-pub fill-under : (x : Entry) (f : ℕ → Option Entry) (d : ℕ) → d < x .start → fill x f d ≡ f d
-unfolding fill
-fill-under x f d h = rw (lt-leb (x .start) d h) refl
-
-pub fill-over : (x : Entry) (f : ℕ → Option Entry) (d : ℕ) → x .end < d → fill x f d ≡ f d
-unfolding fill
-fill-over x f d h = go (place x d)
-  where
-    go : Place x d → fill x f d ≡ f d
-    go (inside a b e) = absurd (omega arith)
-    go (under a e) = rw e refl
-    go (over a e) = rw e refl
-
--- no entry before the records
-pub entry-none : {hi lo : ℕ} {l : List Entry} → Apart hi lo l → (d : ℕ) → d < lo → entryOn l d ≡ none
-unfolding entryOn
-entry-none noentry d h = refl
-entry-none (apart {x = x} {l = l} a b c r) d h = fill-under x (entryOn l) d (omega arith) ∙ entry-none r d (omega arith)
-
--- an entry that is found on some day stands on all its days
-pub record Stands (hi lo : ℕ) (l : List Entry) (x : Entry) (d : ℕ) : Type 0 where
-  pub low : lo ≤ x .start
-  pub high : x .end < hi
-  pub since : x .start ≤ d
-  pub until : d ≤ x .end
-  pub throughout : (k : ℕ) → x .start ≤ k → k ≤ x .end → entryOn l k ≡ some x
-
-pub stands : {hi lo : ℕ} {l : List Entry} → Apart hi lo l → (d : ℕ) (e : Entry) → entryOn l d ≡ some e → Stands hi lo l e d
-unfolding entryOn
-stands noentry d e h = absurd (Option·none-ne-some e h)
-stands {hi} {lo} (apart {x = x} {l = l} a b c r) d e h = go (place x d) (stands r d e)
-  where
-    later : Stands hi (suc (x .end)) l e d → Stands hi lo (x ∷ l) e d
-    later s =
-        let f : suc (x .end) ≤ e .start = s .low in
-        record {
-          low = omega arith;
-          high = s .high;
-          since = s .since;
-          until = s .until;
-          throughout = λ k p q. fill-over x (entryOn l) k (omega arith) ∙ s .throughout k p q;
-        }
-
-    this : x .start ≤ d → d ≤ x .end → x ≡ e → Stands hi lo (x ∷ l) e d
-    this p q i = rw (← i) (record { low = a; high = c; since = p; until = q; throughout = λ k u v. fill-inside x (entryOn l) k u v })
-
-    go : Place x d → (entryOn l d ≡ some e → Stands hi (suc (x .end)) l e d) → Stands hi lo (x ∷ l) e d
-    go (inside p q i) ih = this p q (Option·some-injective x e (sym (fill-inside x (entryOn l) d p q) ∙ h))
-    go (under p i) ih = later (ih (sym (fill-under x (entryOn l) d p) ∙ h))
-    go (over p i) ih = later (ih (sym (fill-over x (entryOn l) d p) ∙ h))
+use Rattle.daybook.proofs.Well.{Recs, Well}
 
 -- ---- the record that starts on a day
-
-pub starting-none : {hi lo : ℕ} {l : List Entry} → Apart hi lo l → (d : ℕ) → d < lo → startingOn l d ≡ none
-unfolding startingOn
-starting-none noentry d h = refl
-starting-none (apart {x = x} a b c r) d h = rw (ne-eqb (x .start) d (omega arith)) (starting-none r d (omega arith))
 
 record-starting : {hi lo : ℕ} {l : List Entry} → Apart hi lo l → (d : ℕ) → recordAt (entryOn l) d ≡ startingOn l d
 unfolding entryOn startingOn recordAt fill
@@ -168,12 +51,12 @@ pub data LastIs (hi lo : ℕ) (l : List Entry) : Option ℕ → Type 0 where
       {e : ℕ} → lo ≤ e → e < hi → isSome (entryOn l e) ≡ true → ((d : ℕ) → e < d → entryOn l d ≡ none)
       → LastIs hi lo l (some e)
 
-pub last-end-nil : lastEnd [] ≡ none
+last-end-nil : lastEnd [] ≡ none
 unfolding lastEnd lastOf
 last-end-nil = refl
 
 -- with one more record in front
-pub last-end-cons : (x : Entry) (l : List Entry) → lastEnd (x ∷ l) ≡ some (maybe (x .end) (λ e. e) (lastEnd l))
+last-end-cons : (x : Entry) (l : List Entry) → lastEnd (x ∷ l) ≡ some (maybe (x .end) (λ e. e) (lastEnd l))
 unfolding lastEnd lastOf
 last-end-cons x l = go (lastOf l)
   where
@@ -191,6 +74,42 @@ last-end-is {hi} {lo} (apart {x = x} {l = l} a b c r) = rw (last-end-cons x l) (
         lastly {e = x .end} (omega arith) c (ap isSome (fill-inside x (entryOn l) (x .end) b (omega arith))) (λ d h. fill-over x (entryOn l) d h ∙ f d)
     go (some e) (lastly u v t f) =
         lastly {e = e} (omega arith) v (ap isSome (fill-over x (entryOn l) e u) ∙ t) (λ d h. fill-over x (entryOn l) d (omega arith) ∙ f d h)
+
+pub last-end-bounds : {hi lo : ℕ} {l : List Entry} → Apart hi lo l → (d : ℕ) → lastEnd l ≡ some d → (lo ≤ d) × (d < hi)
+last-end-bounds {hi} {lo} {l} r d h = go (lastEnd l) (last-end-is r) h
+  where
+    go : (o : Option ℕ) → LastIs hi lo l o → o ≡ some d → (lo ≤ d) × (d < hi)
+    go none (never f) i = absurd (Option·none-ne-some d i)
+    go (some e) (lastly u v t f) i = let k : e ≡ d = Option·some-injective e d i in (omega arith, omega arith)
+
+-- The day after the last record; `from` if there is none.
+abbrev pub dayAfter : ℕ → List Entry → ℕ
+dayAfter from l = maybe from suc (lastEnd l)
+
+pub day-after-nil : (from : ℕ) → dayAfter from [] ≡ from
+day-after-nil from = ap (maybe from suc) last-end-nil
+
+pub day-after-cons : (from : ℕ) (x : Entry) (l : List Entry) → dayAfter from (x ∷ l) ≡ dayAfter (suc (x .end)) l
+day-after-cons from x l = ap (maybe from suc) (last-end-cons x l) ∙ go (lastEnd l)
+  where
+    go : (o : Option ℕ) → suc (maybe (x .end) (λ e. e) o) ≡ maybe (suc (x .end)) suc o
+    go none = refl
+    go (some e) = refl
+
+pub day-after-ge : {hi lo : ℕ} {l : List Entry} → Apart hi lo l → lo ≤ dayAfter lo l
+day-after-ge {lo = lo} noentry = omega (arith, day-after-nil lo)
+day-after-ge {lo = lo} (apart {x = x} {l = l} a b c r) = omega (arith, day-after-cons lo x l, day-after-ge r)
+
+pub day-after-le : {hi lo : ℕ} {l : List Entry} → Apart hi lo l → lo ≤ hi → dayAfter lo l ≤ hi
+day-after-le {lo = lo} noentry h = omega (arith, day-after-nil lo)
+day-after-le {lo = lo} (apart {x = x} {l = l} a b c r) h = omega (arith, day-after-cons lo x l, day-after-le r c)
+
+-- records end before any day that is after the last
+pub apart-tight : {hi lo : ℕ} {l : List Entry} → Apart hi lo l → (s : ℕ) → dayAfter lo l ≤ s → Apart s lo l
+apart-tight noentry s h = noentry
+apart-tight {lo = lo} (apart {x = x} {l = l} a b c r) s h =
+    let k : dayAfter (suc (x .end)) l ≤ s = omega (arith, day-after-cons lo x l) in
+    apart a b (omega (arith, day-after-ge r)) (apart-tight r s k)
 
 last-none : (p : ℕ → Bool) (n : ℕ) → ((d : ℕ) → p d ≡ false) → lastBelow p n ≡ none
 unfolding lastBelow
