@@ -1,5 +1,5 @@
 -- Records that stand apart: each on its own days, one after the other. Assumes nothing.
-use mathlib.Core.Path.{_≡_, refl, sym, _∙_}
+use mathlib.Core.Path.{_≡_, refl, sym, _∙_, subst}
 use mathlib.Core.Bool.{Bool, true, false, cond}
 use mathlib.Core.Option.{Option, none, some, Option·none-ne-some, Option·some-injective}
 use mathlib.Core.List.{List, [], _∷_}
@@ -50,6 +50,7 @@ fits-le kind start end h = go (eqb kind 0) h
     go true e = omega (arith, ltb-true start end e)
     go false e = omega (arith, eqb-true start end e)
 
+-- well-formed records stand apart, and end by day 39,999
 pub recs-apart : {kind from : ℕ} {offs : List (ℕ × Option ℕ)} {l : List Entry} → Recs kind offs from l → Apart 40000 from l
 recs-apart norec = noentry
 recs-apart {kind} {from} {offs} (rec {x = x} a b c e t f r) =
@@ -71,6 +72,7 @@ place x d = go (leb (x .start) d) (leb d (x .end)) refl refl
     go true true h k = inside (leb-true _ _ h) (leb-true _ _ k) (rw (h, k) refl)
     go true false h k = over (leb-false _ _ k) (rw (h, k) refl)
 
+-- an entry stands on its own days, and leaves the others as they were
 pub fill-inside : (x : Entry) (f : ℕ → Option Entry) (d : ℕ) → x .start ≤ d → d ≤ x .end → fill x f d ≡ some x
 unfolding fill
 fill-inside x f d h k = rw (le-leb (x .start) d h, le-leb d (x .end) k) refl
@@ -94,7 +96,7 @@ unfolding entryOn
 entry-none noentry d h = refl
 entry-none (apart {x = x} {l = l} a b c r) d h = fill-under x (entryOn l) d (omega arith) ∙ entry-none r d (omega arith)
 
--- an entry that is found on some day stands on all its days
+-- An entry x of the list stands on day d, and on all its days.
 pub record Stands (hi lo : ℕ) (l : List Entry) (x : Entry) (d : ℕ) : Type 0 where
   pub low : lo ≤ x .start
   pub high : x .end < hi
@@ -102,6 +104,7 @@ pub record Stands (hi lo : ℕ) (l : List Entry) (x : Entry) (d : ℕ) : Type 0 
   pub until : d ≤ x .end
   pub throughout : (k : ℕ) → x .start ≤ k → k ≤ x .end → entryOn l k ≡ some x
 
+-- an entry that is found on some day does
 pub stands : {hi lo : ℕ} {l : List Entry} → Apart hi lo l → (d : ℕ) (e : Entry) → entryOn l d ≡ some e → Stands hi lo l e d
 unfolding entryOn
 stands noentry d e h = absurd (Option·none-ne-some e h)
@@ -133,18 +136,26 @@ unfolding startingOn
 starting-none noentry d h = refl
 starting-none (apart {x = x} a b c r) d h = rw (ne-eqb (x .start) d (omega arith)) (starting-none r d (omega arith))
 
--- the records before a record's start end before it
-pub starting-ge : {hi lo : ℕ} {l : List Entry} → Apart hi lo l → (d : ℕ) (y : Entry) → startingOn l d ≡ some y → lo ≤ d
+starting-ge : {hi lo : ℕ} {l : List Entry} → Apart hi lo l → (d : ℕ) (y : Entry) → startingOn l d ≡ some y → lo ≤ d
 starting-ge {lo = lo} r d y e = go (ltb d lo) refl
   where
     go : (t : Bool) → ltb d lo ≡ t → lo ≤ d
     go true h = absurd (Option·none-ne-some y (sym (starting-none r d (ltb-true d lo h)) ∙ e))
     go false h = ltb-false d lo h
 
-pub starting-head : {hi lo : ℕ} {z : Entry} {l : List Entry} → Apart hi lo (z ∷ l) → (d : ℕ) (y : Entry) → startingOn (z ∷ l) d ≡ some y → z .start ≤ d
-starting-head {z = z} (apart a b c r) d y e = starting-ge (apart {lo = z .start} {x = z} (omega arith) b c r) d y e
+-- y is in the list and starts on day s; the records before it end before s.
+pub data Found (s : ℕ) (y : Entry) : List Entry → Type 0 where
+  first : {l : List Entry} → y .start ≡ s → Found s y (y ∷ l)
+  later : {z : Entry} {l : List Entry} → z .start < s → z .end < s → Found s y l → Found s y (z ∷ l)
 
--- a record that starts on a later day isn't the first
-pub starting-tail : (z y : Entry) (l : List Entry) (s : ℕ) → z .start < s → startingOn (z ∷ l) s ≡ some y → startingOn l s ≡ some y
+-- the record that starts on a day is found so
+pub found : {hi lo : ℕ} {l : List Entry} → Apart hi lo l → (s : ℕ) (y : Entry) → startingOn l s ≡ some y → Found s y l
 unfolding startingOn
-starting-tail z y l s h e = rw (ne-eqb (z .start) s (omega arith)) at e
+found noentry s y e = absurd (Option·none-ne-some y e)
+found (apart {x = z} {l = l} a b c r) s y e = go (eqb (z .start) s) refl e (found r s y)
+  where
+    go : (t : Bool) → eqb (z .start) s ≡ t → cond t (some z) (startingOn l s) ≡ some y → (startingOn l s ≡ some y → Found s y l) → Found s y (z ∷ l)
+    go true h e ih = subst (λ v. Found s v (z ∷ l)) (Option·some-injective z y e) (first (eqb-true (z .start) s h))
+    go false h e ih =
+        let k : z .end < s = starting-ge r s y e in
+        later {z = z} (omega arith) k (ih e)

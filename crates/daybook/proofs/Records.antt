@@ -14,23 +14,20 @@ use Rattle.daybook.proofs.Lists.{Lists, entryOn, pointOf}
 use Rattle.daybook.proofs.Steps.{lastEnd, startingOn, whichIn}
 use Rattle.daybook.proofs.Apart.{Apart, noentry, apart, apart-widen, recs-apart, Place, inside, under, over, place, fill-inside, fill-over, starting-none}
 use Rattle.daybook.proofs.Scan.{at, Asc, nil, cons, asc-widen, scan}
-use Rattle.daybook.proofs.Well.{Recs, Well}
+use Rattle.daybook.proofs.Well.{Well}
 
 -- ---- the record that starts on a day
 
-record-starting : {hi lo : ℕ} {l : List Entry} → Apart hi lo l → (d : ℕ) → recordAt (entryOn l) d ≡ startingOn l d
+-- the standing entry that starts on a day is the record that does
+pub record-at : {hi lo : ℕ} {l : List Entry} → Apart hi lo l → (d : ℕ) → recordAt (entryOn l) d ≡ startingOn l d
 unfolding entryOn startingOn recordAt fill
-record-starting noentry d = refl
-record-starting (apart {x = x} {l = l} a b c r) d = go (place x d) (record-starting r d)
+record-at noentry d = refl
+record-at (apart {x = x} {l = l} a b c r) d = go (place x d) (record-at r d)
   where
     go : Place x d → recordAt (entryOn l) d ≡ startingOn l d → recordAt (fill x (entryOn l)) d ≡ startingOn (x ∷ l) d
     go (inside h k e) ih = rw e (ap (cond (eqb (x .start) d) (some x)) (sym (starting-none r d (omega arith))))
     go (under h e) ih = rw (e, ne-eqb (x .start) d (omega arith)) ih
     go (over h e) ih = rw (e, ne-eqb (x .start) d (omega arith)) ih
-
--- the standing entry that starts on a day is the record that does
-pub record-at : {kind from : ℕ} {offs : List (ℕ × Option ℕ)} {l : List Entry} → Recs kind offs from l → (d : ℕ) → recordAt (entryOn l) d ≡ startingOn l d
-record-at r d = record-starting (recs-apart r) d
 
 apart-asc : {hi lo : ℕ} {l : List Entry} → Apart hi lo l → Asc (λ x. x .start) hi lo l
 apart-asc noentry = nil
@@ -44,7 +41,7 @@ starting-at (x ∷ l) d = ap (cond (eqb (x .start) d) (some x)) (starting-at l d
 
 -- ---- the last filled day
 
--- Nothing is filled, or day e is and none after it.
+-- Nothing is filled, or day e is, from lo on and before hi, and none after it.
 pub data LastIs (hi lo : ℕ) (l : List Entry) : Option ℕ → Type 0 where
   never : ((d : ℕ) → entryOn l d ≡ none) → LastIs hi lo l none
   lastly :
@@ -64,6 +61,7 @@ last-end-cons x l = go (lastOf l)
     go none = refl
     go (some y) = refl
 
+-- the last end is the last filled day
 pub last-end-is : {hi lo : ℕ} {l : List Entry} → Apart hi lo l → LastIs hi lo l (lastEnd l)
 unfolding entryOn
 last-end-is noentry = rw last-end-nil (never (λ d. refl))
@@ -82,6 +80,23 @@ last-end-bounds {hi} {lo} {l} r d h = go (lastEnd l) (last-end-is r) h
     go none (never f) i = absurd (Option·none-ne-some d i)
     go (some e) (lastly u v t f) i = let k : e ≡ d = Option·some-injective e d i in (omega arith, omega arith)
 
+-- the last index below n that passes a test, by what is found
+last-none : (p : ℕ → Bool) (n : ℕ) → ((d : ℕ) → p d ≡ false) → lastBelow p n ≡ none
+unfolding lastBelow
+last-none p zero f = refl
+last-none p (suc n) f = rw (f n, lastBelow) (last-none p n f)
+
+last-is : (p : ℕ → Bool) (n d : ℕ) → d < n → p d ≡ true → ((e : ℕ) → d < e → p e ≡ false) → lastBelow p n ≡ some d
+unfolding lastBelow
+last-is p zero d h e f = absurd (omega arith)
+last-is p (suc n) d h e f = go (eqb n d) refl (last-is p n d)
+  where
+    go : (b : Bool) → eqb n d ≡ b → (d < n → p d ≡ true → ((e : ℕ) → d < e → p e ≡ false) → lastBelow p n ≡ some d) → lastBelow p (suc n) ≡ some d
+    go true k ih = let q : n ≡ d = eqb-true n d k in rw (ap p q ∙ e, lastBelow) (ap some q)
+    go false k ih = let q : ¬ (n ≡ d) = eqb-false n d k in rw (f n (omega arith), lastBelow) (ih (omega arith) e f)
+
+-- ---- the day after the records
+
 -- The day after the last record; `from` if there is none.
 abbrev pub dayAfter : ℕ → List Entry → ℕ
 dayAfter from l = maybe from suc (lastEnd l)
@@ -96,6 +111,7 @@ day-after-cons from x l = ap (maybe from suc) (last-end-cons x l) ∙ go (lastEn
     go none = refl
     go (some e) = refl
 
+-- no earlier than where they begin, no later than where they end
 pub day-after-ge : {hi lo : ℕ} {l : List Entry} → Apart hi lo l → lo ≤ dayAfter lo l
 day-after-ge {lo = lo} noentry = omega (arith, day-after-nil lo)
 day-after-ge {lo = lo} (apart {x = x} {l = l} a b c r) = omega (arith, day-after-cons lo x l, day-after-ge r)
@@ -111,20 +127,6 @@ apart-tight {lo = lo} (apart {x = x} {l = l} a b c r) s h =
     let k : dayAfter (suc (x .end)) l ≤ s = omega (arith, day-after-cons lo x l) in
     apart a b (omega (arith, day-after-ge r)) (apart-tight r s k)
 
-last-none : (p : ℕ → Bool) (n : ℕ) → ((d : ℕ) → p d ≡ false) → lastBelow p n ≡ none
-unfolding lastBelow
-last-none p zero f = refl
-last-none p (suc n) f = rw (f n, lastBelow) (last-none p n f)
-
-last-is : (p : ℕ → Bool) (n d : ℕ) → d < n → p d ≡ true → ((e : ℕ) → d < e → p e ≡ false) → lastBelow p n ≡ some d
-unfolding lastBelow
-last-is p zero d h e f = absurd (omega arith)
-last-is p (suc n) d h e f = go (eqb n d) refl (last-is p n d)
-  where
-    go : (b : Bool) → eqb n d ≡ b → (d < n → p d ≡ true → ((e : ℕ) → d < e → p e ≡ false) → lastBelow p n ≡ some d) → lastBelow p (suc n) ≡ some d
-    go true k ih = let q : n ≡ d = eqb-true n d k in rw (ap p q ∙ e, lastBelow) (ap some q)
-    go false k ih = let q : ¬ (n ≡ d) = eqb-false n d k in rw (f n (omega arith), lastBelow) (ih (omega arith) e f)
-
 -- ---- what the book reads off a point's records
 
 module _ {room : ℕ} {q : Lists} (ok : Well room q) where
@@ -134,11 +136,11 @@ module _ {room : ℕ} {q : Lists} (ok : Well room q) where
   pub records-is : records (pointOf q) ≡ q .recs
   unfolding records pointOf
   records-is = scan (λ x. x .start) (recordAt (entryOn (q .recs))) days 0 days (q .recs) refl (apart-asc all-apart)
-      (λ d h k. record-at (ok .recsOk) d ∙ starting-at (q .recs) d)
+      (λ d h k. record-at all-apart d ∙ starting-at (q .recs) d)
 
   pub which-is : (x : Entry) → which (pointOf q) x ≡ whichIn q x
   unfolding which whichIn pointOf
-  which-is x = ap (whichOf (x .end)) (record-at (ok .recsOk) (x .start))
+  which-is x = ap (whichOf (x .end)) (record-at all-apart (x .start))
 
   pub last-filled-is : lastFilled (pointOf q) ≡ lastEnd (q .recs)
   unfolding lastFilled pointOf
