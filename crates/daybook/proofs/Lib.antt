@@ -4,3 +4,6 @@ pub mod Lists
 pub mod Steps
 pub mod Well
 pub mod Scan
+pub mod Apart
+pub mod Records
+pub mod RecordSteps
