@@ -6,3 +6,4 @@ pub mod Well
 pub mod Scan
 pub mod Rows
 pub mod Points
+pub mod Registrations
