@@ -7,3 +7,4 @@ pub mod Scan
 pub mod Rows
 pub mod Points
 pub mod Registrations
+pub mod Covering

@@ -1,10 +1,10 @@
 -- A call on the point of a MIRN: on the book's days it is the call on that point's lists, and it keeps the register
 -- well-formed if its effect keeps the point so.
-use mathlib.Core.Path.{_≡_, refl, sym, _∙_, ap, ap₂}
+use mathlib.Core.Path.{_≡_, refl, sym, _∙_, ap}
 use mathlib.Core.Bool.{Bool, true, false, cond}
 use mathlib.Core.Option.{Option, none, some}
 use mathlib.Core.List.{List, [], _∷_, _++_, map}
-use Prim.Native.Nat.{ℕ, suc, _≤_}
+use Prim.Native.Nat.{ℕ, suc}
 use native.Mathlib.Omega.{arith}
 use lib.Dec.{eqb}
 use lib.ListN.{length}
@@ -43,6 +43,7 @@ put-is m q (x ∷ xs) = go (eqb m (x .facts .mirn)) (put-is m q xs)
     go true ih = refl
     go false ih = ap (λ ps. pointOf x ∷ ps) ih
 
+-- The same of the whole book.
 pub with-point-is : (m : ℕ) (q : Lists) (R : Register) → withPoint m (pointOf q) (bookOf R) ≡ bookOf (withLists m q R)
 unfolding withPoint withLists bookOf
 with-point-is m q R = ap {B = Book} (λ ps. record { nondaily = R .nondaily; daily = R .daily; points = ps }) (put-is m q (R .points))
@@ -67,37 +68,38 @@ module _ {room : ℕ} (k : ℕ) (m : ℤ) (early : List Row) (rowsP : Point → 
     (effectP : Point → Numbers × Point) (effectL : Lists → Numbers × Lists)
     (rows-is : (q : Lists) → Well room q → rowsP (pointOf q) ≡ rowsL q)
     (effect-is : (q : Lists) → Well room q → least (early ++ rowsL q) ≡ 0 → effectP (pointOf q) ≡ (effectL q .0, pointOf (effectL q .1)))
-    where
-  -- on well-formed points, equal rows and, where none applies, equal effects make equal calls
-  pub on-lists : (R : Register) → Points room (R .points)
-      → onPoint k m early rowsP effectP (bookOf R) ≡ (onLists k m early rowsL effectL R .0, bookOf (onLists k m early rowsL effectL R .1))
-  unfolding onPoint onLists
-  on-lists R ok = ap step points-is ∙ go (findLists (natOf m) (R .points)) refl
-    where
-      step : Option Point → Numbers × Book
-      step o =
-          decide (least (early ++ maybe ((4, true) ∷ []) rowsP o)) k (bookOf R)
-          (maybe ([], bookOf R) (λ p. (effectP p .0, withPoint (natOf m) (effectP p .1) (bookOf R))) o)
+  where
+    -- on well-formed points, equal rows and, where none applies, equal effects make equal calls
+    pub on-lists : (R : Register) → Points room (R .points)
+        → onPoint k m early rowsP effectP (bookOf R) ≡ (onLists k m early rowsL effectL R .0, bookOf (onLists k m early rowsL effectL R .1))
+    unfolding onPoint onLists
+    on-lists R ok = ap step points-is ∙ go (findLists (natOf m) (R .points)) refl
+      where
+        step : Option Point → Numbers × Book
+        step o =
+            decide (least (early ++ maybe ((4, true) ∷ []) rowsP o)) k (bookOf R)
+            (maybe ([], bookOf R) (λ p. (effectP p .0, withPoint (natOf m) (effectP p .1) (bookOf R))) o)
 
-      stepLists : Option Lists → Numbers × Register
-      stepLists o =
-          decide (least (early ++ maybe ((4, true) ∷ []) rowsL o)) k R
-          (maybe ([], R) (λ q. (effectL q .0, withLists (natOf m) (effectL q .1) R)) o)
+        stepLists : Option Lists → Numbers × Register
+        stepLists o =
+            decide (least (early ++ maybe ((4, true) ∷ []) rowsL o)) k R
+            (maybe ([], R) (λ q. (effectL q .0, withLists (natOf m) (effectL q .1) R)) o)
 
-      points-is : find (natOf m) (bookOf R .points) ≡ maybe none (λ q. some (pointOf q)) (findLists (natOf m) (R .points))
-      points-is = unfold bookOf in find-is (natOf m) (R .points)
+        points-is : find (natOf m) (bookOf R .points) ≡ maybe none (λ q. some (pointOf q)) (findLists (natOf m) (R .points))
+        points-is = unfold bookOf in find-is (natOf m) (R .points)
 
-      go : (o : Option Lists) → findLists (natOf m) (R .points) ≡ o → step (maybe none (λ q. some (pointOf q)) o) ≡ (stepLists o .0, bookOf (stepLists o .1))
-      go none e = decide-map bookOf _ k R ([], R)
-      go (some q) e =
-          let w : Well room q = find-well (natOf m) ok e .0 in
-          ap (λ rows. decide (least (early ++ rows)) k (bookOf R) (effectP (pointOf q) .0, withPoint (natOf m) (effectP (pointOf q) .1) (bookOf R))) (rows-is q w)
-          ∙ decide-map-where bookOf _ k R _ _ (λ z.
+        go : (o : Option Lists) → findLists (natOf m) (R .points) ≡ o → step (maybe none (λ q. some (pointOf q)) o) ≡ (stepLists o .0, bookOf (stepLists o .1))
+        go none e = decide-map bookOf _ k R ([], R)
+        go (some q) e =
+            let w : Well room q = find-well (natOf m) ok e .0 in
+            ap (λ rows. decide (least (early ++ rows)) k (bookOf R) (effectP (pointOf q) .0, withPoint (natOf m) (effectP (pointOf q) .1) (bookOf R))) (rows-is q w)
+            ∙ decide-map-where bookOf _ k R _ _ (λ z.
             ap {B = Numbers × Book} (λ v. (v .0, withPoint (natOf m) (v .1) (bookOf R))) (effect-is q w z)
             ∙ ap {B = Numbers × Book} (λ B. (effectL q .0, B)) (with-point-is (natOf m) (effectL q .1) R))
 
 -- ---- a call keeps the register well-formed
 
+-- There are as many points as before.
 pub put-length : (m : ℕ) (q : Lists) (qs : List Lists) → length (putLists m q qs) ≡ length qs
 unfolding putLists
 put-length m q [] = refl
@@ -133,7 +135,8 @@ module _ (m : ℕ) (q : Lists) (same : m ≡ q .facts .mirn) where
       go false k ih = point v (put-other (x .facts .mirn) xs d) ih
 
 -- One point for another of its MIRN.
-pub with-lists-keeps : {ed : Edition} {R : Register} → WellFormed ed R → (m : ℕ) (q : Lists) → m ≡ q .facts .mirn → Well (ed .records) q → WellFormed ed (withLists m q R)
+pub with-lists-keeps : {ed : Edition} {R : Register} → WellFormed ed R → (m : ℕ) (q : Lists) → m ≡ q .facts .mirn → Well (ed .records) q
+    → WellFormed ed (withLists m q R)
 unfolding withLists
 with-lists-keeps {R = R} ok m q same w =
     record {
@@ -145,18 +148,19 @@ with-lists-keeps {R = R} ok m q same w =
 
 module _ {ed : Edition} (k : ℕ) (m : ℤ) (early : List Row) (rowsL : Lists → List Row) (effectL : Lists → Numbers × Lists)
     (effect-keeps : (q : Lists) → Well (ed .records) q → least (early ++ rowsL q) ≡ 0
-        → Well (ed .records) (effectL q .1) × (effectL q .1 .facts .mirn ≡ q .facts .mirn))
-    where
-  -- keeping each point well-formed, and its MIRN, keeps the register well-formed
-  pub on-lists-keeps : {R : Register} → WellFormed ed R → WellFormed ed (onLists k m early rowsL effectL R .1)
-  unfolding onLists
-  on-lists-keeps {R} ok = go (findLists (natOf m) (R .points)) refl
-    where
-      go : (o : Option Lists) → findLists (natOf m) (R .points) ≡ o
-          → WellFormed ed (decide (least (early ++ maybe ((4, true) ∷ []) rowsL o)) k R (maybe ([], R) (λ q. (effectL q .0, withLists (natOf m) (effectL q .1) R)) o) .1)
-      go none e = decide-keeps k R _ (WellFormed ed) _ ok (λ z. ok)
-      go (some q) e =
-          decide-keeps k R _ (WellFormed ed) _ ok (λ z.
+    → Well (ed .records) (effectL q .1) × (effectL q .1 .facts .mirn ≡ q .facts .mirn))
+  where
+    -- keeping each point well-formed, and its MIRN, keeps the register well-formed
+    pub on-lists-keeps : {R : Register} → WellFormed ed R → WellFormed ed (onLists k m early rowsL effectL R .1)
+    unfolding onLists
+    on-lists-keeps {R} ok = go (findLists (natOf m) (R .points)) refl
+      where
+        go : (o : Option Lists) → findLists (natOf m) (R .points) ≡ o
+            → WellFormed ed (decide (least (early ++ maybe ((4, true) ∷ []) rowsL o)) k R
+            (maybe ([], R) (λ q. (effectL q .0, withLists (natOf m) (effectL q .1) R)) o) .1)
+        go none e = decide-keeps k R _ (WellFormed ed) _ ok (λ z. ok)
+        go (some q) e =
+            decide-keeps k R _ (WellFormed ed) _ ok (λ z.
             let found : Well (ed .records) q × (natOf m ≡ q .facts .mirn) = find-well (natOf m) (ok .pointsOk) e in
             let after : Well (ed .records) (effectL q .1) × (effectL q .1 .facts .mirn ≡ q .facts .mirn) = effect-keeps q (found .0) z in
             with-lists-keeps ok (natOf m) (effectL q .1) (found .1 ∙ sym (after .1)) (after .0))

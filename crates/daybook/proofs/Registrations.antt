@@ -1,14 +1,14 @@
--- Registrations as a list and as the Users of the days: the days give back the list, a User from a day on is one step on
--- the list, and one registration covers each day from the first on.
+-- Registrations as a list and as the Users of the days: the days give back the list, and a User from a day on is one step
+-- on the list.
 use mathlib.Core.Path.{_≡_, refl, sym, _∙_, ap, ap₂, fun-ext}
 use mathlib.Core.Bool.{Bool, true, false, not, _&&_, cond, and-false}
 use mathlib.Core.Option.{Option, none, some}
 use mathlib.Core.List.{List, [], _∷_, _++_}
-use Prim.Native.Nat.{ℕ, zero, suc, _+_, _≤_, _<_}
+use Prim.Native.Nat.{ℕ, zero, suc, _≤_, _<_}
 use native.Mathlib.Omega.{arith}
 use lib.Dec.{leb, ltb, eqb}
 use lib.ListN.{length, length-append}
-use borrow.Author.Tests.{leb-true, leb-false, ltb-true, ltb-false, eqb-true, eqb-false, le-leb, lt-leb, lt-ltb, le-ltb, eq-eqb, ne-eqb}
+use borrow.Author.Tests.{leb-true, leb-false, ltb-true, ltb-false, eqb-true, eqb-false, le-leb, lt-leb, lt-ltb, eq-eqb, ne-eqb}
 use Rattle.numbers.specs.Search.{maybe}
 use Rattle.daybook.specs.Book.{days, fromOn, lastOf, gather, dayBefore, begins, registrationAt, registrations, latest}
 use Rattle.daybook.proofs.Lists.{Lists, userOn, pointOf}
@@ -31,7 +31,8 @@ user-before (reg {x = x} a b c e n r) u d h = rw (lt-leb (x .0) d (omega arith))
 pub user-none : {lo : ℕ} {l : List (ℕ × ℕ)} → Regs 0 lo l → (d : ℕ) → d < lo → userOn 0 l d ≡ 0
 user-none r d h = user-before r 0 d h
 
-user-since : (u : ℕ) (x : ℕ × ℕ) (l : List (ℕ × ℕ)) (d : ℕ) → x .0 ≤ d → userOn u (x ∷ l) d ≡ userOn (x .1) l d
+-- From a first registration's start on, only it and those behind it count.
+pub user-since : (u : ℕ) (x : ℕ × ℕ) (l : List (ℕ × ℕ)) (d : ℕ) → x .0 ≤ d → userOn u (x ∷ l) d ≡ userOn (x .1) l d
 unfolding userOn
 user-since u x l d h = rw (le-leb (x .0) d h)
 
@@ -40,7 +41,8 @@ unfolding userOn
 user-within noreg u d h k = (h, k)
 user-within (reg {x = x} {l = m} a b c e n r) u d h k = go (leb (x .0) d) (λ w. user-within r w d)
   where
-    go : (t : Bool) → ((w : ℕ) → 1 ≤ w → w ≤ 16 → (1 ≤ userOn w m d) × (userOn w m d ≤ 16)) → (1 ≤ userOn (cond t (x .1) u) m d) × (userOn (cond t (x .1) u) m d ≤ 16)
+    go : (t : Bool) → ((w : ℕ) → 1 ≤ w → w ≤ 16 → (1 ≤ userOn w m d) × (userOn w m d ≤ 16))
+        → (1 ≤ userOn (cond t (x .1) u) m d) × (userOn (cond t (x .1) u) m d ≤ 16)
     go true f = f (x .1) c e
     go false f = f u h k
 
@@ -59,12 +61,13 @@ regs-asc (reg {x = x} a b c e n r) = cons {x = x} a (omega arith) (regs-asc r)
 abbrev beginsAt : ℕ → (ℕ → ℕ) → ℕ → Option (ℕ × ℕ)
 beginsAt u f d = cond (not (eqb (f d) 0) && not (eqb (dayBefore u f d) (f d))) (some (d, f d)) none
 
-begins-is : (u : ℕ) (f : ℕ → ℕ) (d v w : ℕ) → dayBefore u f d ≡ v → f d ≡ w → beginsAt u f d ≡ cond (not (eqb w 0) && not (eqb v w)) (some (d, w)) none
+begins-is : (u : ℕ) (f : ℕ → ℕ) (d v w : ℕ) → dayBefore u f d ≡ v → f d ≡ w
+    → beginsAt u f d ≡ cond (not (eqb w 0) && not (eqb v w)) (some (d, w)) none
 begins-is u f d v w e h = ap₂ (λ v w. cond (not (eqb w 0) && not (eqb v w)) (some (d, w)) none) e h
 
 -- No registration begins where the User stays.
-stays : (u : ℕ) (f : ℕ → ℕ) (d v : ℕ) → dayBefore u f d ≡ v → f d ≡ v → beginsAt u f d ≡ none
-stays u f d v e h = begins-is u f d v v e h ∙ rw (eq-eqb v v refl, and-false (not (eqb v 0)))
+nothing-begins : (u : ℕ) (f : ℕ → ℕ) (d v : ℕ) → dayBefore u f d ≡ v → f d ≡ v → beginsAt u f d ≡ none
+nothing-begins u f d v e h = begins-is u f d v v e h ∙ rw (eq-eqb v v refl, and-false (not (eqb v 0)))
 
 day-before : {v lo : ℕ} {l : List (ℕ × ℕ)} → Regs v lo l → (u d : ℕ) → d ≤ lo → dayBefore u (userOn u l) d ≡ u
 day-before r u zero h = refl
@@ -74,7 +77,7 @@ begins-at : {u lo : ℕ} {l : List (ℕ × ℕ)} → Regs u lo l → (d : ℕ) �
 unfolding at
 begins-at {u} noreg d =
     let r : Regs u (suc d) [] = noreg in
-    stays u (userOn u []) d u (day-before r u d (omega arith)) (user-before r u d (omega arith))
+    nothing-begins u (userOn u []) d u (day-before r u d (omega arith)) (user-before r u d (omega arith))
 begins-at (reg {u = u} {x = x} {l = l} a b c e n r) d = go d (eqb (x .0) d) (leb (x .0) d) refl refl (begins-at r)
   where
     whole : Regs u (x .0) (x ∷ l)
@@ -90,7 +93,7 @@ begins-at (reg {u = u} {x = x} {l = l} a b c e n r) d = go d (eqb (x .0) d) (leb
         ∙ rw (n, p, ne-eqb (x .1) 0 (omega arith)) (ap (λ k. some (k, x .1)) (sym k))
     go d false false p h ih =
         let k : d < x .0 = leb-false (x .0) d h in
-        stays u (userOn u (x ∷ l)) d u (day-before whole u d (omega arith)) (user-before whole u d k)
+        nothing-begins u (userOn u (x ∷ l)) d u (day-before whole u d (omega arith)) (user-before whole u d k)
         ∙ rw p (sym (at-none start (regs-asc r) d (omega arith)))
     go zero false true p h ih = absurd (eqb-false (x .0) zero p (omega (arith, leb-true (x .0) zero h)))
     go (suc d) false true p h ih =
@@ -99,7 +102,7 @@ begins-at (reg {u = u} {x = x} {l = l} a b c e n r) d = go d (eqb (x .0) d) (leb
         begins-is u (userOn u (x ∷ l)) (suc d) (userOn (x .1) l d) (userOn (x .1) l (suc d)) (user-since u x l d (omega arith)) (user-since u x l (suc d) k)
         ∙ ih (suc d) ∙ rw p
 
--- The registrations of the days are the list.
+-- The registrations of the days are the list: of the list alone, of a well-formed point, and the latest of them.
 pub regs-scan : {lo : ℕ} {l : List (ℕ × ℕ)} → Regs 0 lo l → gather (registrationAt (userOn 0 l)) 0 days ≡ l
 unfolding registrationAt begins
 regs-scan {l = l} r =
@@ -171,12 +174,14 @@ user-from {l = l} r d u = fun-ext (λ e. go e (leb d e) (eqb (lastFrom (0, 0) (e
     added e true h = refl
     added e false h = earlier-before r 0 d e (leb-false d e h)
 
-    go : (e : ℕ) (t s : Bool) → leb d e ≡ t → eqb (lastFrom (0, 0) front .1) u ≡ s → userOn 0 (cond s front (front ++ ((d, u) ∷ []))) e ≡ cond (leb d e) u (userOn 0 l e)
+    go : (e : ℕ) (t s : Bool) → leb d e ≡ t → eqb (lastFrom (0, 0) front .1) u ≡ s
+        → userOn 0 (cond s front (front ++ ((d, u) ∷ []))) e ≡ cond (leb d e) u (userOn 0 l e)
     go e t true h k = rw h (kept e t h k)
     go e t false h k = user-snoc 0 front (d, u) e ∙ rw h (added e t h)
 
 -- ---- the list stays well-formed
 
+-- The registrations before day d.
 earlier-regs : {v lo : ℕ} {l : List (ℕ × ℕ)} → Regs v lo l → (d : ℕ) → Regs v lo (earlier start d l)
 unfolding earlier
 earlier-regs noreg d = noreg
@@ -186,7 +191,7 @@ earlier-regs {v} {lo} (reg {x = x} {l = l} a b c e n r) d = go (ltb (x .0) d) (e
     go true r = reg a b c e n r
     go false r = noreg
 
--- ... with one more row from day d on, of another User than the last
+-- They and one more row from day d on, of another User than the last.
 earlier-snoc : {v lo : ℕ} {l : List (ℕ × ℕ)} → Regs v lo l → (w d u : ℕ) → lo ≤ d → d ≤ 40000 → 1 ≤ u → u ≤ 16
     → eqb (lastFrom (w, v) (earlier start d l) .1) u ≡ false → Regs v lo (earlier start d l ++ ((d, u) ∷ []))
 unfolding earlier lastOf
@@ -200,6 +205,7 @@ earlier-snoc {v} {lo} (reg {x = x} {l = l} a b c e n r) w d u h k i j ne =
     go true g ne ih = reg a b c e n (ih (ltb-true (x .0) d g) ne)
     go false g ne ih = reg h k i j ne noreg
 
+-- A User, 1 to 16, from a day at or after the first on leaves well-formed registrations.
 pub regs-from : {lo : ℕ} {l : List (ℕ × ℕ)} → Regs 0 lo l → (d u : ℕ) → lo ≤ d → d ≤ 40000 → 1 ≤ u → u ≤ 16 → Regs 0 lo (userFrom d u l)
 unfolding userFrom latestOf
 regs-from {lo} {l} r d u h k i j = go (eqb (lastFrom (0, 0) (earlier start d l) .1) u) refl
@@ -220,11 +226,13 @@ starts-from {install} (starts {x = x} {l = l} s) d u h =
 
 -- ---- a registration after the latest
 
+-- Starts ascend, so the last is at or after each.
 last-after : {v : ℕ} {l : List (ℕ × ℕ)} (x : ℕ × ℕ) → Regs v (suc (x .0)) l → x .0 ≤ lastFrom x l .0
 unfolding lastOf
 last-after x noreg = omega arith
 last-after x (reg {x = y} {l = l} a b c e n r) = let h : y .0 ≤ lastFrom y l .0 = last-after y r in omega arith
 
+-- Before a day after the last start stand all of them.
 earlier-all : {v lo : ℕ} {l : List (ℕ × ℕ)} (x : ℕ × ℕ) → Regs v lo l → (d : ℕ) → lastFrom x l .0 < d → earlier start d l ≡ l
 unfolding earlier lastOf
 earlier-all x noreg d h = refl
@@ -232,56 +240,23 @@ earlier-all x (reg {x = y} {l = l} a b c e n r) d h =
     let k : y .0 ≤ lastFrom y l .0 = last-after y r in
     rw (lt-ltb (y .0) d (omega arith)) (ap (λ m. y ∷ m) (earlier-all y r d h))
 
--- It is one more row.
-pub user-from-append : {lo : ℕ} {l : List (ℕ × ℕ)} → Regs 0 lo l → (d u : ℕ) → latestOf l .0 < d → eqb (latestOf l .1) u ≡ false → userFrom d u l ≡ l ++ ((d, u) ∷ [])
+-- The latest starts on the first day or later, so a day after it is after the first.
+pub latest-after : {lo : ℕ} {l : List (ℕ × ℕ)} → Regs 0 lo l → StartsOn lo l → lo ≤ latestOf l .0
+unfolding latestOf lastOf
+latest-after (reg {x = x} {l = l} a b c e n r) (starts s) =
+    let h : x .0 ≤ lastFrom x l .0 = last-after x r in omega (arith, s)
+
+-- Another User from a day after the latest start on is one more row.
+pub user-from-append : {lo : ℕ} {l : List (ℕ × ℕ)} → Regs 0 lo l → (d u : ℕ) → latestOf l .0 < d → eqb (latestOf l .1) u ≡ false
+    → userFrom d u l ≡ l ++ ((d, u) ∷ [])
 unfolding userFrom latestOf
 user-from-append {l = l} r d u h e = rw (earlier-all (0, 0) r d h, e)
 
-pub user-from-length : {lo : ℕ} {l : List (ℕ × ℕ)} → Regs 0 lo l → (d u : ℕ) → latestOf l .0 < d → eqb (latestOf l .1) u ≡ false → length (userFrom d u l) ≡ suc (length l)
+pub user-from-length : {lo : ℕ} {l : List (ℕ × ℕ)} → Regs 0 lo l → (d u : ℕ) → latestOf l .0 < d → eqb (latestOf l .1) u ≡ false
+    → length (userFrom d u l) ≡ suc (length l)
 user-from-length {l = l} r d u h e = rw (user-from-append r d u h e, length-append l ((d, u) ∷ [])) (omega arith)
 
--- It is then the latest.
+-- The row at the end is the latest.
 pub latest-append : (l : List (ℕ × ℕ)) (x : ℕ × ℕ) → latestOf (l ++ (x ∷ [])) ≡ x
 unfolding latestOf
 latest-append l x = last-snoc (0, 0) l x
-
--- ---- the registration that covers a day
-
--- Does the next registration, if any, start after day d?
-abbrev pub nextAfter : ℕ → List (ℕ × ℕ) → Bool
-nextAfter d [] = true
-nextAfter d (y ∷ l) = ltb d (y .0)
-
--- The registrations that cover day d: started by then, and the next one not.
-unfoldable pub covering : ℕ → List (ℕ × ℕ) → List (ℕ × ℕ)
-covering d [] = []
-covering d (x ∷ l) = cond (leb (x .0) d && nextAfter d l) (x ∷ covering d l) (covering d l)
-
-pub covering-none : {v lo : ℕ} {l : List (ℕ × ℕ)} → Regs v lo l → (d : ℕ) → d < lo → covering d l ≡ []
-unfolding covering
-covering-none noreg d h = refl
-covering-none (reg {x = x} a b c e n r) d h = rw (lt-leb (x .0) d (omega arith)) (covering-none r d (omega arith))
-
-covering-since : {l : List (ℕ × ℕ)} (x : ℕ × ℕ) → Regs (x .1) (suc (x .0)) l → (d : ℕ) → x .0 ≤ d → (s : ℕ) × (s ≤ d) × (covering d (x ∷ l) ≡ (s, userOn (x .1) l d) ∷ [])
-unfolding covering userOn
-covering-since x noreg d h = (x .0, h, rw (le-leb (x .0) d h))
-covering-since x (reg {x = y} {l = l} a b c e n r) d h = go (leb (y .0) d) refl (λ g. covering-since y r d g)
-  where
-    whole : Regs (x .1) (y .0) (y ∷ l)
-    whole = reg {lo = y .0} {x = y} (omega arith) b c e n r
-
-    go : (t : Bool) → leb (y .0) d ≡ t → (y .0 ≤ d → (s : ℕ) × (s ≤ d) × (covering d (y ∷ l) ≡ (s, userOn (y .1) l d) ∷ []))
-        → (s : ℕ) × (s ≤ d) × (covering d (x ∷ y ∷ l) ≡ (s, userOn (x .1) (y ∷ l) d) ∷ [])
-    go true k ih =
-        let g : y .0 ≤ d = leb-true (y .0) d k in
-        let i : (s : ℕ) × (s ≤ d) × (covering d (y ∷ l) ≡ (s, userOn (y .1) l d) ∷ []) = ih g in
-        (i .0, i .1, rw (le-leb (x .0) d h, le-ltb d (y .0) g, user-since (x .1) y l d g) (i .2))
-    go false k ih =
-        let g : d < y .0 = leb-false (y .0) d k in
-        (x .0, h, rw (le-leb (x .0) d h, lt-ltb d (y .0) g, user-before whole (x .1) d g) (ap (λ m. x ∷ m) (covering-none whole d g)))
-
--- From the first on exactly one registration covers a day: it has started, and its User is the day's.
-pub covering-one : {lo : ℕ} {l : List (ℕ × ℕ)} → Regs 0 lo l → StartsOn lo l → (d : ℕ) → lo ≤ d → (s : ℕ) × (s ≤ d) × (covering d l ≡ (s, userOn 0 l d) ∷ [])
-covering-one (reg {x = x} {l = l} a b c e n r) (starts q) d h =
-    let g : x .0 ≤ d = omega (arith, q) in
-    rw (user-since 0 x l d g) (covering-since x r d g)
