@@ -7,3 +7,7 @@ pub mod Scan
 pub mod Apart
 pub mod Records
 pub mod RecordSteps
+pub mod Rows
+pub mod Points
+pub mod Registrations
+pub mod Covering
