@@ -4,11 +4,10 @@ use mathlib.Core.Bool.{Bool, true, false, _&&_, _||_, and-false, cond}
 use mathlib.Core.List.{List, [], _∷_}
 use Prim.Native.Nat.{ℕ, zero, suc, _+_, _-_, _*_, _/_, _%_, _^_, _≤_, _<_}
 use native.Mathlib.Omega.{arith}
-use borrow.Author.Tests.{eqb-true, eqb-false, eq-eqb, leb-true, leb-false, le-leb, lt-leb}
-use lib.Dec.{leb, ltb, eqb}
+use borrow.Author.Tests.{eqb-true, eqb-false, leb-true, le-leb, lt-leb}
+use lib.Dec.{leb, eqb}
 use lib.IntN.{ℤ, pos, negsuc}
 use lib.ListN.{getD}
-use lib.Signed.{leZ}
 use Rattle.numbers.specs.Naturals.{natOf}
 use Rattle.numbers.specs.Rows.{all}
 use Rattle.numbers.proofs.Rows.{all-at}
@@ -60,38 +59,39 @@ and-both : (a b : Bool) → (a && b) ≡ true → (a ≡ true) × (b ≡ true)
 and-both true b e = (refl, e)
 and-both false b e = let z : _≡_ {A = ℕ} 0 1 = cc in absurd (omega arith)
 
--- the tests that the code makes
+-- the code's tests, on the naturals that it reads
 abbrev pub onCalendar : ℕ → ℕ → ℕ → Bool
 onCalendar y m d = leb 1970 y && leb y 2079 && (leb 1 m && leb m 12) && (leb 1 d && leb d (monthLength y m))
 
-pub calendar-bound : (y m d : ℕ) → onCalendar y m d ≡ true → (1970 ≤ y) × (y ≤ 2079) × (1 ≤ m) × (m ≤ 12) × (1 ≤ d) × (d ≤ 31)
-calendar-bound y m d e =
-    let s = and-both _ _ e in
+pub calendar-bound : (y m d : ℕ) {t : Bool} → t ≡ onCalendar y m d → t ≡ true → (1970 ≤ y) × (y ≤ 2079) × (1 ≤ m) × (m ≤ 12) × (1 ≤ d) × (d ≤ 31)
+calendar-bound y m d h e =
+    let s = and-both _ _ (sym h ∙ e) in
     let t = and-both _ _ (s .0) in
     let year = and-both _ _ (t .0) in
     let month = and-both _ _ (t .1) in
     let day = and-both _ _ (s .1) in
-    (leb-true _ _ (year .0), leb-true _ _ (year .1), leb-true _ _ (month .0), leb-true _ _ (month .1), leb-true _ _ (day .0), omega (arith, leb-true d (monthLength y m) (day .1), month-length-bound y m))
+    let last : d ≤ monthLength y m = leb-true _ _ (day .1) in
+    (leb-true _ _ (year .0), leb-true _ _ (year .1), leb-true _ _ (month .0), leb-true _ _ (month .1), leb-true _ _ (day .0), omega (arith, month-length-bound y m))
 
-module _ (y m d : ℤ) {Y M D : ℕ} (year : Y ≡ natOf y) (month : M ≡ natOf m) (day : D ≡ natOf d) where
-  date-tests : (onCalendar Y M D && leb (dayOf Y M D) 39999) ≡ isDate y m d
+module _ (y m d : ℤ) {Y M D : ℕ} {t : Bool} (year : Y ≡ natOf y) (month : M ≡ natOf m) (day : D ≡ natOf d) (tested : t ≡ onCalendar Y M D) where
+  date-tests : (t && leb (dayOf Y M D) 39999) ≡ isDate y m d
   unfolding isDate
   date-tests =
-      rw (year, month, day)
+      rw (tested, year, month, day)
       (ap₂ _&&_
       (ap₂ _&&_
       (ap₂ _&&_ (within-natural 1970 2079 y (omega arith)) (within-natural 1 12 m (omega arith)))
       (within-natural 1 (monthLength (natOf y) (natOf m)) d (omega (arith, month-length-bound (natOf y) (natOf m)))))
       refl)
 
-  pub date-off : onCalendar Y M D ≡ false → pos 2 ∷ pos 0 ∷ [] ≡ dateCall y m d
+  pub date-off : t ≡ false → pos 2 ∷ pos 0 ∷ [] ≡ dateCall y m d
   unfolding dateCall
   date-off e = rw (← date-tests, e)
 
-  pub date-late : onCalendar Y M D ≡ true → 39999 < dayOf Y M D → pos 2 ∷ pos 0 ∷ [] ≡ dateCall y m d
+  pub date-late : {n : ℕ} → t ≡ true → n ≡ dayOf Y M D → 39999 < n → pos 2 ∷ pos 0 ∷ [] ≡ dateCall y m d
   unfolding dateCall
-  date-late e l = rw (← date-tests, e, lt-leb _ _ l)
+  date-late {n} e k l = rw (← date-tests, ← k, e, lt-leb n 39999 l)
 
-  pub date-day : onCalendar Y M D ≡ true → dayOf Y M D ≤ 39999 → pos 0 ∷ pos (dayOf Y M D) ∷ [] ≡ dateCall y m d
+  pub date-day : {n : ℕ} → t ≡ true → n ≡ dayOf Y M D → n ≤ 39999 → pos 0 ∷ pos n ∷ [] ≡ dateCall y m d
   unfolding dateCall
-  date-day e l = rw (← date-tests, e, le-leb _ _ l, year, month, day)
+  date-day {n} e k l = rw (← date-tests, ← year, ← month, ← day, ← k, e, le-leb n 39999 l)

@@ -1,5 +1,5 @@
 -- Business days and the allowable period (clause 1.2.1).
-use mathlib.Core.Bool.{Bool, true, false, not, _&&_, _||_, cond}
+use mathlib.Core.Bool.{Bool, false, not, _&&_, _||_, cond}
 use mathlib.Core.Option.{Option, none, some}
 use mathlib.Core.List.{List, [], _∷_}
 use Prim.Native.Nat.{ℕ, zero, suc, _-_, _%_}
@@ -14,7 +14,7 @@ use Rattle.calendar.specs.Dates.{isDay}
 use Rattle.calendar.specs.declared.Reached.{Reached}
 use Rattle.calendar.specs.declared.Reached.the-variants.{On, Outside}
 use Rattle.calendar.specs.declared.Period.{Period}
-use Rattle.calendar.specs.declared.Period.the-variants.{Window, OutsideRange}
+use Rattle.calendar.specs.declared.Period.the-variants.{Window, Outside as NoWindow}
 
 -- Day 0 is a Thursday, so that a day's remainder by 7 is 2 on a Saturday and 3 on a Sunday.
 abbrev pub weekend : ℕ → Bool
@@ -63,4 +63,4 @@ reachedDay Outside = none
 
 abbrev pub periodDays : Period → Option (ℕ × ℕ)
 periodDays (Window first last) = some (first .0, last .0)
-periodDays OutsideRange = none
+periodDays NoWindow = none

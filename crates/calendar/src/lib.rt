@@ -38,7 +38,7 @@ pub enum Reached {
 // An allowable period: its first and its last day, unless one of them lies outside.
 pub enum Period {
     Window(Day, Day),
-    OutsideRange,
+    Outside,
 }
 
 // The days before each month in a common year.
@@ -190,8 +190,8 @@ pub fn is_business_day(hs: &[i64], d: Day) -> bool
     !is_listed(hs, d)
 }
 
-// The last business day below a day.
-fn one_before(hs: &[i64], d: Day) -> Reached
+// The last business day before a day.
+fn last_before(hs: &[i64], d: Day) -> Reached
     requires { ⌜ d .0 < 2 ^ 63 ⌝ }
     ensures { λ r. ⌜ reachedDay r ≡ lastBelow (businessDay (now (hs .entry))) (d .0) ⌝ }
 {
@@ -206,7 +206,7 @@ fn one_before(hs: &[i64], d: Day) -> Reached
 }
 
 // The first business day after a day.
-fn one_after(hs: &[i64], d: Day) -> Reached
+fn first_after(hs: &[i64], d: Day) -> Reached
     requires { ⌜ d .0 ≤ 39999 ⌝ }
     ensures { λ r. ⌜ reachedDay r ≡ firstFrom (businessDay (now (hs .entry))) (suc (d .0)) (39999 - d .0) ⌝ }
 {
@@ -227,7 +227,7 @@ pub fn business_day_before(hs: &[i64], n: BusinessDays, d: Day) -> Reached
     let mut left = n.0;
     let mut day = d.0;
     while 0 < left {
-        let Reached::On(reached) = one_before(hs, Day(day)) else {
+        let Reached::On(reached) = last_before(hs, Day(day)) else {
             return Reached::Outside;
         };
         day = reached.0;
@@ -243,7 +243,7 @@ pub fn business_day_after(hs: &[i64], n: BusinessDays, d: Day) -> Reached
     let mut left = n.0;
     let mut day = d.0;
     while 0 < left {
-        let Reached::On(reached) = one_after(hs, Day(day)) else {
+        let Reached::On(reached) = first_after(hs, Day(day)) else {
             return Reached::Outside;
         };
         day = reached.0;
@@ -259,10 +259,10 @@ pub fn allowable_period(hs: &[i64], proposed: Day, no_change: u64) -> Period
 {
     let lead = if no_change == 1 { 4 } else { 10 };
     let Reached::On(first) = business_day_before(hs, BusinessDays(lead), proposed) else {
-        return Period::OutsideRange;
+        return Period::Outside;
     };
     let Reached::On(last) = business_day_after(hs, BusinessDays(10), proposed) else {
-        return Period::OutsideRange;
+        return Period::Outside;
     };
     Period::Window(first, last)
 }

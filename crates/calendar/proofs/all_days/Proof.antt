@@ -1,19 +1,16 @@
-use Rattle.calendar.specs.Dates.{isDay}
-use lib.ListN.{length, getD}
+use mathlib.Core.Bool.{true}
+use mathlib.Core.Path.{_≡_, sym, _∙_}
+use Prim.Native.Nat.{_≤_, _-_}
+use native.Mathlib.Omega.{arith}
+use borrow.Author.Needs.{needs}
+use borrow.Author.Tests.{not-true, not-false}
 use lib.IntN.{pos}
+use lib.ListN.{length, getD}
 use Rattle.numbers.proofs.Rows.{all-none, all-more, all-fails, all-done}
 use Rattle.numbers.specs.Rows.{all}
-use borrow.Author.Tests.{not-true, not-false}
-use native.Mathlib.Omega.{arith}
-use Prim.Native.Nat.{_≤_, _-_}
-use mathlib.Core.Bool.{true, false}
-use mathlib.Core.Path.{_≡_, sym, _∙_}
-use borrow.Author.Needs.{needs}
+use Rattle.calendar.specs.Dates.{isDay}
 use Rattle.calendar.proofs.all_days.Statement.{statement}
 use Rattle.calendar.proofs.all_days.Tie as tie
-use Rattle.calendar.proofs.all_days.Reads as reads
-use Rattle.calendar.proofs.all_days.Lts as lts
-use Rattle.calendar.proofs.is_day_at.Reads as is-day-at-reads
 
 abbrev Inv-loop : tie.InvT-loop
 Inv-loop hs k₀ k = (k ≤ length hs) × (all (λ j. isDay (getD hs j (pos 0))) k ≡ true)
@@ -21,31 +18,24 @@ Inv-loop hs k₀ k = (k ≤ length hs) × (all (λ j. isDay (getD hs j (pos 0)))
 abbrev μ-loop : tie.MeasureT-loop
 μ-loop hs k₀ k = length hs - k
 
--- src/lib.rt:137:5
 loop-holds : tie.Need-loop-holds Inv-loop μ-loop
 loop-holds c = (omega arith, all-none _)
 
--- src/lib.rt:138:13
 is-day-at-requires : tie.Need-is-day-at-requires Inv-loop μ-loop
 is-day-at-requires c κs = search needs
 
--- src/lib.rt:139:13
 returns : tie.Need-returns Inv-loop μ-loop
 returns c = sym (all-fails _ (c .before .before .before .loop .k) _ (omega arith) (sym (c .before .is-day-at .ensures) ∙ not-true _ (c .if1 .taken)))
 
--- src/lib.rt:141:9
 add-k : tie.Need-add-k Inv-loop μ-loop
 add-k c = search needs
 
--- src/lib.rt:137:5
 loop-less : tie.Need-loop-less Inv-loop μ-loop
 loop-less c = search needs
 
--- src/lib.rt:137:5
 loop-again : tie.Need-loop-again Inv-loop μ-loop
 loop-again c = (omega arith, all-more _ _ (c .before .before .before .loop .inv .1) (sym (c .before .is-day-at .ensures) ∙ not-false _ (c .if1 .left)))
 
--- src/lib.rt:133:1
 returns-2 : tie.Need-returns-2 Inv-loop μ-loop
 returns-2 c = all-done _ _ _ (c .before .loop .inv .1) (omega arith)
 

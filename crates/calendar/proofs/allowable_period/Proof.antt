@@ -1,61 +1,48 @@
-use mathlib.Core.Path.{_≡_, sym, ap, _∙_}
 use mathlib.Core.Bool.{cond}
 use mathlib.Core.Logic.{⊎-elim}
-use lib.Dec.{eqb}
+use mathlib.Core.Path.{_≡_, sym, ap, _∙_}
+use borrow.Author.Needs.{needs}
 use borrow.Author.Tests.{eq-eqb, ne-eqb}
+use lib.Dec.{eqb}
 use Rattle.calendar.specs.Business.{reachedDay}
 use Rattle.calendar.proofs.Business.{period-no-first, period-no-last, period-whole}
-use borrow.Author.Needs.{needs}
 use Rattle.calendar.proofs.allowable_period.Statement.{statement}
 use Rattle.calendar.proofs.allowable_period.Tie as tie
-use Rattle.calendar.proofs.allowable_period.Reads as reads
-use Rattle.calendar.proofs.allowable_period.Lts as lts
-use Rattle.calendar.proofs.business_day_after.Reads as business-day-after-reads
-use Rattle.calendar.proofs.business_day_before.Reads as business-day-before-reads
 
--- src/lib.rt:266:30
 business-day-before-requires : tie.Need-business-day-before-requires
 business-day-before-requires c κs = search needs
 
--- src/lib.rt:266:21
 enum-known-first : tie.Need-enum-known-first
 enum-known-first c = search needs
 
--- src/lib.rt:267:9
 enum-told : tie.Need-enum-told
 enum-told c = search needs
 
 lead-is : (c : tie.Joined1) → c .if1 .lead ≡ cond (eqb (c .before .args .no-change) 1) 4 10
 lead-is c = ⊎-elim (λ w. w .1 ∙ rw (eq-eqb _ _ (w .0 .taken))) (λ w. w .1 ∙ rw (ne-eqb _ _ (w .0 .left))) (c .if1 .came)
 
--- src/lib.rt:267:9
 returns : tie.Need-returns
-returns c = 
+returns c =
     let s = c .before .before .before in
     period-no-first _ _ _ _ (lead-is s) (sym (ap reachedDay (c .enum-told .given .1)) ∙ c .before .before .business-day-before .ensures)
 
--- src/lib.rt:269:29
 business-day-after-requires : tie.Need-business-day-after-requires
 business-day-after-requires c κs = search needs
 
--- src/lib.rt:269:21
 enum-known-last : tie.Need-enum-known-last
 enum-known-last c = search needs
 
--- src/lib.rt:270:9
 enum-told-2 : tie.Need-enum-told-2
 enum-told-2 c = search needs
 
--- src/lib.rt:270:9
 returns-2 : tie.Need-returns-2
-returns-2 c = 
+returns-2 c =
     let s = c .before .before .before .before .before .before .before in
     let first = c .before .before .before .before in
     period-no-last _ _ _ _ (lead-is s) _ (sym (ap reachedDay (first .first .given .1)) ∙ first .before .before .business-day-before .ensures) (sym (ap reachedDay (c .enum-told2 .given .1)) ∙ c .before .before .business-day-after .ensures)
 
--- src/lib.rt:261:1
 returns-3 : tie.Need-returns-3
-returns-3 c = 
+returns-3 c =
     let s = c .before .before .before .before .before .before .before .before in
     let first = c .before .before .before .before .before in
     period-whole _ _ _ _ (lead-is s) _ _ (sym (ap reachedDay (first .first .given .1)) ∙ first .before .before .business-day-before .ensures) (sym (ap reachedDay (c .before .last .given .1)) ∙ c .before .before .before .business-day-after .ensures)

@@ -1,18 +1,12 @@
-use Rattle.numbers.proofs.Search.{from-bound}
-use Rattle.calendar.proofs.Business.{after-none, after-outside, after-on}
-use Rattle.calendar.specs.Business.{reachedDay}
-use mathlib.Core.Path.{ap}
-use Rattle.calendar.specs.Business.{businessDayAfter}
+use mathlib.Core.Path.{ap, _≡_, refl, sym, _∙_}
+use Prim.Native.Nat.{_≤_}
 use native.Mathlib.Omega.{arith}
-use Prim.Native.Nat.{_+_, _≤_, _-_}
-use mathlib.Core.Bool.{true, false}
-use mathlib.Core.Path.{_≡_, refl, sym, _∙_}
 use borrow.Author.Needs.{needs}
+use Rattle.numbers.proofs.Search.{from-bound}
+use Rattle.calendar.specs.Business.{reachedDay, businessDayAfter}
+use Rattle.calendar.proofs.Business.{after-none, after-outside, after-on}
 use Rattle.calendar.proofs.business_day_after.Statement.{statement}
 use Rattle.calendar.proofs.business_day_after.Tie as tie
-use Rattle.calendar.proofs.business_day_after.Reads as reads
-use Rattle.calendar.proofs.business_day_after.Lts as lts
-use Rattle.calendar.proofs.one_after.Reads as one-after-reads
 
 abbrev Inv-loop : tie.InvT-loop
 Inv-loop hs left₀ day₀ left day = (day ≤ 39999) × (businessDayAfter hs left day ≡ businessDayAfter hs left₀ day₀)
@@ -20,44 +14,35 @@ Inv-loop hs left₀ day₀ left day = (day ≤ 39999) × (businessDayAfter hs le
 abbrev μ-loop : tie.MeasureT-loop
 μ-loop hs left₀ day₀ left day = left
 
--- src/lib.rt:250:5
 loop-holds : tie.Need-loop-holds Inv-loop μ-loop
 loop-holds c = (omega arith, refl)
 
--- src/lib.rt:251:36
-one-after-requires : tie.Need-one-after-requires Inv-loop μ-loop
-one-after-requires c κs = search needs
+first-after-requires : tie.Need-first-after-requires Inv-loop μ-loop
+first-after-requires c κs = search needs
 
--- src/lib.rt:251:25
 enum-known-reached : tie.Need-enum-known-reached Inv-loop μ-loop
 enum-known-reached c = search needs
 
--- src/lib.rt:252:13
 enum-told : tie.Need-enum-told Inv-loop μ-loop
 enum-told c = search needs
 
--- src/lib.rt:252:13
 returns : tie.Need-returns Inv-loop μ-loop
-returns c = 
+returns c =
     let s = c .before .before .before .before in
-    after-outside _ (s .loop .left) _ (omega arith) (sym (ap reachedDay (c .enum-told .given .1)) ∙ c .before .before .one-after .ensures) ∙ s .loop .inv .1
+    after-outside _ (s .loop .left) _ (omega arith) (sym (ap reachedDay (c .enum-told .given .1)) ∙ c .before .before .first-after .ensures) ∙ s .loop .inv .1
 
--- src/lib.rt:255:9
 sub-left : tie.Need-sub-left Inv-loop μ-loop
 sub-left c = search needs
 
--- src/lib.rt:250:5
 loop-less : tie.Need-loop-less Inv-loop μ-loop
 loop-less c = search needs
 
--- src/lib.rt:250:5
 loop-again : tie.Need-loop-again Inv-loop μ-loop
-loop-again c = 
+loop-again c =
     let s = c .before .before .before .before .before in
-    let on = sym (ap reachedDay (c .before .reached .given .1)) ∙ c .before .before .before .one-after .ensures in
+    let on = sym (ap reachedDay (c .before .reached .given .1)) ∙ c .before .before .before .first-after .ensures in
     (omega (arith, from-bound _ _ _ _ (sym on)), after-on _ (s .loop .left) _ _ (omega arith) on ∙ s .loop .inv .1)
 
--- src/lib.rt:244:1
 returns-2 : tie.Need-returns-2 Inv-loop μ-loop
 returns-2 c = after-none _ _ _ (omega arith) ∙ c .before .loop .inv .1
 
@@ -68,7 +53,7 @@ business-day-after-spec =
     Inv-loop
     μ-loop
     loop-holds
-    one-after-requires
+    first-after-requires
     enum-known-reached
     enum-told
     returns

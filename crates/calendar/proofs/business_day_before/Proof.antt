@@ -1,19 +1,12 @@
-use Rattle.numbers.proofs.Search.{below-bound}
-use Rattle.calendar.proofs.Business.{before-none, before-outside, before-on}
-use Rattle.calendar.specs.Business.{reachedDay}
-use mathlib.Core.Path.{ap}
+use mathlib.Core.Path.{ap, _≡_, refl, sym, _∙_}
 use Prim.Native.Nat.{_^_, _<_}
-use Rattle.calendar.specs.Business.{businessDayBefore}
 use native.Mathlib.Omega.{arith}
-use Prim.Native.Nat.{_+_, _≤_, _-_}
-use mathlib.Core.Bool.{true, false}
-use mathlib.Core.Path.{_≡_, refl, sym, _∙_}
 use borrow.Author.Needs.{needs}
+use Rattle.numbers.proofs.Search.{below-bound}
+use Rattle.calendar.specs.Business.{reachedDay, businessDayBefore}
+use Rattle.calendar.proofs.Business.{before-none, before-outside, before-on}
 use Rattle.calendar.proofs.business_day_before.Statement.{statement}
 use Rattle.calendar.proofs.business_day_before.Tie as tie
-use Rattle.calendar.proofs.business_day_before.Reads as reads
-use Rattle.calendar.proofs.business_day_before.Lts as lts
-use Rattle.calendar.proofs.one_before.Reads as one-before-reads
 
 abbrev Inv-loop : tie.InvT-loop
 Inv-loop hs left₀ day₀ left day = (day < 2 ^ 63) × (businessDayBefore hs left day ≡ businessDayBefore hs left₀ day₀)
@@ -21,44 +14,35 @@ Inv-loop hs left₀ day₀ left day = (day < 2 ^ 63) × (businessDayBefore hs le
 abbrev μ-loop : tie.MeasureT-loop
 μ-loop hs left₀ day₀ left day = left
 
--- src/lib.rt:234:5
 loop-holds : tie.Need-loop-holds Inv-loop μ-loop
 loop-holds c = (omega arith, refl)
 
--- src/lib.rt:235:36
-one-before-requires : tie.Need-one-before-requires Inv-loop μ-loop
-one-before-requires c κs = search needs
+last-before-requires : tie.Need-last-before-requires Inv-loop μ-loop
+last-before-requires c κs = search needs
 
--- src/lib.rt:235:25
 enum-known-reached : tie.Need-enum-known-reached Inv-loop μ-loop
 enum-known-reached c = search needs
 
--- src/lib.rt:236:13
 enum-told : tie.Need-enum-told Inv-loop μ-loop
 enum-told c = search needs
 
--- src/lib.rt:236:13
 returns : tie.Need-returns Inv-loop μ-loop
-returns c = 
+returns c =
     let s = c .before .before .before .before in
-    before-outside _ (s .loop .left) _ (omega arith) (sym (ap reachedDay (c .enum-told .given .1)) ∙ c .before .before .one-before .ensures) ∙ s .loop .inv .1
+    before-outside _ (s .loop .left) _ (omega arith) (sym (ap reachedDay (c .enum-told .given .1)) ∙ c .before .before .last-before .ensures) ∙ s .loop .inv .1
 
--- src/lib.rt:239:9
 sub-left : tie.Need-sub-left Inv-loop μ-loop
 sub-left c = search needs
 
--- src/lib.rt:234:5
 loop-less : tie.Need-loop-less Inv-loop μ-loop
 loop-less c = search needs
 
--- src/lib.rt:234:5
 loop-again : tie.Need-loop-again Inv-loop μ-loop
-loop-again c = 
+loop-again c =
     let s = c .before .before .before .before .before in
-    let on = sym (ap reachedDay (c .before .reached .given .1)) ∙ c .before .before .before .one-before .ensures in
+    let on = sym (ap reachedDay (c .before .reached .given .1)) ∙ c .before .before .before .last-before .ensures in
     (omega (arith, below-bound _ _ _ (sym on)), before-on _ (s .loop .left) _ _ (omega arith) on ∙ s .loop .inv .1)
 
--- src/lib.rt:228:1
 returns-2 : tie.Need-returns-2 Inv-loop μ-loop
 returns-2 c = before-none _ _ _ (omega arith) ∙ c .before .loop .inv .1
 
@@ -69,7 +53,7 @@ business-day-before-spec =
     Inv-loop
     μ-loop
     loop-holds
-    one-before-requires
+    last-before-requires
     enum-known-reached
     enum-told
     returns

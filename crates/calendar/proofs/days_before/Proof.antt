@@ -1,32 +1,26 @@
-use Rattle.calendar.specs.Dates.{daysBefore}
-use Rattle.numbers.specs.Rows.{all}
-use Prim.Native.Nat.{ℕ}
 use mathlib.Core.List.{List, [], _∷_}
-use native.Mathlib.Omega.{arith}
 use mathlib.Core.Path.{refl}
-use Rattle.calendar.proofs.Dates.{month-table, days-before-bound}
+use Prim.Native.Nat.{ℕ}
+use native.Mathlib.Omega.{arith}
 use borrow.Author.Needs.{needs}
+use Rattle.numbers.specs.Rows.{all}
+use Rattle.calendar.specs.Dates.{daysBefore}
+use Rattle.calendar.proofs.Dates.{month-table, days-before-bound}
 use Rattle.calendar.proofs.days_before.Statement.{statement}
 use Rattle.calendar.proofs.days_before.Tie as tie
-use Rattle.calendar.proofs.days_before.Reads as reads
-use Rattle.calendar.proofs.days_before.Lts as lts
 
 table : List ℕ
 table = 0 ∷ 31 ∷ 59 ∷ 90 ∷ 120 ∷ 151 ∷ 181 ∷ 212 ∷ 243 ∷ 273 ∷ 304 ∷ 334 ∷ []
 
--- src/lib.rt:51:18
 sub-result : tie.Need-sub-result
 sub-result c = search needs
 
--- src/lib.rt:51:5
 mul-result : tie.Need-mul-result
 mul-result c = search needs
 
--- src/lib.rt:51:5
 array-read-result : tie.Need-array-read-result
 array-read-result c = search needs
 
--- src/lib.rt:47:1
 returns : tie.Need-returns
 unfolding table all daysBefore
 returns c = (month-table table refl (c .args .month) (c .pre .0) (c .pre .1), omega (arith, month-table table refl (c .args .month) (c .pre .0) (c .pre .1), days-before-bound (c .args .month) (c .pre .1)))

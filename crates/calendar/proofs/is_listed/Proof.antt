@@ -1,16 +1,12 @@
-use Rattle.calendar.proofs.Business.{listed-here, listed-later, listed-none}
-use Rattle.calendar.specs.Business.{listed}
-use lib.ListN.{length, drop}
-use native.Mathlib.Omega.{arith}
-use Prim.Native.Nat.{_+_, _≤_, _-_}
-use mathlib.Core.Bool.{true, false}
 use mathlib.Core.Path.{_≡_, refl, sym, _∙_}
+use Prim.Native.Nat.{_≤_, _-_}
+use native.Mathlib.Omega.{arith}
 use borrow.Author.Needs.{needs}
+use lib.ListN.{length, drop}
+use Rattle.calendar.specs.Business.{listed}
+use Rattle.calendar.proofs.Business.{listed-here, listed-later, listed-none}
 use Rattle.calendar.proofs.is_listed.Statement.{statement}
 use Rattle.calendar.proofs.is_listed.Tie as tie
-use Rattle.calendar.proofs.is_listed.Reads as reads
-use Rattle.calendar.proofs.is_listed.Lts as lts
-use Rattle.numbers.proofs.get.Reads as get-reads
 
 abbrev Inv-loop : tie.InvT-loop
 Inv-loop hs day i₀ i = (i ≤ length hs) × (listed (drop i hs) day ≡ listed hs day)
@@ -18,31 +14,24 @@ Inv-loop hs day i₀ i = (i ≤ length hs) × (listed (drop i hs) day ≡ listed
 abbrev μ-loop : tie.MeasureT-loop
 μ-loop hs day i₀ i = length hs - i
 
--- src/lib.rt:179:5
 loop-holds : tie.Need-loop-holds Inv-loop μ-loop
 loop-holds c = (omega arith, refl)
 
--- src/lib.rt:180:12
 get-requires : tie.Need-get-requires Inv-loop μ-loop
 get-requires c κs = search needs
 
--- src/lib.rt:181:13
 returns : tie.Need-returns Inv-loop μ-loop
 returns c = let s = c .before .before .before in sym (listed-here _ (s .loop .i) _ (omega arith) (s .before .pre) (sym (c .before .get .ensures .0) ∙ c .if1 .taken)) ∙ s .loop .inv .1
 
--- src/lib.rt:183:9
 add-i : tie.Need-add-i Inv-loop μ-loop
 add-i c = search needs
 
--- src/lib.rt:179:5
 loop-less : tie.Need-loop-less Inv-loop μ-loop
 loop-less c = search needs
 
--- src/lib.rt:179:5
 loop-again : tie.Need-loop-again Inv-loop μ-loop
 loop-again c = let s = c .before .before .before in (omega arith, sym (listed-later _ (s .loop .i) _ (omega arith) (λ q. c .if1 .left (c .before .get .ensures .0 ∙ q))) ∙ s .loop .inv .1)
 
--- src/lib.rt:173:1
 returns-2 : tie.Need-returns-2 Inv-loop μ-loop
 returns-2 c = sym (listed-none _ (c .before .loop .i) _ (omega arith)) ∙ c .before .loop .inv .1
 

@@ -1,14 +1,10 @@
 use borrow.Author.Needs.{needs}
 use Rattle.calendar.proofs.leap_day.Statement.{statement}
 use Rattle.calendar.proofs.leap_day.Tie as tie
-use Rattle.calendar.proofs.leap_day.Reads as reads
-use Rattle.calendar.proofs.leap_day.Lts as lts
 
--- src/lib.rt:79:9
 returns : tie.Need-returns
 returns c = rw (c .if1 .taken) (search needs)
 
--- src/lib.rt:75:1
 returns-2 : tie.Need-returns-2
 returns-2 c = rw (c .if1 .left) (search needs)
 

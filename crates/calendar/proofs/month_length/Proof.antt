@@ -1,22 +1,16 @@
 use borrow.Author.Tests.{eq-eqb, ne-eqb}
 use Rattle.calendar.proofs.month_length.Statement.{statement}
 use Rattle.calendar.proofs.month_length.Tie as tie
-use Rattle.calendar.proofs.month_length.Reads as reads
-use Rattle.calendar.proofs.month_length.Lts as lts
 
--- src/lib.rt:58:9
 returns : tie.Need-returns
 returns c = rw (c .if1 .taken)
 
--- src/lib.rt:61:9
 returns-2 : tie.Need-returns-2
 returns-2 c = rw (c .before .if1 .left, eq-eqb _ _ (c .if2 .taken))
 
--- src/lib.rt:64:9
 returns-3 : tie.Need-returns-3
 returns-3 c = rw (c .before .before .if1 .left, ne-eqb _ _ (c .before .if2 .left), c .if3 .taken)
 
--- src/lib.rt:54:1
 returns-4 : tie.Need-returns-4
 returns-4 c = rw (c .before .before .if1 .left, ne-eqb _ _ (c .before .if2 .left), c .if3 .left)
 
