@@ -1,10 +1,11 @@
 -- Business days: listed holidays by index, the days that counts reach, and the bounds of an allowable period. Assumes nothing.
-use mathlib.Core.Path.{_≡_, refl, sym, ap, subst}
+use mathlib.Core.Path.{_≡_, refl, sym, ap}
 use mathlib.Core.Option.{Option, none, some}
 use mathlib.Core.Bool.{Bool, true, false, cond}
 use mathlib.Core.List.{List}
 use Prim.Native.Nat.{ℕ, zero, suc, _+_, _-_, _^_, _≤_, _<_}
 use native.Mathlib.Omega.{arith}
+use native.Mathlib.Nat.{not-suc-le-zero}
 use native.Mathlib.Numerals.{add-one}
 use borrow.Author.Tests.{eq-eqb, ne-eqb}
 use lib.Dec.{eqb}
@@ -41,34 +42,34 @@ listed-none hs i d e = rw (e, drop-length hs)
 
 -- ---- a count of business days, by a loop that counts n down to 0
 
-module _ (hs : List ℤ) (n d : ℕ) where
-  pub before-none : n ≤ 0 → some d ≡ businessDayBefore hs n d
+module _ (hs : List ℤ) where
+  pub before-none : (n d : ℕ) → n ≤ 0 → some d ≡ businessDayBefore hs n d
   unfolding businessDayBefore
-  before-none l = let e : n ≡ 0 = omega arith in rw e
+  before-none n d l = let e : n ≡ 0 = omega arith in rw e
 
-  before-turn : 0 < n → businessDayBefore hs n d ≡ andThen (lastBelow (businessDay hs) d) (businessDayBefore hs (n - 1))
+  pub before-outside : (n d : ℕ) → 0 < n → none ≡ lastBelow (businessDay hs) d → none ≡ businessDayBefore hs n d
   unfolding businessDayBefore
-  before-turn l = let e : n ≡ suc (n - 1) = omega arith in subst (λ k. businessDayBefore hs k d ≡ andThen (lastBelow (businessDay hs) d) (businessDayBefore hs (n - 1))) (sym e) refl
+  before-outside zero d l e = absurd (not-suc-le-zero l)
+  before-outside (suc n) d l e = rw (← e)
 
-  pub before-outside : 0 < n → none ≡ lastBelow (businessDay hs) d → none ≡ businessDayBefore hs n d
-  before-outside l e = rw (before-turn l, ← e)
+  pub before-on : (n d a : ℕ) → 0 < n → some a ≡ lastBelow (businessDay hs) d → businessDayBefore hs (n - 1) a ≡ businessDayBefore hs n d
+  unfolding businessDayBefore
+  before-on zero d a l e = absurd (not-suc-le-zero l)
+  before-on (suc n) d a l e = let k : suc n - 1 ≡ n = omega arith in rw (k, ← e)
 
-  pub before-on : (a : ℕ) → 0 < n → some a ≡ lastBelow (businessDay hs) d → businessDayBefore hs (n - 1) a ≡ businessDayBefore hs n d
-  before-on a l e = rw (before-turn l, ← e)
-
-  pub after-none : n ≤ 0 → some d ≡ businessDayAfter hs n d
+  pub after-none : (n d : ℕ) → n ≤ 0 → some d ≡ businessDayAfter hs n d
   unfolding businessDayAfter
-  after-none l = let e : n ≡ 0 = omega arith in rw e
+  after-none n d l = let e : n ≡ 0 = omega arith in rw e
 
-  after-turn : 0 < n → businessDayAfter hs n d ≡ andThen (firstFrom (businessDay hs) (suc d) (39999 - d)) (businessDayAfter hs (n - 1))
+  pub after-outside : (n d : ℕ) → 0 < n → none ≡ firstFrom (businessDay hs) (suc d) (39999 - d) → none ≡ businessDayAfter hs n d
   unfolding businessDayAfter
-  after-turn l = let e : n ≡ suc (n - 1) = omega arith in subst (λ k. businessDayAfter hs k d ≡ andThen (firstFrom (businessDay hs) (suc d) (39999 - d)) (businessDayAfter hs (n - 1))) (sym e) refl
+  after-outside zero d l e = absurd (not-suc-le-zero l)
+  after-outside (suc n) d l e = rw (← e)
 
-  pub after-outside : 0 < n → none ≡ firstFrom (businessDay hs) (suc d) (39999 - d) → none ≡ businessDayAfter hs n d
-  after-outside l e = rw (after-turn l, ← e)
-
-  pub after-on : (a : ℕ) → 0 < n → some a ≡ firstFrom (businessDay hs) (suc d) (39999 - d) → businessDayAfter hs (n - 1) a ≡ businessDayAfter hs n d
-  after-on a l e = rw (after-turn l, ← e)
+  pub after-on : (n d a : ℕ) → 0 < n → some a ≡ firstFrom (businessDay hs) (suc d) (39999 - d) → businessDayAfter hs (n - 1) a ≡ businessDayAfter hs n d
+  unfolding businessDayAfter
+  after-on zero d a l e = absurd (not-suc-le-zero l)
+  after-on (suc n) d a l e = let k : suc n - 1 ≡ n = omega arith in rw (k, ← e)
 
 -- ---- where these days lie
 
@@ -92,7 +93,7 @@ after-bound hs (suc n) d b h l =
     let t = after-bound hs n (s .0) b (s .1 .1) (omega arith) in
     omega arith
 
--- ---- the allowable period
+-- ---- the allowable period, n being how many business days before the proposed one it begins
 
 module _ (hs : List ℤ) (p noChange n : ℕ) (e : n ≡ cond (eqb noChange 1) 4 10) where
   pub period-no-first : none ≡ businessDayBefore hs n p → none ≡ allowablePeriod hs p noChange
@@ -111,14 +112,15 @@ module _ (hs : List ℤ) (p noChange n : ℕ) (e : n ≡ cond (eqb noChange 1) 4
 pub period-bound : (hs : List ℤ) (p noChange a b : ℕ) → allowablePeriod hs p noChange ≡ some (a, b) → p ≤ 39999 → (a < p) × (p < b) × (b ≤ 39999)
 unfolding allowablePeriod
 period-bound hs p noChange a b h l =
-    let s = and-then-some (businessDayBefore hs (cond (eqb noChange 1) 4 10) p) (λ first. andThen (businessDayAfter hs 10 p) (λ last. some (first, last))) (a, b) h in
+    let n : ℕ = cond (eqb noChange 1) 4 10 in
+    let s = and-then-some (businessDayBefore hs n p) (λ first. andThen (businessDayAfter hs 10 p) (λ last. some (first, last))) (a, b) h in
     let t = and-then-some (businessDayAfter hs 10 p) (λ last. some (s .0, last)) (a, b) (s .1 .1) in
     let u : _≡_ {A = Option (ℕ × ℕ)} (some (s .0, t .0)) (some (a, b)) = t .1 .1 in
     let q : _≡_ {A = ℕ × ℕ} (s .0, t .0) (a, b) = cc in
     let f : s .0 ≡ a = ap (λ (w : ℕ × ℕ). w .0) q in
     let g : t .0 ≡ b = ap (λ (w : ℕ × ℕ). w .1) q in
-    omega (arith, before-bound hs (cond (eqb noChange 1) 4 10) p (s .0) (s .1 .0), after-bound hs 10 p (t .0) (t .1 .0) l, some-lead (eqb noChange 1))
+    omega (arith, before-bound hs n p (s .0) (s .1 .0), after-bound hs 10 p (t .0) (t .1 .0) l, some-days (eqb noChange 1))
   where
-    some-lead : (b : Bool) → 4 ≤ cond b 4 10
-    some-lead true = omega arith
-    some-lead false = omega arith
+    some-days : (b : Bool) → 4 ≤ cond b 4 10
+    some-days true = omega arith
+    some-days false = omega arith

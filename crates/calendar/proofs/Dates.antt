@@ -53,7 +53,9 @@ cond-small false x y k h l = l
 
 pub month-length-bound : (y m : ℕ) → monthLength y m ≤ 31
 month-length-bound y m =
-    cond-small (leap y && eqb m 2) 29 (commonLength m) 31 (omega arith) (cond-small (eqb m 2) 28 _ 31 (omega arith) (cond-small (eqb m 4 || eqb m 6 || eqb m 9 || eqb m 11) 30 31 31 (omega arith) (omega arith)))
+    cond-small (leap y && eqb m 2) _ _ 31 (omega arith)
+    (cond-small (eqb m 2) _ _ 31 (omega arith)
+    (cond-small (eqb m 4 || eqb m 6 || eqb m 9 || eqb m 11) 30 31 31 (omega arith) (omega arith)))
 
 and-both : (a b : Bool) → (a && b) ≡ true → (a ≡ true) × (b ≡ true)
 and-both true b e = (refl, e)
@@ -71,7 +73,8 @@ calendar-bound y m d h e =
     let month = and-both _ _ (t .1) in
     let day = and-both _ _ (s .1) in
     let last : d ≤ monthLength y m = leb-true _ _ (day .1) in
-    (leb-true _ _ (year .0), leb-true _ _ (year .1), leb-true _ _ (month .0), leb-true _ _ (month .1), leb-true _ _ (day .0), omega (arith, month-length-bound y m))
+    let small : d ≤ 31 = omega (arith, month-length-bound y m) in
+    (leb-true _ _ (year .0), leb-true _ _ (year .1), leb-true _ _ (month .0), leb-true _ _ (month .1), leb-true _ _ (day .0), small)
 
 module _ (y m d : ℤ) {Y M D : ℕ} {t : Bool} (year : Y ≡ natOf y) (month : M ≡ natOf m) (day : D ≡ natOf d) (tested : t ≡ onCalendar Y M D) where
   date-tests : (t && leb (dayOf Y M D) 39999) ≡ isDate y m d

@@ -66,6 +66,7 @@ fn month_length(year: u64, month: u64) -> u64
     31
 }
 
+// A month of a year from 1970 to 2079, and a day of that month.
 fn on_calendar(year: u64, month: u64, day: u64) -> bool
     ensures { λ r. ⌜ r ≡ (leb 1970 year && leb year 2079 && (leb 1 month && leb month 12) && (leb 1 day && leb day (monthLength year month))) ⌝ }
 {
@@ -73,6 +74,7 @@ fn on_calendar(year: u64, month: u64, day: u64) -> bool
     (1970 <= year) & (year <= 2079) & ((1 <= month) & (month <= 12)) & ((1 <= day) & (day <= last))
 }
 
+// 29 February, counted from March on.
 fn leap_day(year: u64, month: u64) -> u64
     ensures { λ r. ⌜ (r ≡ cond (leap year && ltb 2 month) 1 0) × (r ≤ 1) ⌝ }
 {
@@ -91,7 +93,7 @@ fn day_of(year: u64, month: u64, day: u64) -> u64
     365 * k + (k + 1) / 4 + days_before(month) + leap_day(year, month) + (day - 1)
 }
 
-// The date call.
+// The date call: the day of a date from 1 January 1970 to 7 July 2079, and 2 for any other.
 pub fn date(d: YearMonthDay) -> DateAnswer
     ensures { λ r. ⌜ dateNumbers r ≡ dateCall (d .year) (d .month) (d .day) ⌝ }
 {
@@ -151,7 +153,7 @@ fn ascending(hs: &[i64]) -> bool
     true
 }
 
-// Is a list of holidays as it has to be?
+// Is this a strictly ascending list of at most 512 days?
 pub fn holiday_list(hs: &[i64]) -> bool
     ensures { λ r. ⌜ r ≡ holidayList (now (hs .entry)) ⌝ }
 {
@@ -165,6 +167,7 @@ fn is_weekend(d: Day) -> bool
     (w == 2) | (w == 3)
 }
 
+// A negative number of the list is read as the marker 2^63, which is no day.
 fn is_listed(hs: &[i64], d: Day) -> bool
     requires { ⌜ d .0 < 2 ^ 63 ⌝ }
     ensures { λ r. ⌜ r ≡ listed (now (hs .entry)) (d .0) ⌝ }
@@ -220,6 +223,7 @@ fn first_after(hs: &[i64], d: Day) -> Reached
     Reached::Outside
 }
 
+// The n-th business day before a day, which is not counted itself.
 pub fn business_day_before(hs: &[i64], n: BusinessDays, d: Day) -> Reached
     requires { ⌜ d .0 < 2 ^ 63 ⌝ }
     ensures { λ r. ⌜ reachedDay r ≡ businessDayBefore (now (hs .entry)) (n .0) (d .0) ⌝ }
@@ -236,6 +240,7 @@ pub fn business_day_before(hs: &[i64], n: BusinessDays, d: Day) -> Reached
     Reached::On(Day(day))
 }
 
+// The n-th business day after a day, which is not counted itself.
 pub fn business_day_after(hs: &[i64], n: BusinessDays, d: Day) -> Reached
     requires { ⌜ d .0 ≤ 39999 ⌝ }
     ensures { λ r. ⌜ reachedDay r ≡ businessDayAfter (now (hs .entry)) (n .0) (d .0) ⌝ }

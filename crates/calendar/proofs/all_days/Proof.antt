@@ -25,7 +25,9 @@ is-day-at-requires : tie.Need-is-day-at-requires Inv-loop μ-loop
 is-day-at-requires c κs = search needs
 
 returns : tie.Need-returns Inv-loop μ-loop
-returns c = sym (all-fails _ (c .before .before .before .loop .k) _ (omega arith) (sym (c .before .is-day-at .ensures) ∙ not-true _ (c .if1 .taken)))
+returns c =
+    let fails = sym (c .before .is-day-at .ensures) ∙ not-true _ (c .if1 .taken) in
+    sym (all-fails _ (c .before .before .before .loop .k) _ (omega arith) fails)
 
 add-k : tie.Need-add-k Inv-loop μ-loop
 add-k c = search needs
@@ -34,7 +36,9 @@ loop-less : tie.Need-loop-less Inv-loop μ-loop
 loop-less c = search needs
 
 loop-again : tie.Need-loop-again Inv-loop μ-loop
-loop-again c = (omega arith, all-more _ _ (c .before .before .before .loop .inv .1) (sym (c .before .is-day-at .ensures) ∙ not-false _ (c .if1 .left)))
+loop-again c =
+    let holds = sym (c .before .is-day-at .ensures) ∙ not-false _ (c .if1 .left) in
+    (omega arith, all-more _ _ (c .before .before .before .loop .inv .1) holds)
 
 returns-2 : tie.Need-returns-2 Inv-loop μ-loop
 returns-2 c = all-done _ _ _ (c .before .loop .inv .1) (omega arith)

@@ -37,15 +37,17 @@ enum-told-2 c = search needs
 
 returns-2 : tie.Need-returns-2
 returns-2 c =
-    let s = c .before .before .before .before .before .before .before in
-    let first = c .before .before .before .before in
-    period-no-last _ _ _ _ (lead-is s) _ (sym (ap reachedDay (first .first .given .1)) ∙ first .before .before .business-day-before .ensures) (sym (ap reachedDay (c .enum-told2 .given .1)) ∙ c .before .before .business-day-after .ensures)
+    let s = c .before .before .before .before in
+    let first = sym (ap reachedDay (s .first .given .1)) ∙ s .before .before .business-day-before .ensures in
+    let outside = sym (ap reachedDay (c .enum-told2 .given .1)) ∙ c .before .before .business-day-after .ensures in
+    period-no-last _ _ _ _ (lead-is (s .before .before .before)) _ first outside
 
 returns-3 : tie.Need-returns-3
 returns-3 c =
-    let s = c .before .before .before .before .before .before .before .before in
-    let first = c .before .before .before .before .before in
-    period-whole _ _ _ _ (lead-is s) _ _ (sym (ap reachedDay (first .first .given .1)) ∙ first .before .before .business-day-before .ensures) (sym (ap reachedDay (c .before .last .given .1)) ∙ c .before .before .before .business-day-after .ensures)
+    let s = c .before .before .before .before .before in
+    let first = sym (ap reachedDay (s .first .given .1)) ∙ s .before .before .business-day-before .ensures in
+    let last = sym (ap reachedDay (c .before .last .given .1)) ∙ c .before .before .before .business-day-after .ensures in
+    period-whole _ _ _ _ (lead-is (s .before .before .before)) _ _ first last
 
 pub allowable-period-spec : {M : Type 1} → statement M
 allowable-period-spec =

@@ -29,7 +29,9 @@ shared-slice-copy-out-result-2 c = search needs
 returns : tie.Need-returns
 returns c =
     let a = c .before .before .args in
-    ap₂ ltZ (toZ-ofZ w64 (getD (now (a .hs)) (a .k) (pos 0)) (sfits-of (c .before .result .given))) (toZ-ofZ w64 (getD (now (a .hs)) (a .k + 1) (pos 0)) (sfits-of (c .result2 .given)) ∙ ap (λ j. getD (now (a .hs)) j (pos 0)) (add-one (a .k)))
+    ap₂ ltZ
+    (toZ-ofZ w64 (getD (now (a .hs)) (a .k) (pos 0)) (sfits-of (c .before .result .given)))
+    (toZ-ofZ w64 (getD (now (a .hs)) (a .k + 1) (pos 0)) (sfits-of (c .result2 .given)) ∙ ap (λ j. getD (now (a .hs)) j (pos 0)) (add-one (a .k)))
 
 pub ascends-at-spec : {M : Type 1} → statement M
 ascends-at-spec =

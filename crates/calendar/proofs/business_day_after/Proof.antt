@@ -29,7 +29,8 @@ enum-told c = search needs
 returns : tie.Need-returns Inv-loop μ-loop
 returns c =
     let s = c .before .before .before .before in
-    after-outside _ (s .loop .left) _ (omega arith) (sym (ap reachedDay (c .enum-told .given .1)) ∙ c .before .before .first-after .ensures) ∙ s .loop .inv .1
+    let outside = sym (ap reachedDay (c .enum-told .given .1)) ∙ c .before .before .first-after .ensures in
+    after-outside _ (s .loop .left) _ (omega arith) outside ∙ s .loop .inv .1
 
 sub-left : tie.Need-sub-left Inv-loop μ-loop
 sub-left c = search needs

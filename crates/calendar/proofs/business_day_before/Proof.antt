@@ -29,7 +29,8 @@ enum-told c = search needs
 returns : tie.Need-returns Inv-loop μ-loop
 returns c =
     let s = c .before .before .before .before in
-    before-outside _ (s .loop .left) _ (omega arith) (sym (ap reachedDay (c .enum-told .given .1)) ∙ c .before .before .last-before .ensures) ∙ s .loop .inv .1
+    let outside = sym (ap reachedDay (c .enum-told .given .1)) ∙ c .before .before .last-before .ensures in
+    before-outside _ (s .loop .left) _ (omega arith) outside ∙ s .loop .inv .1
 
 sub-left : tie.Need-sub-left Inv-loop μ-loop
 sub-left c = search needs

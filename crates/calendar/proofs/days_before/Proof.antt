@@ -9,6 +9,7 @@ use Rattle.calendar.proofs.Dates.{month-table, days-before-bound}
 use Rattle.calendar.proofs.days_before.Statement.{statement}
 use Rattle.calendar.proofs.days_before.Tie as tie
 
+-- the code's month table, tested at all of its entries below
 table : List ℕ
 table = 0 ∷ 31 ∷ 59 ∷ 90 ∷ 120 ∷ 151 ∷ 181 ∷ 212 ∷ 243 ∷ 273 ∷ 304 ∷ 334 ∷ []
 
@@ -23,7 +24,9 @@ array-read-result c = search needs
 
 returns : tie.Need-returns
 unfolding table all daysBefore
-returns c = (month-table table refl (c .args .month) (c .pre .0) (c .pre .1), omega (arith, month-table table refl (c .args .month) (c .pre .0) (c .pre .1), days-before-bound (c .args .month) (c .pre .1)))
+returns c =
+    let e = month-table table refl (c .args .month) (c .pre .0) (c .pre .1) in
+    (e, omega (arith, e, days-before-bound (c .args .month) (c .pre .1)))
 
 pub days-before-spec : {M : Type 1} → statement M
 days-before-spec = tie.close (tie.spec sub-result mul-result array-read-result returns)

@@ -25,16 +25,25 @@ is-business-day-requires : tie.Need-is-business-day-requires Inv-loop μ-loop
 is-business-day-requires c κs = search needs
 
 returns : tie.Need-returns Inv-loop μ-loop
-returns c = let s = c .before .before .before in sym (from-hit _ (s .loop .day + 1) (39999 - s .loop .day) (omega arith) (sym (c .before .is-business-day .ensures) ∙ c .if1 .taken)) ∙ s .loop .inv .1
+returns c =
+    let s = c .before .before .before in
+    let hit = sym (c .before .is-business-day .ensures) ∙ c .if1 .taken in
+    sym (from-hit _ (s .loop .day + 1) (39999 - s .loop .day) (omega arith) hit) ∙ s .loop .inv .1
 
 loop-less : tie.Need-loop-less Inv-loop μ-loop
 loop-less c = search needs
 
 loop-again : tie.Need-loop-again Inv-loop μ-loop
-loop-again c = let s = c .before .before .before in let e : 39999 - (s .loop .day + 1) ≡ 39999 - s .loop .day - 1 = omega arith in (omega arith, rw e (sym (from-miss _ (s .loop .day + 1) (39999 - s .loop .day) (omega arith) (sym (c .before .is-business-day .ensures) ∙ c .if1 .left)) ∙ s .loop .inv .1))
+loop-again c =
+    let s = c .before .before .before in
+    let miss = sym (c .before .is-business-day .ensures) ∙ c .if1 .left in
+    let e : 39999 - (s .loop .day + 1) ≡ 39999 - s .loop .day - 1 = omega arith in
+    (omega arith, rw e (sym (from-miss _ (s .loop .day + 1) (39999 - s .loop .day) (omega arith) miss) ∙ s .loop .inv .1))
 
 returns-2 : tie.Need-returns-2 Inv-loop μ-loop
-returns-2 c = let e : 39999 - c .before .loop .day ≡ 0 = omega arith in sym (from-none _ (c .before .loop .day + 1)) ∙ (rw e at (c .before .loop .inv .1))
+returns-2 c =
+    let e : 39999 - c .before .loop .day ≡ 0 = omega arith in
+    sym (from-none _ (c .before .loop .day + 1)) ∙ (rw e at (c .before .loop .inv .1))
 
 pub first-after-spec : {M : Type 1} → statement M
 first-after-spec =

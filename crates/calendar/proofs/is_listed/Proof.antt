@@ -21,7 +21,10 @@ get-requires : tie.Need-get-requires Inv-loop μ-loop
 get-requires c κs = search needs
 
 returns : tie.Need-returns Inv-loop μ-loop
-returns c = let s = c .before .before .before in sym (listed-here _ (s .loop .i) _ (omega arith) (s .before .pre) (sym (c .before .get .ensures .0) ∙ c .if1 .taken)) ∙ s .loop .inv .1
+returns c =
+    let s = c .before .before .before in
+    let same = sym (c .before .get .ensures .0) ∙ c .if1 .taken in
+    sym (listed-here _ (s .loop .i) _ (omega arith) (s .before .pre) same) ∙ s .loop .inv .1
 
 add-i : tie.Need-add-i Inv-loop μ-loop
 add-i c = search needs
@@ -30,7 +33,12 @@ loop-less : tie.Need-loop-less Inv-loop μ-loop
 loop-less c = search needs
 
 loop-again : tie.Need-loop-again Inv-loop μ-loop
-loop-again c = let s = c .before .before .before in (omega arith, sym (listed-later _ (s .loop .i) _ (omega arith) (λ q. c .if1 .left (c .before .get .ensures .0 ∙ q))) ∙ s .loop .inv .1)
+loop-again c =
+    let s = c .before .before .before in (
+      omega arith,
+      sym
+          (listed-later _ (s .loop .i) _ (omega arith) (λ q. c .if1 .left (c .before .get .ensures .0 ∙ q))) ∙ s .loop .inv .1,
+    )
 
 returns-2 : tie.Need-returns-2 Inv-loop μ-loop
 returns-2 c = sym (listed-none _ (c .before .loop .i) _ (omega arith)) ∙ c .before .loop .inv .1

@@ -24,16 +24,24 @@ is-business-day-requires : tie.Need-is-business-day-requires Inv-loop μ-loop
 is-business-day-requires c κs = search needs
 
 returns : tie.Need-returns Inv-loop μ-loop
-returns c = let s = c .before .before .before in sym (below-hit _ (s .loop .day) (omega arith) (sym (c .before .is-business-day .ensures) ∙ c .if1 .taken)) ∙ s .loop .inv .1
+returns c =
+    let s = c .before .before .before in
+    let hit = sym (c .before .is-business-day .ensures) ∙ c .if1 .taken in
+    sym (below-hit _ (s .loop .day) (omega arith) hit) ∙ s .loop .inv .1
 
 loop-less : tie.Need-loop-less Inv-loop μ-loop
 loop-less c = search needs
 
 loop-again : tie.Need-loop-again Inv-loop μ-loop
-loop-again c = let s = c .before .before .before in (omega arith, sym (below-miss _ (s .loop .day) (omega arith) (sym (c .before .is-business-day .ensures) ∙ c .if1 .left)) ∙ s .loop .inv .1)
+loop-again c =
+    let s = c .before .before .before in
+    let miss = sym (c .before .is-business-day .ensures) ∙ c .if1 .left in
+    (omega arith, sym (below-miss _ (s .loop .day) (omega arith) miss) ∙ s .loop .inv .1)
 
 returns-2 : tie.Need-returns-2 Inv-loop μ-loop
-returns-2 c = let e : c .before .loop .day ≡ 0 = omega arith in sym (below-none _) ∙ (rw e at (c .before .loop .inv .1))
+returns-2 c =
+    let e : c .before .loop .day ≡ 0 = omega arith in
+    sym (below-none _) ∙ (rw e at (c .before .loop .inv .1))
 
 pub last-before-spec : {M : Type 1} → statement M
 last-before-spec =
