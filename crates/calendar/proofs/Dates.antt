@@ -3,6 +3,7 @@ use mathlib.Core.Path.{_≡_, refl, sym, ap, ap₂, _∙_}
 use mathlib.Core.Bool.{Bool, true, false, _&&_, _||_, and-false, cond}
 use mathlib.Core.List.{List, [], _∷_}
 use Prim.Native.Nat.{ℕ, zero, suc, _+_, _-_, _*_, _/_, _%_, _^_, _≤_, _<_}
+use native.Mathlib.Nat.{le-trans}
 use native.Mathlib.Omega.{arith}
 use borrow.Author.Tests.{eqb-true, eqb-false, leb-true, le-leb, lt-leb}
 use lib.Dec.{leb, eqb}
@@ -73,7 +74,7 @@ calendar-bound y m d h e =
     let month = and-both _ _ (t .1) in
     let day = and-both _ _ (s .1) in
     let last : d ≤ monthLength y m = leb-true _ _ (day .1) in
-    let small : d ≤ 31 = omega (arith, month-length-bound y m) in
+    let small : d ≤ 31 = le-trans last (month-length-bound y m) in
     (leb-true _ _ (year .0), leb-true _ _ (year .1), leb-true _ _ (month .0), leb-true _ _ (month .1), leb-true _ _ (day .0), small)
 
 module _ (y m d : ℤ) {Y M D : ℕ} {t : Bool} (year : Y ≡ natOf y) (month : M ≡ natOf m) (day : D ≡ natOf d) (tested : t ≡ onCalendar Y M D) where
