@@ -1,5 +1,5 @@
 -- Business days and the allowable period (clause 1.2.1).
-use mathlib.Core.Bool.{Bool, true, false, not, _&&_, _||_, cond}
+use mathlib.Core.Bool.{Bool, false, not, _&&_, _||_, cond}
 use mathlib.Core.Option.{Option, none, some}
 use mathlib.Core.List.{List, [], _∷_}
 use Prim.Native.Nat.{ℕ, zero, suc, _-_, _%_}
@@ -11,6 +11,10 @@ use Rattle.numbers.specs.Naturals.{sameZ}
 use Rattle.numbers.specs.Rows.{all}
 use Rattle.numbers.specs.Search.{firstFrom, lastBelow}
 use Rattle.calendar.specs.Dates.{isDay}
+use Rattle.calendar.specs.declared.Reached.{Reached}
+use Rattle.calendar.specs.declared.Reached.the-variants.{On, Outside}
+use Rattle.calendar.specs.declared.Period.{Period}
+use Rattle.calendar.specs.declared.Period.the-variants.{Window, Outside as NoWindow}
 
 -- Day 0 is a Thursday, so that a day's remainder by 7 is 2 on a Saturday and 3 on a Sunday.
 abbrev pub weekend : ℕ → Bool
@@ -51,3 +55,12 @@ unfoldable pub allowablePeriod : List ℤ → ℕ → ℕ → Option (ℕ × ℕ
 allowablePeriod hs proposed noChange =
     andThen (businessDayBefore hs (cond (eqb noChange 1) 4 10) proposed) (λ first.
     andThen (businessDayAfter hs 10 proposed) (λ last. some (first, last)))
+
+-- The answers of the code, as these definitions have them.
+abbrev pub reachedDay : Reached → Option ℕ
+reachedDay (On d) = some (d .0)
+reachedDay Outside = none
+
+abbrev pub periodDays : Period → Option (ℕ × ℕ)
+periodDays (Window first last) = some (first .0, last .0)
+periodDays NoWindow = none

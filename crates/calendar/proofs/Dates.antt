@@ -1,0 +1,101 @@
+-- Dates: the month table's rule, 1 January by division, and dates read as naturals. Assumes nothing.
+use mathlib.Core.Path.{_≡_, refl, sym, ap, ap₂, _∙_}
+use mathlib.Core.Bool.{Bool, true, false, _&&_, _||_, and-false, cond}
+use mathlib.Core.List.{List, [], _∷_}
+use Prim.Native.Nat.{ℕ, zero, suc, _+_, _-_, _*_, _/_, _%_, _^_, _≤_, _<_}
+use native.Mathlib.Nat.{le-trans}
+use native.Mathlib.Omega.{arith}
+use borrow.Author.Tests.{eqb-true, eqb-false, leb-true, le-leb, lt-leb}
+use lib.Dec.{leb, eqb}
+use lib.IntN.{ℤ, pos, negsuc}
+use lib.ListN.{getD}
+use Rattle.numbers.specs.Naturals.{natOf}
+use Rattle.numbers.specs.Rows.{all}
+use Rattle.numbers.proofs.Rows.{all-at}
+use Rattle.calendar.specs.Dates.{within, isDay, leap, commonLength, monthLength, daysBefore, newYear, dayOf, isDate, dateCall}
+
+-- a table of twelve numbers that passes the test holds the days before each month
+abbrev rule : List ℕ → ℕ → Bool
+rule table k = eqb (getD table k 0) (daysBefore (suc k))
+
+pub month-table : (table : List ℕ) → all (rule table) 12 ≡ true → (m : ℕ) → 1 ≤ m → m ≤ 12 → getD table (m - 1) 0 ≡ daysBefore m
+month-table table e m l h =
+    let k : suc (m - 1) ≡ m = omega arith in
+    eqb-true _ _ (all-at (rule table) 12 e (m - 1) (omega arith)) ∙ ap daysBefore k
+
+pub days-before-bound : (m : ℕ) → m ≤ 12 → daysBefore m ≤ 334
+unfolding daysBefore all
+days-before-bound m h = leb-true _ _ (all-at (λ k. leb (daysBefore k) 334) 13 refl m (omega arith))
+
+-- 1 January of the year 1970 + k, with no recursion
+pub new-year : (k : ℕ) → newYear k ≡ 365 * k + (k + 1) / 4
+unfolding newYear
+new-year zero = refl
+new-year (suc k) = go (new-year k) (leap (1970 + k)) refl
+  where
+    go : newYear k ≡ 365 * k + (k + 1) / 4 → (b : Bool) → leap (1970 + k) ≡ b → newYear k + cond b 366 365 ≡ 365 * suc k + (suc k + 1) / 4
+    go h true e = let l : (1970 + k) % 4 ≡ 0 = eqb-true _ _ e in omega arith
+    go h false e = let l : (1970 + k) % 4 ≡ 0 → ⊥ = eqb-false _ _ e in omega arith
+
+-- bounds of a number are bounds of its natural
+pub within-natural : (lo hi : ℕ) (z : ℤ) → hi < 2 ^ 63 → (leb lo (natOf z) && leb (natOf z) hi) ≡ within (pos lo) (pos hi) z
+within-natural lo hi (pos n) h = refl
+within-natural lo hi (negsuc n) h = rw (lt-leb (2 ^ 63) hi h) (and-false (leb lo (2 ^ 63)))
+
+pub day-natural : (z : ℤ) → leb (natOf z) 39999 ≡ isDay z
+day-natural (pos n) = rw (le-leb 0 n (omega arith))
+day-natural (negsuc n) = refl
+
+-- ---- the date call
+
+cond-small : (b : Bool) (x y k : ℕ) → x ≤ k → y ≤ k → cond b x y ≤ k
+cond-small true x y k h l = h
+cond-small false x y k h l = l
+
+pub month-length-bound : (y m : ℕ) → monthLength y m ≤ 31
+month-length-bound y m =
+    cond-small (leap y && eqb m 2) _ _ 31 (omega arith)
+    (cond-small (eqb m 2) _ _ 31 (omega arith)
+    (cond-small (eqb m 4 || eqb m 6 || eqb m 9 || eqb m 11) 30 31 31 (omega arith) (omega arith)))
+
+and-both : (a b : Bool) → (a && b) ≡ true → (a ≡ true) × (b ≡ true)
+and-both true b e = (refl, e)
+and-both false b e = let z : _≡_ {A = ℕ} 0 1 = cc in absurd (omega arith)
+
+-- the code's tests, on the naturals that it reads
+abbrev pub onCalendar : ℕ → ℕ → ℕ → Bool
+onCalendar y m d = leb 1970 y && leb y 2079 && (leb 1 m && leb m 12) && (leb 1 d && leb d (monthLength y m))
+
+pub calendar-bound : (y m d : ℕ) {t : Bool} → t ≡ onCalendar y m d → t ≡ true → (1970 ≤ y) × (y ≤ 2079) × (1 ≤ m) × (m ≤ 12) × (1 ≤ d) × (d ≤ 31)
+calendar-bound y m d h e =
+    let s = and-both _ _ (sym h ∙ e) in
+    let t = and-both _ _ (s .0) in
+    let year = and-both _ _ (t .0) in
+    let month = and-both _ _ (t .1) in
+    let day = and-both _ _ (s .1) in
+    let last : d ≤ monthLength y m = leb-true _ _ (day .1) in
+    let small : d ≤ 31 = le-trans last (month-length-bound y m) in
+    (leb-true _ _ (year .0), leb-true _ _ (year .1), leb-true _ _ (month .0), leb-true _ _ (month .1), leb-true _ _ (day .0), small)
+
+module _ (y m d : ℤ) {Y M D : ℕ} {t : Bool} (year : Y ≡ natOf y) (month : M ≡ natOf m) (day : D ≡ natOf d) (tested : t ≡ onCalendar Y M D) where
+  date-tests : (t && leb (dayOf Y M D) 39999) ≡ isDate y m d
+  unfolding isDate
+  date-tests =
+      rw (tested, year, month, day)
+      (ap₂ _&&_
+      (ap₂ _&&_
+      (ap₂ _&&_ (within-natural 1970 2079 y (omega arith)) (within-natural 1 12 m (omega arith)))
+      (within-natural 1 (monthLength (natOf y) (natOf m)) d (omega (arith, month-length-bound (natOf y) (natOf m)))))
+      refl)
+
+  pub date-off : t ≡ false → pos 2 ∷ pos 0 ∷ [] ≡ dateCall y m d
+  unfolding dateCall
+  date-off e = rw (← date-tests, e)
+
+  pub date-late : {n : ℕ} → t ≡ true → n ≡ dayOf Y M D → 39999 < n → pos 2 ∷ pos 0 ∷ [] ≡ dateCall y m d
+  unfolding dateCall
+  date-late {n} e k l = rw (← date-tests, ← k, e, lt-leb n 39999 l)
+
+  pub date-day : {n : ℕ} → t ≡ true → n ≡ dayOf Y M D → n ≤ 39999 → pos 0 ∷ pos n ∷ [] ≡ dateCall y m d
+  unfolding dateCall
+  date-day {n} e k l = rw (← date-tests, ← year, ← month, ← day, ← k, e, le-leb n 39999 l)

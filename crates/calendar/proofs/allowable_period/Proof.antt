@@ -1,0 +1,64 @@
+use mathlib.Core.Bool.{cond}
+use mathlib.Core.Logic.{⊎-elim}
+use mathlib.Core.Path.{_≡_, sym, ap, _∙_}
+use borrow.Author.Needs.{needs}
+use borrow.Author.Tests.{eq-eqb, ne-eqb}
+use lib.Dec.{eqb}
+use Rattle.calendar.specs.Business.{reachedDay}
+use Rattle.calendar.proofs.Business.{period-no-first, period-no-last, period-whole}
+use Rattle.calendar.proofs.allowable_period.Statement.{statement}
+use Rattle.calendar.proofs.allowable_period.Tie as tie
+
+business-day-before-requires : tie.Need-business-day-before-requires
+business-day-before-requires c κs = search needs
+
+enum-known-first : tie.Need-enum-known-first
+enum-known-first c = search needs
+
+enum-told : tie.Need-enum-told
+enum-told c = search needs
+
+lead-is : (c : tie.Joined1) → c .if1 .lead ≡ cond (eqb (c .before .args .no-change) 1) 4 10
+lead-is c = ⊎-elim (λ w. w .1 ∙ rw (eq-eqb _ _ (w .0 .taken))) (λ w. w .1 ∙ rw (ne-eqb _ _ (w .0 .left))) (c .if1 .came)
+
+returns : tie.Need-returns
+returns c =
+    let s = c .before .before .before in
+    period-no-first _ _ _ _ (lead-is s) (sym (ap reachedDay (c .enum-told .given .1)) ∙ c .before .before .business-day-before .ensures)
+
+business-day-after-requires : tie.Need-business-day-after-requires
+business-day-after-requires c κs = search needs
+
+enum-known-last : tie.Need-enum-known-last
+enum-known-last c = search needs
+
+enum-told-2 : tie.Need-enum-told-2
+enum-told-2 c = search needs
+
+returns-2 : tie.Need-returns-2
+returns-2 c =
+    let s = c .before .before .before .before in
+    let first = sym (ap reachedDay (s .first .given .1)) ∙ s .before .before .business-day-before .ensures in
+    let outside = sym (ap reachedDay (c .enum-told2 .given .1)) ∙ c .before .before .business-day-after .ensures in
+    period-no-last _ _ _ _ (lead-is (s .before .before .before)) _ first outside
+
+returns-3 : tie.Need-returns-3
+returns-3 c =
+    let s = c .before .before .before .before .before in
+    let first = sym (ap reachedDay (s .first .given .1)) ∙ s .before .before .business-day-before .ensures in
+    let last = sym (ap reachedDay (c .before .last .given .1)) ∙ c .before .before .before .business-day-after .ensures in
+    period-whole _ _ _ _ (lead-is (s .before .before .before)) _ _ first last
+
+pub allowable-period-spec : {M : Type 1} → statement M
+allowable-period-spec =
+    tie.close
+    (tie.spec
+    business-day-before-requires
+    enum-known-first
+    enum-told
+    returns
+    business-day-after-requires
+    enum-known-last
+    enum-told-2
+    returns-2
+    returns-3)

@@ -1,0 +1,64 @@
+use mathlib.Core.Path.{ap, _≡_, refl, sym, _∙_}
+use Prim.Native.Nat.{_≤_}
+use native.Mathlib.Omega.{arith}
+use borrow.Author.Needs.{needs}
+use Rattle.numbers.proofs.Search.{from-bound}
+use Rattle.calendar.specs.Business.{reachedDay, businessDayAfter}
+use Rattle.calendar.proofs.Business.{after-none, after-outside, after-on}
+use Rattle.calendar.proofs.business_day_after.Statement.{statement}
+use Rattle.calendar.proofs.business_day_after.Tie as tie
+
+abbrev Inv-loop : tie.InvT-loop
+Inv-loop hs left₀ day₀ left day = (day ≤ 39999) × (businessDayAfter hs left day ≡ businessDayAfter hs left₀ day₀)
+
+abbrev μ-loop : tie.MeasureT-loop
+μ-loop hs left₀ day₀ left day = left
+
+loop-holds : tie.Need-loop-holds Inv-loop μ-loop
+loop-holds c = (omega arith, refl)
+
+first-after-requires : tie.Need-first-after-requires Inv-loop μ-loop
+first-after-requires c κs = search needs
+
+enum-known-reached : tie.Need-enum-known-reached Inv-loop μ-loop
+enum-known-reached c = search needs
+
+enum-told : tie.Need-enum-told Inv-loop μ-loop
+enum-told c = search needs
+
+returns : tie.Need-returns Inv-loop μ-loop
+returns c =
+    let s = c .before .before .before .before in
+    let outside = sym (ap reachedDay (c .enum-told .given .1)) ∙ c .before .before .first-after .ensures in
+    after-outside _ (s .loop .left) _ (omega arith) outside ∙ s .loop .inv .1
+
+sub-left : tie.Need-sub-left Inv-loop μ-loop
+sub-left c = search needs
+
+loop-less : tie.Need-loop-less Inv-loop μ-loop
+loop-less c = search needs
+
+loop-again : tie.Need-loop-again Inv-loop μ-loop
+loop-again c =
+    let s = c .before .before .before .before .before in
+    let on = sym (ap reachedDay (c .before .reached .given .1)) ∙ c .before .before .before .first-after .ensures in
+    (omega (arith, from-bound _ _ _ _ (sym on)), after-on _ (s .loop .left) _ _ (omega arith) on ∙ s .loop .inv .1)
+
+returns-2 : tie.Need-returns-2 Inv-loop μ-loop
+returns-2 c = after-none _ _ _ (omega arith) ∙ c .before .loop .inv .1
+
+pub business-day-after-spec : {M : Type 1} → statement M
+business-day-after-spec =
+    tie.close
+    (tie.spec
+    Inv-loop
+    μ-loop
+    loop-holds
+    first-after-requires
+    enum-known-reached
+    enum-told
+    returns
+    sub-left
+    loop-less
+    loop-again
+    returns-2)

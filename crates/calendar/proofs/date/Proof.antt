@@ -1,0 +1,69 @@
+use mathlib.Core.Path.{_≡_, ap, _∙_}
+use mir.Syntax.{w64}
+use mir.ValLaws.{toZ-ofZ}
+use borrow.Author.Needs.{sfits-of, needs}
+use borrow.Author.Tests.{not-true, not-false}
+use Rattle.numbers.specs.Naturals.{natOf}
+use Rattle.calendar.proofs.Dates.{calendar-bound, date-off, date-late, date-day}
+use Rattle.calendar.proofs.date.Statement.{statement}
+use Rattle.calendar.proofs.date.Tie as tie
+
+natural-requires : tie.Need-natural-requires
+natural-requires c κs = search needs
+
+natural-requires-2 : tie.Need-natural-requires-2
+natural-requires-2 c κs = search needs
+
+natural-requires-3 : tie.Need-natural-requires-3
+natural-requires-3 c κs = search needs
+
+on-calendar-requires : tie.Need-on-calendar-requires
+on-calendar-requires c κs = search needs
+
+year-is : (c : tie.After-natural) → c .natural .result ≡ natOf (c .before .before .before .before .args .d .year)
+year-is c =
+    let s = c .before in
+    c .natural .ensures .0 ∙ ap natOf (toZ-ofZ w64 (s .before .before .before .args .d .year) (sfits-of (s .struct-told3 .given .0 .1)))
+
+month-is : (c : tie.After-natural2) → c .natural2 .result ≡ natOf (c .before .before .before .before .before .args .d .month)
+month-is c =
+    let s = c .before .before in
+    c .natural2 .ensures .0 ∙ ap natOf (toZ-ofZ w64 (s .before .before .before .args .d .month) (sfits-of (s .struct-told3 .given .1 .0 .1)))
+
+day-is : (c : tie.After-natural3) → c .natural3 .result ≡ natOf (c .before .before .before .before .before .before .args .d .day)
+day-is c =
+    let s = c .before .before .before in
+    c .natural3 .ensures .0 ∙ ap natOf (toZ-ofZ w64 (s .before .before .before .args .d .day) (sfits-of (s .struct-told3 .given .1 .1 .0 .1)))
+
+returns : tie.Need-returns
+returns c =
+    let n = c .before .before in
+    date-off _ _ _ (year-is (n .before .before)) (month-is (n .before)) (day-is n) (c .before .on-calendar .ensures) (not-true _ (c .if1 .taken))
+
+day-of-requires : tie.Need-day-of-requires
+day-of-requires c κs = calendar-bound _ _ _ (c .before .on-calendar .ensures) (not-false _ (c .if1 .left))
+
+returns-2 : tie.Need-returns-2
+returns-2 c =
+    let t = c .before .before in
+    let n = t .before .before in
+    date-late _ _ _ (year-is (n .before .before)) (month-is (n .before)) (day-is n) (t .before .on-calendar .ensures) (not-false _ (t .if1 .left)) (c .before .day-of .ensures) (c .if2 .taken)
+
+returns-3 : tie.Need-returns-3
+returns-3 c =
+    let t = c .before .before in
+    let n = t .before .before in
+    date-day _ _ _ (year-is (n .before .before)) (month-is (n .before)) (day-is n) (t .before .on-calendar .ensures) (not-false _ (t .if1 .left)) (c .before .day-of .ensures) (c .if2 .left)
+
+pub date-spec : {M : Type 1} → statement M
+date-spec =
+    tie.close
+    (tie.spec
+    natural-requires
+    natural-requires-2
+    natural-requires-3
+    on-calendar-requires
+    returns
+    day-of-requires
+    returns-2
+    returns-3)
