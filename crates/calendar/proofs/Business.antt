@@ -13,9 +13,9 @@ use lib.IntN.{ℤ, pos, negsuc}
 use lib.ListN.{length, getD, drop}
 use lib.Seq.{drop-cons, drop-length}
 use Rattle.numbers.specs.Naturals.{natOf, sameZ}
-use Rattle.numbers.specs.Search.{firstFrom, lastBelow}
+use Rattle.numbers.specs.Search.{maybe, firstFrom, lastBelow}
 use Rattle.numbers.proofs.Search.{below-bound, from-bound}
-use Rattle.calendar.specs.Business.{listed, businessDay, andThen, businessDayBefore, businessDayAfter, allowablePeriod}
+use Rattle.calendar.specs.Calendar.{listed, businessDay, businessDayBefore, businessDayAfter, allowablePeriod}
 
 -- ---- holidays, by a loop over the list
 
@@ -73,22 +73,22 @@ module _ (hs : List ℤ) where
 
 -- ---- where these days lie
 
-and-then-some : {A B : Type 0} (o : Option A) (f : A → Option B) (b : B) → andThen o f ≡ some b → (a : A) × ((o ≡ some a) × (f a ≡ some b))
-and-then-some none f b h = let z : _≡_ {A = ℕ} 0 1 = cc in absurd (omega arith)
-and-then-some (some a) f b h = (a, (refl, h))
+maybe-some : {A B : Type 0} (o : Option A) (f : A → Option B) (b : B) → maybe none f o ≡ some b → (a : A) × ((o ≡ some a) × (f a ≡ some b))
+maybe-some none f b h = let z : _≡_ {A = ℕ} 0 1 = cc in absurd (omega arith)
+maybe-some (some a) f b h = (a, (refl, h))
 
 pub before-bound : (hs : List ℤ) (n d a : ℕ) → businessDayBefore hs n d ≡ some a → a + n ≤ d
 unfolding businessDayBefore
 before-bound hs zero d a h = let e : d ≡ a = cc in omega arith
 before-bound hs (suc n) d a h =
-    let s = and-then-some (lastBelow (businessDay hs) d) (businessDayBefore hs n) a h in
+    let s = maybe-some (lastBelow (businessDay hs) d) (businessDayBefore hs n) a h in
     omega (arith, below-bound (businessDay hs) d (s .0) (s .1 .0), before-bound hs n (s .0) a (s .1 .1))
 
 pub after-bound : (hs : List ℤ) (n d b : ℕ) → businessDayAfter hs n d ≡ some b → d ≤ 39999 → (d + n ≤ b) × (b ≤ 39999)
 unfolding businessDayAfter
 after-bound hs zero d b h l = let e : d ≡ b = cc in omega arith
 after-bound hs (suc n) d b h l =
-    let s = and-then-some (firstFrom (businessDay hs) (suc d) (39999 - d)) (businessDayAfter hs n) b h in
+    let s = maybe-some (firstFrom (businessDay hs) (suc d) (39999 - d)) (businessDayAfter hs n) b h in
     let k = from-bound (businessDay hs) (suc d) (39999 - d) (s .0) (s .1 .0) in
     let t = after-bound hs n (s .0) b (s .1 .1) (omega arith) in
     omega arith
@@ -113,8 +113,8 @@ pub period-bound : (hs : List ℤ) (p noChange a b : ℕ) → allowablePeriod hs
 unfolding allowablePeriod
 period-bound hs p noChange a b h l =
     let n : ℕ = cond (eqb noChange 1) 4 10 in
-    let s = and-then-some (businessDayBefore hs n p) (λ first. andThen (businessDayAfter hs 10 p) (λ last. some (first, last))) (a, b) h in
-    let t = and-then-some (businessDayAfter hs 10 p) (λ last. some (s .0, last)) (a, b) (s .1 .1) in
+    let s = maybe-some (businessDayBefore hs n p) (λ first. maybe none (λ last. some (first, last)) (businessDayAfter hs 10 p)) (a, b) h in
+    let t = maybe-some (businessDayAfter hs 10 p) (λ last. some (s .0, last)) (a, b) (s .1 .1) in
     let u : _≡_ {A = Option (ℕ × ℕ)} (some (s .0, t .0)) (some (a, b)) = t .1 .1 in
     let q : _≡_ {A = ℕ × ℕ} (s .0, t .0) (a, b) = cc in
     let f : s .0 ≡ a = ap (λ (w : ℕ × ℕ). w .0) q in

@@ -12,7 +12,7 @@ use lib.ListN.{getD}
 use Rattle.numbers.specs.Naturals.{natOf}
 use Rattle.numbers.specs.Rows.{all}
 use Rattle.numbers.proofs.Rows.{all-at}
-use Rattle.calendar.specs.Dates.{within, isDay, leap, commonLength, monthLength, daysBefore, newYear, dayOf, isDate, dateCall}
+use Rattle.calendar.specs.Calendar.{within, isDay, leap, commonLength, monthLength, daysBefore, newYear, dayOf, isDate, dateCall}
 
 -- a table of twelve numbers that passes the test holds the days before each month
 abbrev rule : List ℕ → ℕ → Bool

@@ -1,3 +1,1 @@
--- Days, dates and business days (document 01, "Days and units").
-pub mod Dates
-pub mod Business
+pub mod Calendar

@@ -9,8 +9,7 @@ ghost use lib.ListN.{length, getD};
 ghost use lib.Signed.{ltZ};
 ghost use Rattle.numbers.specs.Rows.{all};
 ghost use Rattle.numbers.specs.Search.{firstFrom, lastBelow};
-ghost use Rattle.calendar.specs.Dates.{isDay, leap, daysBefore, monthLength, dayOf, dateNumbers, dateCall};
-ghost use Rattle.calendar.specs.Business.{weekend, holidayList, listed, businessDay, businessDayBefore, businessDayAfter, allowablePeriod, reachedDay, periodDays};
+ghost use Rattle.calendar.specs.Calendar.{isDay, leap, daysBefore, monthLength, dayOf, dateNumbers, dateCall, weekend, holidayList, listed, businessDay, businessDayBefore, businessDayAfter, allowablePeriod, reachedDay, periodDays};
 
 // A day, counted from 1 January 1970 = 0.
 pub struct Day(pub u64);

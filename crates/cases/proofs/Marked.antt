@@ -5,8 +5,7 @@ use mathlib.Core.List.{List, [], _∷_, map}
 use Prim.Native.Nat.{ℕ}
 use lib.IntN.{ℤ, pos, negsuc}
 use Rattle.numbers.specs.Shares.{floorPart, share}
-use Rattle.calendar.specs.Dates.{dateCall, isDate, dayOf, newYear, daysBefore}
-use Rattle.calendar.specs.Business.{allowablePeriod}
+use Rattle.calendar.specs.Calendar.{dateCall, isDate, dayOf, newYear, daysBefore, allowablePeriod}
 use Rattle.daybook.specs.Book.{Edition}
 use Rattle.daybook.specs.Queries.{split}
 use Rattle.daybook.specs.Calls.{Call}

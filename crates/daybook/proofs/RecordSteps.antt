@@ -10,7 +10,7 @@ use lib.Dec.{leb, eqb}
 use lib.ListN.{length, length-append}
 use lib.IntN.{pos, negsuc}
 use borrow.Author.Tests.{leb-false, eqb-true, lt-leb, lt-ltb, le-ltb, eq-eqb, ne-eqb}
-use Rattle.calendar.specs.Dates.{within}
+use Rattle.calendar.specs.Calendar.{within}
 use Rattle.daybook.specs.Book.{Entry, fromOn, covers, fill}
 use Rattle.daybook.specs.Notices.{Which, append, replacement, recut, whichOf, kept, fitsKind}
 use Rattle.daybook.proofs.Lists.{offOn, entryOn}

@@ -9,7 +9,7 @@ use lib.ListN.{length}
 use lib.IntN.{ℤ, pos}
 use Rattle.numbers.specs.Naturals.{natOf}
 use Rattle.numbers.specs.Search.{maybe, isSome}
-use Rattle.calendar.specs.Business.{allowablePeriod}
+use Rattle.calendar.specs.Calendar.{allowablePeriod}
 use Rattle.daybook.specs.declared.Ranges.{Ranges}
 use Rattle.daybook.specs.declared.Opening.{Opening}
 use Rattle.daybook.specs.declared.EnergyNotice.{EnergyNotice}

@@ -7,7 +7,7 @@ use Prim.Native.Nat.{ℕ, suc, _≤_, _<_}
 use lib.Dec.{eqb}
 use lib.ListN.{length}
 use lib.IntN.{ℤ, pos, negsuc}
-use Rattle.calendar.specs.Dates.{within}
+use Rattle.calendar.specs.Calendar.{within}
 use Rattle.daybook.specs.Book.{Entry, Pending, Facts, Edition}
 use Rattle.daybook.specs.Notices.{fitsKind, isRange}
 use Rattle.daybook.proofs.Lists.{Lists, Register, offOn}

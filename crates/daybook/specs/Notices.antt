@@ -9,8 +9,7 @@ use lib.IntN.{ℤ, pos, negsuc, natAbs}
 use lib.Signed.{leZ}
 use Rattle.numbers.specs.Naturals.{natOf}
 use Rattle.numbers.specs.Search.{maybe, isSome, firstFrom}
-use Rattle.calendar.specs.Dates.{within, isDay}
-use Rattle.calendar.specs.Business.{holidayList, allowablePeriod}
+use Rattle.calendar.specs.Calendar.{within, isDay, holidayList, allowablePeriod}
 use Rattle.daybook.specs.declared.Ranges.{Ranges}
 use Rattle.daybook.specs.declared.Opening.{Opening}
 use Rattle.daybook.specs.declared.EnergyNotice.{EnergyNotice}

@@ -10,7 +10,7 @@ use Rattle.numbers.specs.Naturals.{natOf}
 use Rattle.numbers.specs.Search.{isSome, firstFrom}
 use Rattle.numbers.specs.Sums.{sumOver}
 use Rattle.numbers.specs.Shares.{floorPart}
-use Rattle.calendar.specs.Dates.{within, isDay}
+use Rattle.calendar.specs.Calendar.{within, isDay}
 use Rattle.daybook.specs.declared.AccountQuery.{AccountQuery}
 use Rattle.daybook.specs.declared.AllocationQuery.{AllocationQuery}
 use Rattle.daybook.specs.Book.{Point, Book, filled, dayShare}

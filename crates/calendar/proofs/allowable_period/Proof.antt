@@ -4,7 +4,7 @@ use mathlib.Core.Path.{_≡_, sym, ap, _∙_}
 use borrow.Author.Needs.{needs}
 use borrow.Author.Tests.{eq-eqb, ne-eqb}
 use lib.Dec.{eqb}
-use Rattle.calendar.specs.Business.{reachedDay}
+use Rattle.calendar.specs.Calendar.{reachedDay}
 use Rattle.calendar.proofs.Business.{period-no-first, period-no-last, period-whole}
 use Rattle.calendar.proofs.allowable_period.Statement.{statement}
 use Rattle.calendar.proofs.allowable_period.Tie as tie

@@ -3,7 +3,7 @@ use Prim.Native.Nat.{_≤_}
 use native.Mathlib.Omega.{arith}
 use borrow.Author.Needs.{needs}
 use Rattle.numbers.proofs.Search.{from-bound}
-use Rattle.calendar.specs.Business.{reachedDay, businessDayAfter}
+use Rattle.calendar.specs.Calendar.{reachedDay, businessDayAfter}
 use Rattle.calendar.proofs.Business.{after-none, after-outside, after-on}
 use Rattle.calendar.proofs.business_day_after.Statement.{statement}
 use Rattle.calendar.proofs.business_day_after.Tie as tie

@@ -3,7 +3,7 @@ use Prim.Native.Nat.{_^_, _<_}
 use native.Mathlib.Omega.{arith}
 use borrow.Author.Needs.{needs}
 use Rattle.numbers.proofs.Search.{below-bound}
-use Rattle.calendar.specs.Business.{reachedDay, businessDayBefore}
+use Rattle.calendar.specs.Calendar.{reachedDay, businessDayBefore}
 use Rattle.calendar.proofs.Business.{before-none, before-outside, before-on}
 use Rattle.calendar.proofs.business_day_before.Statement.{statement}
 use Rattle.calendar.proofs.business_day_before.Tie as tie

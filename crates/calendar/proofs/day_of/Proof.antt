@@ -1,5 +1,5 @@
 use borrow.Author.Needs.{needs}
-use Rattle.calendar.specs.Dates.{dayOf}
+use Rattle.calendar.specs.Calendar.{dayOf}
 use Rattle.calendar.proofs.Dates.{new-year}
 use Rattle.calendar.proofs.day_of.Statement.{statement}
 use Rattle.calendar.proofs.day_of.Tie as tie

@@ -4,7 +4,7 @@ use Prim.Native.Nat.{ℕ}
 use native.Mathlib.Omega.{arith}
 use borrow.Author.Needs.{needs}
 use Rattle.numbers.specs.Rows.{all}
-use Rattle.calendar.specs.Dates.{daysBefore}
+use Rattle.calendar.specs.Calendar.{daysBefore}
 use Rattle.calendar.proofs.Dates.{month-table, days-before-bound}
 use Rattle.calendar.proofs.days_before.Statement.{statement}
 use Rattle.calendar.proofs.days_before.Tie as tie

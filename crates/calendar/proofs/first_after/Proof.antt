@@ -5,7 +5,7 @@ use native.Mathlib.Omega.{arith}
 use borrow.Author.Needs.{needs}
 use Rattle.numbers.proofs.Search.{from-none, from-hit, from-miss}
 use Rattle.numbers.specs.Search.{firstFrom}
-use Rattle.calendar.specs.Business.{businessDay}
+use Rattle.calendar.specs.Calendar.{businessDay}
 use Rattle.calendar.proofs.first_after.Statement.{statement}
 use Rattle.calendar.proofs.first_after.Tie as tie
 

@@ -1,5 +1,5 @@
 use borrow.Author.Needs.{needs}
-use Rattle.calendar.specs.Business.{holidayList}
+use Rattle.calendar.specs.Calendar.{holidayList}
 use Rattle.calendar.proofs.holiday_list.Statement.{statement}
 use Rattle.calendar.proofs.holiday_list.Tie as tie
 

@@ -3,7 +3,7 @@ use Prim.Native.Nat.{_≤_, _-_}
 use native.Mathlib.Omega.{arith}
 use borrow.Author.Needs.{needs}
 use lib.ListN.{length, drop}
-use Rattle.calendar.specs.Business.{listed}
+use Rattle.calendar.specs.Calendar.{listed}
 use Rattle.calendar.proofs.Business.{listed-here, listed-later, listed-none}
 use Rattle.calendar.proofs.is_listed.Statement.{statement}
 use Rattle.calendar.proofs.is_listed.Tie as tie

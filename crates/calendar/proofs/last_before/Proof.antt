@@ -4,7 +4,7 @@ use native.Mathlib.Omega.{arith}
 use borrow.Author.Needs.{needs}
 use Rattle.numbers.proofs.Search.{below-none, below-hit, below-miss}
 use Rattle.numbers.specs.Search.{lastBelow}
-use Rattle.calendar.specs.Business.{businessDay}
+use Rattle.calendar.specs.Calendar.{businessDay}
 use Rattle.calendar.proofs.last_before.Statement.{statement}
 use Rattle.calendar.proofs.last_before.Tie as tie
 
