@@ -2,6 +2,7 @@
 pub mod Integers
 pub mod Naturals
 pub mod Rows
+pub mod Search
 pub mod Sums
 pub mod Floor
 pub mod Shares
