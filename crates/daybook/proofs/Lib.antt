@@ -4,3 +4,4 @@ pub mod Lists
 pub mod Steps
 pub mod Well
 pub mod Scan
+pub mod Spans

@@ -1,0 +1,159 @@
+-- What the book reads off the off days of well-formed spans: the spans themselves, the append day, an off day in a
+-- stretch.
+use mathlib.Core.Path.{_≡_, refl, sym, _∙_, ap, ap₂}
+use mathlib.Core.Bool.{Bool, true, false, not, _&&_, _||_, cond, Bool·beq, and-true}
+use mathlib.Core.Option.{Option, none, some}
+use mathlib.Core.List.{List, [], _∷_, _++_}
+use Prim.Native.Nat.{ℕ, zero, suc, _+_, _-_, _≤_, _<_}
+use native.Mathlib.Omega.{arith}
+use lib.Dec.{leb, ltb, eqb}
+use borrow.Author.Tests.{leb-true, leb-false, ltb-true, ltb-false, eqb-true, eqb-false, le-leb, lt-leb, lt-ltb, le-ltb, eq-eqb, ne-eqb}
+use Rattle.numbers.specs.Search.{maybe, isSome, firstFrom}
+use Rattle.numbers.proofs.Search.{first-is, first-none, first-cong, first-some, first-fails, some-either}
+use Rattle.daybook.specs.Book.{Entry, Point, days, gather, dayBefore, begins, spanAt, spans, lastOf, lastFilled, appendDay}
+use Rattle.daybook.specs.Notices.{offWithin}
+use Rattle.daybook.proofs.Lists.{Lists, pointOf, inSpan, offOn}
+use Rattle.daybook.proofs.Steps.{lastEnd, skip, appendDayOf, overlaps, someOverlap}
+use Rattle.daybook.proofs.Well.{Spans, nospan, still, ended, Recs, norec, rec, Well}
+use Rattle.daybook.proofs.Scan.{at, Asc, nil, cons, asc-widen, at-none, scan}
+
+-- ---- a day beside a span
+
+-- no day before the spans is off
+pub off-before : {lo : ℕ} {l : List (ℕ × Option ℕ)} → Spans lo l → (x : ℕ) → x < lo → offOn l x ≡ false
+unfolding offOn
+off-before nospan x h = refl
+off-before (still {off = off} a b) x h = rw (lt-leb off x (omega arith)) refl
+off-before (ended {off = off} a b c r) x h = rw (lt-leb off x (omega arith)) (off-before r x (omega arith))
+
+-- a day in the first span is off
+pub off-still : (off x : ℕ) → off ≤ x → offOn ((off, none) ∷ []) x ≡ true
+unfolding offOn
+off-still off x h = rw (le-leb off x h) refl
+
+pub off-inside : (off on : ℕ) (l : List (ℕ × Option ℕ)) (x : ℕ) → off ≤ x → x < on → offOn ((off, some on) ∷ l) x ≡ true
+unfolding offOn
+off-inside off on l x h k = rw (le-leb off x h, lt-ltb x on k) refl
+
+-- from its on day on, a span says nothing
+pub off-past : (off on : ℕ) (l : List (ℕ × Option ℕ)) (x : ℕ) → on ≤ x → offOn ((off, some on) ∷ l) x ≡ offOn l x
+unfolding offOn
+off-past off on l x h = go (leb off x)
+  where
+    go : (t : Bool) → (t && ltb x on || offOn l x) ≡ offOn l x
+    go true = rw (le-ltb x on h) refl
+    go false = refl
+
+-- ---- the spans
+
+ascend : {lo : ℕ} {l : List (ℕ × Option ℕ)} → Spans lo l → Asc (λ x. x .0) days lo l
+ascend nospan = nil
+ascend (still a b) = cons a (omega arith) nil
+ascend (ended a b c r) = cons a (omega arith) (asc-widen (λ x. x .0) (omega arith) (ascend r))
+
+-- no span begins on a day that is on, nor on one after an off day
+begins-on : (f : ℕ → Bool) (d : ℕ) → f d ≡ false → spanAt f d ≡ none
+unfolding spanAt begins
+begins-on f d e = rw e refl
+
+begins-within : (f : ℕ → Bool) (d : ℕ) → f (suc d) ≡ true → f d ≡ true → spanAt f (suc d) ≡ none
+unfolding spanAt begins
+begins-within f d e k = rw (e, k) refl
+
+-- one begins on an off day after a day that is on
+begins-off : (f : ℕ → Bool) (d : ℕ) (o : Option ℕ) → f d ≡ true → dayBefore false f d ≡ false → firstFrom (λ x. not (f x)) (suc d) (days - suc d) ≡ o → spanAt f d ≡ some (d, o)
+unfolding spanAt begins
+begins-off f d o e k h = rw (e, k, h) refl
+
+-- a span is told by its day, the day before and the days after
+begins-cong : (f g : ℕ → Bool) (d : ℕ) → ((x : ℕ) → d ≤ x → f x ≡ g x) → spanAt f (suc d) ≡ spanAt g (suc d)
+unfolding spanAt begins
+begins-cong f g d h = rw (h d (omega arith), h (suc d) (omega arith), first-cong (λ x. not (f x)) (λ x. not (g x)) (suc (suc d)) (days - suc (suc d)) (λ x u v. ap not (h x (omega arith)))) refl
+
+-- the first span is read on its off day, and nothing before it
+head-at : (x : ℕ × Option ℕ) (l : List (ℕ × Option ℕ)) → Spans (x .0) (x ∷ l) → Asc (λ y. y .0) days (suc (x .0)) l → offOn (x ∷ l) (x .0) ≡ true → firstFrom (λ y. not (offOn (x ∷ l) y)) (suc (x .0)) (days - suc (x .0)) ≡ x .1
+    → ((d : ℕ) → x .0 ≤ d → spanAt (offOn (x ∷ l)) (suc d) ≡ at (λ y. y .0) l (suc d))
+    → (d : ℕ) → spanAt (offOn (x ∷ l)) d ≡ at (λ y. y .0) (x ∷ l) d
+unfolding at
+head-at x l whole asc here next after d = go d (eqb (x .0) d) refl (leb (x .0) d) refl
+  where
+    dayBefore-on : (d : ℕ) → d ≤ x .0 → dayBefore false (offOn (x ∷ l)) d ≡ false
+    dayBefore-on zero h = refl
+    dayBefore-on (suc d) h = off-before whole d h
+
+    go : (d : ℕ) (t : Bool) → eqb (x .0) d ≡ t → (s : Bool) → leb (x .0) d ≡ s → spanAt (offOn (x ∷ l)) d ≡ at (λ y. y .0) (x ∷ l) d
+    go d true e s h =
+        let k : x .0 ≡ d = eqb-true (x .0) d e in
+        rw e (ap (spanAt (offOn (x ∷ l))) (sym k) ∙ begins-off (offOn (x ∷ l)) (x .0) (x .1) here (dayBefore-on (x .0) (omega arith)) next)
+    go d false e false h =
+        let k : d < x .0 = leb-false (x .0) d h in
+        begins-on (offOn (x ∷ l)) d (off-before whole d k) ∙ rw e (sym (at-none (λ y. y .0) asc d (omega arith)))
+    go zero false e true h = absurd (eqb-false (x .0) zero e (omega (arith, leb-true (x .0) zero h)))
+    go (suc d) false e true h =
+        let k : x .0 ≤ suc d = leb-true (x .0) (suc d) h in
+        let m : ¬ (x .0 ≡ suc d) = eqb-false (x .0) (suc d) e in
+        rw e (after d (omega arith))
+
+-- on each day the scan reads the span that starts there
+span-at : {lo : ℕ} {l : List (ℕ × Option ℕ)} → Spans lo l → (d : ℕ) → spanAt (offOn l) d ≡ at (λ x. x .0) l d
+unfolding at
+span-at nospan = λ d. begins-on (offOn []) d (off-before (nospan {lo = suc d}) d (omega arith))
+span-at (still {off = off} a b) =
+    head-at (off, none) [] (still (omega arith) b) nil (off-still off off (omega arith))
+    (first-none _ (suc off) (days - suc off) (λ x u v. ap not (off-still off x (omega arith))))
+    (λ d h. begins-within (offOn ((off, none) ∷ [])) d (off-still off (suc d) (omega arith)) (off-still off d h))
+span-at (ended {off = off} {on = on} {l = l} a b c r) =
+    head-at (off, some on) l (ended (omega arith) b c r) (asc-widen (λ x. x .0) (omega arith) (ascend r))
+    (off-inside off on l off (omega arith) b)
+    (first-is _ (suc off) (days - suc off) on b (omega arith) (ap not (off-past off on l on (omega arith) ∙ off-before r on (omega arith)))
+    (λ x u v. ap not (off-inside off on l x (omega arith) v)))
+    (λ d h. go d h (leb on d) refl (eqb on (suc d)) refl (span-at r))
+  where
+    go : (d : ℕ) → off ≤ d → (t : Bool) → leb on d ≡ t → (s : Bool) → eqb on (suc d) ≡ s → ((d : ℕ) → spanAt (offOn l) d ≡ at (λ x. x .0) l d)
+        → spanAt (offOn ((off, some on) ∷ l)) (suc d) ≡ at (λ x. x .0) l (suc d)
+    go d h true e s q ih =
+        let k : on ≤ d = leb-true on d e in
+        begins-cong (offOn ((off, some on) ∷ l)) (offOn l) d (λ x u. off-past off on l x (omega arith)) ∙ ih (suc d)
+    go d h false e true q ih =
+        let k : on ≡ suc d = eqb-true on (suc d) q in
+        begins-on (offOn ((off, some on) ∷ l)) (suc d) (off-past off on l (suc d) (omega arith) ∙ off-before r (suc d) (omega arith))
+        ∙ sym (at-none (λ x. x .0) (ascend r) (suc d) (omega arith))
+    go d h false e false q ih =
+        let k : d < on = leb-false on d e in
+        let m : ¬ (on ≡ suc d) = eqb-false on (suc d) q in
+        begins-within (offOn ((off, some on) ∷ l)) d (off-inside off on l (suc d) (omega arith) (omega arith)) (off-inside off on l d h k)
+        ∙ sym (at-none (λ x. x .0) (ascend r) (suc d) (omega arith))
+
+-- the longest stretches of off days are the spans
+pub spans-is : {lo : ℕ} {l : List (ℕ × Option ℕ)} → Spans lo l → gather (spanAt (offOn l)) 0 days ≡ l
+spans-is {l = l} r =
+    scan (λ x. x .0) (spanAt (offOn l)) days 0 days l refl (asc-widen (λ x. x .0) (omega arith) (ascend r)) (λ d u v. span-at r d)
+
+pub point-spans : {room : ℕ} {q : Lists} → Well room q → spans (pointOf q) ≡ q .offs
+unfolding spans pointOf
+point-spans ok = spans-is (ok .offsOk)
+
+-- ---- the append day
+
+-- a day before the spans is not off, and found at once
+at-once : {lo : ℕ} {l : List (ℕ × Option ℕ)} → Spans lo l → (d : ℕ) → d < lo → d < days → firstFrom (λ x. not (offOn l x)) d (days - d) ≡ some d
+at-once r d h k = first-is _ d (days - d) d (omega arith) (omega arith) (ap not (off-before r d h)) (λ x u v. absurd (omega arith))
+
+-- the first day from d on that is not off lies in no span
+pub skip-is : {lo : ℕ} {l : List (ℕ × Option ℕ)} → Spans lo l → (d : ℕ) → d < days → firstFrom (λ x. not (offOn l x)) d (days - d) ≡ skip l d
+unfolding skip
+skip-is {l = l} nospan d h = at-once (nospan {lo = suc d}) d (omega arith) h
+skip-is (still {off = off} a b) d h = go (ltb d off) refl
+  where
+    go : (t : Bool) → ltb d off ≡ t → firstFrom (λ x. not (offOn ((off, none) ∷ []) x)) d (days - d) ≡ cond t (some d) none
+    go true e = at-once (still {lo = off} (omega arith) b) d (ltb-true d off e) h
+    go false e = first-none _ d (days - d) (λ x u v. ap not (off-still off x (omega (arith, ltb-false d off e))))
+skip-is (ended {off = off} {on = on} {l = l} a b c r) d h = go (ltb d off) (ltb d on) refl refl (skip-is r d h)
+  where
+    go : (s t : Bool) → ltb d off ≡ s → ltb d on ≡ t → firstFrom (λ x. not (offOn l x)) d (days - d) ≡ skip l d
+        → firstFrom (λ x. not (offOn ((off, some on) ∷ l) x)) d (days - d) ≡ cond s (some d) (cond t (some on) (skip l d))
+    go true t e k ih = at-once (ended {lo = off} (omega arith) b c r) d (ltb-true d off e) h
+    go false true e k ih =
+        first-is _ d (days - d) on (omega (arith, ltb-true d on k)) (omega arith) (ap not (off-past off on l on (omega arith) ∙ off-before r on (omega arith)))
+        (λ x u v. ap not (off-inside off on l x (omega (arith, ltb-false d off e)) v))
+    go false false e k ih = first-cong _ _ d (days - d) (λ x u v. ap not (off-past off on l x (omega (arith, ltb-false d on k)))) ∙ ih
