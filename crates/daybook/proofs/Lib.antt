@@ -5,3 +5,4 @@ pub mod Steps
 pub mod Well
 pub mod Scan
 pub mod Spans
+pub mod SpanSteps

@@ -1,20 +1,20 @@
 -- What the book reads off the off days of well-formed spans: the spans themselves, the append day, an off day in a
 -- stretch.
 use mathlib.Core.Path.{_≡_, refl, sym, _∙_, ap, ap₂}
-use mathlib.Core.Bool.{Bool, true, false, not, _&&_, _||_, cond, Bool·beq, and-true}
+use mathlib.Core.Bool.{Bool, true, false, not, _&&_, _||_, cond, Bool·beq, and-false}
 use mathlib.Core.Option.{Option, none, some}
-use mathlib.Core.List.{List, [], _∷_, _++_}
+use mathlib.Core.List.{List, [], _∷_}
 use Prim.Native.Nat.{ℕ, zero, suc, _+_, _-_, _≤_, _<_}
 use native.Mathlib.Omega.{arith}
 use lib.Dec.{leb, ltb, eqb}
-use borrow.Author.Tests.{leb-true, leb-false, ltb-true, ltb-false, eqb-true, eqb-false, le-leb, lt-leb, lt-ltb, le-ltb, eq-eqb, ne-eqb}
+use borrow.Author.Tests.{leb-true, leb-false, ltb-true, ltb-false, eqb-true, eqb-false, le-leb, lt-leb, lt-ltb, le-ltb}
 use Rattle.numbers.specs.Search.{maybe, isSome, firstFrom}
 use Rattle.numbers.proofs.Search.{first-is, first-none, first-cong, first-some, first-fails, some-either}
-use Rattle.daybook.specs.Book.{Entry, Point, days, gather, dayBefore, begins, spanAt, spans, lastOf, lastFilled, appendDay}
+use Rattle.daybook.specs.Book.{Point, days, gather, dayBefore, begins, spanAt, spans, lastFilled, appendDay}
 use Rattle.daybook.specs.Notices.{offWithin}
 use Rattle.daybook.proofs.Lists.{Lists, pointOf, inSpan, offOn}
 use Rattle.daybook.proofs.Steps.{lastEnd, skip, appendDayOf, overlaps, someOverlap}
-use Rattle.daybook.proofs.Well.{Spans, nospan, still, ended, Recs, norec, rec, Well}
+use Rattle.daybook.proofs.Well.{Spans, nospan, still, ended, Well}
 use Rattle.daybook.proofs.Scan.{at, Asc, nil, cons, asc-widen, at-none, scan}
 
 -- ---- a day beside a span
@@ -157,3 +157,75 @@ skip-is (ended {off = off} {on = on} {l = l} a b c r) d h = go (ltb d off) (ltb 
         first-is _ d (days - d) on (omega (arith, ltb-true d on k)) (omega arith) (ap not (off-past off on l on (omega arith) ∙ off-before r on (omega arith)))
         (λ x u v. ap not (off-inside off on l x (omega (arith, ltb-false d off e)) v))
     go false false e k ih = first-cong _ _ d (days - d) (λ x u v. ap not (off-past off on l x (omega (arith, ltb-false d on k)))) ∙ ih
+
+-- the append day is the first day after the records that is in no span
+pub append-day-is : {room : ℕ} {q : Lists} → Well room q → lastFilled (pointOf q) ≡ lastEnd (q .recs) → maybe (q .facts .install) suc (lastEnd (q .recs)) < days → appendDay (pointOf q) ≡ appendDayOf q
+unfolding appendDay appendDayOf pointOf
+append-day-is {q = q} ok e h =
+    ap (λ o. firstFrom (λ x. not (offOn (q .offs) x)) (maybe (q .facts .install) suc o) (days - maybe (q .facts .install) suc o)) e
+    ∙ skip-is (ok .offsOk) (maybe (q .facts .install) suc (lastEnd (q .recs))) h
+
+-- ---- an off day in a stretch
+
+-- does the stretch from a to b hold a day of the span?
+still-overlap : (off a b : ℕ) → a ≤ b → isSome (firstFrom (inSpan (off, none)) a (suc b - a)) ≡ overlaps a b (off, none)
+still-overlap off a b h = go (leb off b) refl (leb off a) refl
+  where
+    go : (s : Bool) → leb off b ≡ s → (t : Bool) → leb off a ≡ t → isSome (firstFrom (leb off) a (suc b - a)) ≡ (s && true)
+    go true e true k = first-some (leb off) a (suc b - a) a (omega arith) (omega arith) k
+    go true e false k =
+        first-some (leb off) a (suc b - a) off (omega (arith, leb-false off a k)) (omega (arith, leb-true off b e)) (le-leb off off (omega arith))
+    go false e t k = ap isSome (first-none (leb off) a (suc b - a) (λ x u v. lt-leb off x (omega (arith, leb-false off b e))))
+
+ended-overlap : (off on a b : ℕ) → off < on → a ≤ b → isSome (firstFrom (inSpan (off, some on)) a (suc b - a)) ≡ overlaps a b (off, some on)
+ended-overlap off on a b l h = go (leb off b) refl (ltb a on) refl (leb off a) refl
+  where
+    inside : ℕ → Bool
+    inside x = leb off x && ltb x on
+
+    holds : (x : ℕ) → off ≤ x → x < on → inside x ≡ true
+    holds x u v = rw (le-leb off x u, lt-ltb x on v) refl
+
+    past : (x : ℕ) → on ≤ x → inside x ≡ false
+    past x u = rw (le-ltb x on u) (and-false (leb off x))
+
+    under : (x : ℕ) → x < off → inside x ≡ false
+    under x u = rw (lt-leb off x u) refl
+
+    go : (s : Bool) → leb off b ≡ s → (t : Bool) → ltb a on ≡ t → (w : Bool) → leb off a ≡ w → isSome (firstFrom inside a (suc b - a)) ≡ (s && t)
+    go true e true k true i =
+        first-some inside a (suc b - a) a (omega arith) (omega arith) (holds a (leb-true off a i) (ltb-true a on k))
+    go true e true k false i =
+        first-some inside a (suc b - a) off (omega (arith, leb-false off a i)) (omega (arith, leb-true off b e)) (holds off (omega arith) l)
+    go true e false k w i = ap isSome (first-none inside a (suc b - a) (λ x u v. past x (omega (arith, ltb-false a on k))))
+    go false e t k w i = ap isSome (first-none inside a (suc b - a) (λ x u v. under x (omega (arith, leb-false off b e))))
+
+no-span : (a n : ℕ) → isSome (firstFrom (offOn []) a n) ≡ false
+unfolding offOn
+no-span a n = ap isSome (first-none (offOn []) a n (λ x u v. refl))
+
+some-overlap : {lo : ℕ} {l : List (ℕ × Option ℕ)} → Spans lo l → (a b : ℕ) → a ≤ b → isSome (firstFrom (offOn l) a (suc b - a)) ≡ someOverlap a b l
+unfolding offOn someOverlap
+some-overlap nospan a b h = no-span a (suc b - a)
+some-overlap (still {off = off} _ _) a b h =
+    some-either (inSpan (off, none)) (offOn []) a (suc b - a)
+    ∙ ap₂ _||_ (still-overlap off a b h) (no-span a (suc b - a))
+some-overlap (ended {off = off} {on = on} {l = l} _ c _ r) a b h =
+    some-either (inSpan (off, some on)) (offOn l) a (suc b - a) ∙ ap₂ _||_ (ended-overlap off on a b c h) (some-overlap r a b h)
+
+-- a day from a to b is off where that is a stretch and a span overlaps it
+pub overlap-is : {lo : ℕ} {l : List (ℕ × Option ℕ)} → Spans lo l → (a b : ℕ) → isSome (firstFrom (offOn l) a (suc b - a)) ≡ (leb a b && someOverlap a b l)
+overlap-is {l = l} r a b = go (leb a b) refl
+  where
+    go : (t : Bool) → leb a b ≡ t → isSome (firstFrom (offOn l) a (suc b - a)) ≡ (t && someOverlap a b l)
+    go true e = some-overlap r a b (leb-true a b e)
+    go false e = ap isSome (first-none (offOn l) a (suc b - a) (λ x u v. absurd (omega (arith, leb-false a b e))))
+
+pub off-within-is : {room : ℕ} {q : Lists} → Well room q → (a b : ℕ) → offWithin (pointOf q) a b ≡ (leb a b && someOverlap a b (q .offs))
+unfolding offWithin pointOf
+off-within-is ok a b = overlap-is (ok .offsOk) a b
+
+-- where no day of a stretch is off, each of its days is on
+pub no-off : (p : Point) (a b : ℕ) → offWithin p a b ≡ false → (d : ℕ) → a ≤ d → d ≤ b → p .off d ≡ false
+unfolding offWithin
+no-off p a b e d h k = first-fails (p .off) a (suc b - a) e d h (omega arith)
