@@ -1,21 +1,21 @@
 -- Off and on again: what a status notice does to the off days and to well-formed spans, and that the records beside them
 -- stay well-formed.
-use mathlib.Core.Path.{_≡_, refl, sym, _∙_, ap, ap₂, fun-ext}
+use mathlib.Core.Path.{_≡_, refl, sym, _∙_, ap, fun-ext}
 use mathlib.Core.Bool.{Bool, true, false, _&&_, _||_, cond, or-true, or-false, or-assoc}
 use mathlib.Core.Option.{Option, none, some}
 use mathlib.Core.List.{List, [], _∷_, _++_}
-use Prim.Native.Nat.{ℕ, zero, suc, _+_, _≤_, _<_}
+use Prim.Native.Nat.{ℕ, zero, suc, _≤_, _<_}
 use native.Mathlib.Omega.{arith}
 use lib.Dec.{leb, ltb, eqb}
 use lib.ListN.{length, length-append}
-use borrow.Author.Tests.{leb-true, leb-false, ltb-true, ltb-false, eqb-true, eqb-false, le-leb, lt-leb, lt-ltb, le-ltb}
+use borrow.Author.Tests.{leb-true, leb-false, ltb-true, ltb-false, eqb-true, lt-leb, lt-ltb, le-ltb}
 use Rattle.numbers.specs.Search.{maybe}
 use Rattle.daybook.specs.Book.{Entry, fromOn, lastOf}
 use Rattle.daybook.specs.Notices.{fitsKind, cannotOff, cannotOn}
 use Rattle.daybook.proofs.Lists.{inSpan, offOn}
 use Rattle.daybook.proofs.Steps.{lastEnd, skip, closed, offsAfter}
 use Rattle.daybook.proofs.Well.{Spans, nospan, still, ended, Recs, norec, rec}
-use Rattle.daybook.proofs.Spans.{off-before, off-past}
+use Rattle.daybook.proofs.Spans.{Span, off-past}
 
 true-false : {A : Type 0} → true ≡ false → A
 true-false e = let z : _≡_ {A = ℕ} 0 1 = cc in absurd (omega arith)
@@ -23,13 +23,13 @@ true-false e = let z : _≡_ {A = ℕ} 0 1 = cc in absurd (omega arith)
 -- ---- off from day d on
 
 -- a day is off by two lists of spans where it is by either
-off-append : (l m : List (ℕ × Option ℕ)) (x : ℕ) → offOn (l ++ m) x ≡ (offOn l x || offOn m x)
+off-append : (l m : List Span) (x : ℕ) → offOn (l ++ m) x ≡ (offOn l x || offOn m x)
 unfolding offOn
 off-append [] m x = refl
 off-append (y ∷ l) m x = ap (λ t. inSpan y x || t) (off-append l m x) ∙ sym (or-assoc (inSpan y x) (offOn l x) (offOn m x))
 
 -- with an open span behind them every day from d on is off, and days before it are as they were
-pub off-after : (l : List (ℕ × Option ℕ)) (d : ℕ) → offOn (l ++ ((d, none) ∷ [])) ≡ fromOn d true (offOn l)
+pub off-after : (l : List Span) (d : ℕ) → offOn (l ++ ((d, none) ∷ [])) ≡ fromOn d true (offOn l)
 unfolding offOn fromOn
 off-after l d = fun-ext (λ x. off-append l ((d, none) ∷ []) x ∙ go (leb d x) (offOn l x))
   where
@@ -38,13 +38,15 @@ off-after l d = fun-ext (λ x. off-append l ((d, none) ∷ []) x ∙ go (leb d x
     go false t = or-false t
 
 -- the last on day is before d, and the spans behind the first may be followed by d too
-later-off : (off : ℕ) {on : ℕ} {l : List (ℕ × Option ℕ)} → Spans (suc on) l → (d : ℕ) → cannotOff d (lastOf ((off, some on) ∷ l)) ≡ false → (on < d) × (cannotOff d (lastOf l) ≡ false)
+later-off : (off : ℕ) {on : ℕ} {l : List Span} → Spans (suc on) l → (d : ℕ)
+    → cannotOff d (lastOf ((off, some on) ∷ l)) ≡ false → (on < d) × (cannotOff d (lastOf l) ≡ false)
 unfolding lastOf
 later-off off {on} nospan d e = (leb-false d on e, refl)
 later-off off (still a b) d e = true-false e
 later-off off (ended {off = off′} {on = on} a b c r) d e = let h : on < d = later-off off′ r d e .0 in (omega arith, e)
 
-pub spans-off : {lo : ℕ} {l : List (ℕ × Option ℕ)} → Spans lo l → (d : ℕ) → lo ≤ d → d ≤ 39999 → cannotOff d (lastOf l) ≡ false → Spans lo (l ++ ((d, none) ∷ []))
+pub spans-off : {lo : ℕ} {l : List Span} → Spans lo l → (d : ℕ) → lo ≤ d → d ≤ 39999 → cannotOff d (lastOf l) ≡ false
+    → Spans lo (l ++ ((d, none) ∷ []))
 unfolding lastOf
 spans-off nospan d h k e = still h k
 spans-off (still a b) d h k e = true-false e
@@ -53,35 +55,36 @@ spans-off (ended {off = off} a b c r) d h k e = ended a b c (spans-off r d (late
 -- ---- on from day d on
 
 -- The last span is still off, from before day d.
-pub data LastOff (d : ℕ) : ℕ → List (ℕ × Option ℕ) → Type 0 where
+pub data LastOff (d : ℕ) : ℕ → List Span → Type 0 where
   last : {lo off : ℕ} → lo ≤ off → off < d → LastOff d lo ((off, none) ∷ [])
   later :
-      {lo off on : ℕ} {l : List (ℕ × Option ℕ)} → lo ≤ off → off < on → on ≤ 39999 → LastOff d (suc on) l
+      {lo off on : ℕ} {l : List Span} → lo ≤ off → off < on → on ≤ 39999 → LastOff d (suc on) l
       → LastOff d lo ((off, some on) ∷ l)
 
-later-on : (off : ℕ) {on : ℕ} {l : List (ℕ × Option ℕ)} → Spans (suc on) l → (d : ℕ) → cannotOn d (lastOf ((off, some on) ∷ l)) ≡ false → cannotOn d (lastOf l) ≡ false
+later-on : (off : ℕ) {on : ℕ} {l : List Span} → Spans (suc on) l → (d : ℕ)
+    → cannotOn d (lastOf ((off, some on) ∷ l)) ≡ false → cannotOn d (lastOf l) ≡ false
 unfolding lastOf
 later-on off nospan d e = true-false e
 later-on off (still a b) d e = e
 later-on off (ended a b c r) d e = e
 
-pub last-off : {lo : ℕ} {l : List (ℕ × Option ℕ)} → Spans lo l → (d : ℕ) → cannotOn d (lastOf l) ≡ false → LastOff d lo l
+pub last-off : {lo : ℕ} {l : List Span} → Spans lo l → (d : ℕ) → cannotOn d (lastOf l) ≡ false → LastOff d lo l
 unfolding lastOf
 last-off nospan d e = true-false e
 last-off (still {off = off} a b) d e = last a (leb-false d off e)
 last-off (ended {off = off} a b c r) d e = later a b c (last-off r d (later-on off r d e))
 
 -- it began before d, and so did they all
-starts-before : {d lo : ℕ} {l : List (ℕ × Option ℕ)} → LastOff d lo l → lo < d
+starts-before : {d lo : ℕ} {l : List Span} → LastOff d lo l → lo < d
 starts-before (last a b) = omega arith
 starts-before (later a b c r) = omega (arith, starts-before r)
 
-closed-behind : {d lo : ℕ} {l : List (ℕ × Option ℕ)} → LastOff d lo l → (x : ℕ × Option ℕ) → closed d (x ∷ l) ≡ x ∷ closed d l
+closed-behind : {d lo : ℕ} {l : List Span} → LastOff d lo l → (x : Span) → closed d (x ∷ l) ≡ x ∷ closed d l
 unfolding closed
 closed-behind (last a b) x = refl
 closed-behind (later a b c r) x = refl
 
-on-from : {d lo : ℕ} {l : List (ℕ × Option ℕ)} → LastOff d lo l → (x : ℕ) → offOn (closed d l) x ≡ fromOn d false (offOn l) x
+on-from : {d lo : ℕ} {l : List Span} → LastOff d lo l → (x : ℕ) → offOn (closed d l) x ≡ fromOn d false (offOn l) x
 unfolding closed offOn fromOn
 on-from {d = d} (last {off = off} a b) x = go (leb d x) refl (leb off x)
   where
@@ -99,19 +102,185 @@ on-from {d = d} (later {off = off} {on = on} {l = l} a b c r) x =
     go false e ih = ap (λ t. inSpan (off, some on) x || t) ih
 
 -- with the last span ended on d every day from d on is on, and days before it are as they were
-pub on-after : {lo : ℕ} {l : List (ℕ × Option ℕ)} → Spans lo l → (d : ℕ) → cannotOn d (lastOf l) ≡ false → offOn (closed d l) ≡ fromOn d false (offOn l)
+pub on-after : {lo : ℕ} {l : List Span} → Spans lo l → (d : ℕ) → cannotOn d (lastOf l) ≡ false
+    → offOn (closed d l) ≡ fromOn d false (offOn l)
 on-after r d e = fun-ext (on-from (last-off r d e))
 
-pub spans-on : {lo : ℕ} {l : List (ℕ × Option ℕ)} → Spans lo l → (d : ℕ) → d ≤ 39999 → cannotOn d (lastOf l) ≡ false → Spans lo (closed d l)
+pub spans-on : {lo : ℕ} {l : List Span} → Spans lo l → (d : ℕ) → d ≤ 39999 → cannotOn d (lastOf l) ≡ false
+    → Spans lo (closed d l)
 unfolding closed
 spans-on r d h e = go (last-off r d e)
   where
-    go : {lo : ℕ} {l : List (ℕ × Option ℕ)} → LastOff d lo l → Spans lo (closed d l)
+    go : {lo : ℕ} {l : List Span} → LastOff d lo l → Spans lo (closed d l)
     go (last a b) = ended a b h nospan
     go (later {off = off} {on = on} a b c r) = rw (closed-behind r (off, some on)) (ended a b c (go r))
 
-pub length-closed : (d : ℕ) (l : List (ℕ × Option ℕ)) → length (closed d l) ≡ length l
+pub length-closed : (d : ℕ) (l : List Span) → length (closed d l) ≡ length l
 unfolding closed
 length-closed d [] = refl
 length-closed d (x ∷ []) = refl
 length-closed d (x ∷ y ∷ l) = ap suc (length-closed d (y ∷ l))
+
+-- ---- the records beside the spans
+
+-- a day before d that is found in no span is found so with an open span from d on behind them
+skip-off : (l : List Span) (d from s : ℕ) → s < d → skip l from ≡ some s → skip (l ++ ((d, none) ∷ [])) from ≡ some s
+unfolding skip
+skip-off [] d from s h e = let k : from ≡ s = cc in rw (lt-ltb from d (omega arith)) e
+skip-off (x ∷ l) d from s h e = go (ltb from (x .0)) (x .1) (skip-off l d from s h) e
+  where
+    m : List Span
+    m = l ++ ((d, none) ∷ [])
+
+    past : (t : Bool) (on : ℕ) → (skip l from ≡ some s → skip m from ≡ some s)
+        → cond t (some on) (skip l from) ≡ some s → cond t (some on) (skip m from) ≡ some s
+    past true on ih e = e
+    past false on ih e = ih e
+
+    go : (t : Bool) (o : Option ℕ) → (skip l from ≡ some s → skip m from ≡ some s)
+        → cond t (some from) (maybe none (λ on. cond (ltb from on) (some on) (skip l from)) o) ≡ some s
+        → cond t (some from) (maybe none (λ on. cond (ltb from on) (some on) (skip m from)) o) ≡ some s
+    go true o ih e = e
+    go false none ih e = e
+    go false (some on) ih e = past (ltb from on) on ih e
+
+-- and any such day is found with the last span ended
+skip-on : {d lo : ℕ} {l : List Span} → LastOff d lo l → (from s : ℕ) → skip l from ≡ some s
+    → skip (closed d l) from ≡ some s
+unfolding skip closed
+skip-on {d = d} (last {off = off} a b) from s e = go (ltb from off) e
+  where
+    go : (t : Bool) → cond t (some from) none ≡ some s
+        → cond t (some from) (cond (ltb from d) (some d) (some from)) ≡ some s
+    go true e = e
+    go false e = let z : _≡_ {A = ℕ} 0 1 = cc in absurd (omega arith)
+skip-on {d = d} (later {off = off} {on = on} {l = l} a b c r) from s e =
+    ap (λ m. skip m from) (closed-behind r (off, some on)) ∙ go (ltb from off) (ltb from on) (skip-on r from s) e
+  where
+    go : (t u : Bool) → (skip l from ≡ some s → skip (closed d l) from ≡ some s)
+        → cond t (some from) (cond u (some on) (skip l from)) ≡ some s
+        → cond t (some from) (cond u (some on) (skip (closed d l) from)) ≡ some s
+    go true u ih e = e
+    go false true ih e = e
+    go false false ih e = ih e
+
+-- skipping off days never goes back
+skip-ge : (l : List Span) (d k : ℕ) → skip l d ≡ some k → d ≤ k
+unfolding skip
+skip-ge [] d k e = let h : d ≡ k = cc in omega arith
+skip-ge (x ∷ l) d k e = go (ltb d (x .0)) (x .1) (skip-ge l d k) e
+  where
+    past : (on : ℕ) (t : Bool) → ltb d on ≡ t → (skip l d ≡ some k → d ≤ k) → cond t (some on) (skip l d) ≡ some k
+        → d ≤ k
+    past on true h ih e = let q : on ≡ k = cc in omega (arith, ltb-true d on h)
+    past on false h ih e = ih e
+
+    go : (t : Bool) (o : Option ℕ) → (skip l d ≡ some k → d ≤ k)
+        → cond t (some d) (maybe none (λ on. cond (ltb d on) (some on) (skip l d)) o) ≡ some k → d ≤ k
+    go true o ih e = let q : d ≡ k = cc in omega arith
+    go false none ih e = let z : _≡_ {A = ℕ} 0 1 = cc in absurd (omega arith)
+    go false (some on) ih e = past on (ltb d on) refl ih e
+
+-- a record of either kind ends no earlier than it starts
+fits-le : (kind start end : ℕ) → fitsKind kind start end ≡ true → start ≤ end
+fits-le kind start end h = go (eqb kind 0) h
+  where
+    go : (t : Bool) → cond t (ltb start end) (eqb start end) ≡ true → start ≤ end
+    go true e = omega (arith, ltb-true start end e)
+    go false e = omega (arith, eqb-true start end e)
+
+-- where the last record ends before d, so does the first, and the last of those behind it
+end-before : {kind from : ℕ} {offs : List Span} {x : Entry} {l : List Entry} → Recs kind offs from (x ∷ l) → (d : ℕ)
+    → maybe false (leb d) (lastEnd (x ∷ l)) ≡ false → (x .end < d) × (maybe false (leb d) (lastEnd l) ≡ false)
+unfolding lastEnd lastOf
+end-before (rec {x = x} s f e n t o norec) d h = (leb-false d (x .end) h, refl)
+end-before {kind} {offs = offs} (rec {x = x} s f e n t o (rec {x = y} s′ f′ e′ n′ t′ o′ r)) d h =
+    let k : y .end < d = end-before (rec {x = y} s′ f′ e′ n′ t′ o′ r) d h .0 in
+    (omega (arith, skip-ge offs (suc (x .end)) (y .start) s′, fits-le kind (y .start) (y .end) f′), h)
+
+-- the days of records that end before d stay on
+pub recs-off : {kind from : ℕ} {l : List Span} {rs : List Entry} → Recs kind l from rs → (d : ℕ)
+    → maybe false (leb d) (lastEnd rs) ≡ false → Recs kind (l ++ ((d, none) ∷ [])) from rs
+unfolding fromOn
+recs-off norec d h = norec
+recs-off {kind} {from} {l} (rec {x = x} s f e n t o r) d h =
+    let k : x .end < d = end-before (rec {x = x} s f e n t o r) d h .0 in
+    let still-on : (y : ℕ) → x .start ≤ y → y ≤ x .end → offOn (l ++ ((d, none) ∷ [])) y ≡ false = λ y u v. ap (λ g. g y) (off-after l d) ∙ rw (lt-leb d y (omega arith)) (o y u v) in
+    rec {x = x} (skip-off l d from (x .start) (omega (arith, fits-le kind (x .start) (x .end) f)) s) f e n t still-on
+    (recs-off r d (end-before (rec {x = x} s f e n t o r) d h .1))
+
+-- and so do those of any record where the last span ends
+pub recs-on : {kind from lo : ℕ} {l : List Span} {rs : List Entry} → Recs kind l from rs → Spans lo l → (d : ℕ)
+    → cannotOn d (lastOf l) ≡ false → Recs kind (closed d l) from rs
+unfolding fromOn
+recs-on {lo = lo} {l = l} all spans d h = go all
+  where
+    off-last : LastOff d lo l
+    off-last = last-off spans d h
+
+    false-either : (t : Bool) → cond t false false ≡ false
+    false-either true = refl
+    false-either false = refl
+
+    still-on : (x : ℕ) → offOn l x ≡ false → offOn (closed d l) x ≡ false
+    still-on x e = on-from off-last x ∙ rw e (false-either (leb d x))
+
+    go : {kind from : ℕ} {rs : List Entry} → Recs kind l from rs → Recs kind (closed d l) from rs
+    go norec = norec
+    go {from = from} (rec {x = x} s f e n t o r) =
+        rec {x = x} (skip-on off-last from (x .start) s) f e n t (λ y u v. still-on y (o y u v)) (go r)
+
+-- ---- either, as a status notice asks
+
+-- A notice that row 14 does not send back: off (0) after the last on day and the last filled day, from install on, or
+-- on (1) after the off day.
+pub data MaySwitch (day install : ℕ) (l : List Span) (lastFilled : Option ℕ) : ℕ → Type 0 where
+  mayOff :
+      cannotOff day (lastOf l) ≡ false → maybe false (leb day) lastFilled ≡ false → install ≤ day
+      → MaySwitch day install l lastFilled 0
+  mayOn : cannotOn day (lastOf l) ≡ false → MaySwitch day install l lastFilled 1
+
+pub may-switch : (day on install : ℕ) (lastFilled : Option ℕ) (l : List Span) → on ≤ 1
+    → cond (eqb on 1) (cannotOn day (lastOf l)) (cannotOff day (lastOf l) || maybe false (leb day) lastFilled || ltb day install) ≡ false → MaySwitch day install l lastFilled on
+may-switch day zero install lastFilled l h e =
+    let a : (cannotOff day (lastOf l) || maybe false (leb day) lastFilled ≡ false) × (ltb day install ≡ false) = neither _ _ e in
+    let b : (cannotOff day (lastOf l) ≡ false) × (maybe false (leb day) lastFilled ≡ false) = neither _ _ (a .0) in
+    mayOff (b .0) (b .1) (ltb-false day install (a .1))
+  where
+    neither : (s t : Bool) → (s || t) ≡ false → (s ≡ false) × (t ≡ false)
+    neither true t e = true-false e
+    neither false t e = (refl, e)
+may-switch day (suc zero) install lastFilled l h e = mayOn e
+may-switch day (suc (suc on)) install lastFilled l h e = absurd (omega arith)
+
+-- the off days after it are the book's
+pub offs-after-days : {day install lo on : ℕ} {o : Option ℕ} {l : List Span} → Spans lo l
+    → MaySwitch day install l o on → offOn (offsAfter day on l) ≡ fromOn day (eqb on 0) (offOn l)
+unfolding offsAfter
+offs-after-days {day} {l = l} r (mayOff e f h) = off-after l day
+offs-after-days {day} r (mayOn e) = on-after r day e
+
+-- the spans stay well-formed
+pub offs-after-spans : {day install on : ℕ} {o : Option ℕ} {l : List Span} → Spans install l → day ≤ 39999
+    → MaySwitch day install l o on → Spans install (offsAfter day on l)
+unfolding offsAfter
+offs-after-spans {day} r k (mayOff e f h) = spans-off r day h k e
+offs-after-spans {day} r k (mayOn e) = spans-on r day k e
+
+-- and so do the records beside them
+pub offs-after-recs : {kind from day install lo on : ℕ} {l : List Span} {rs : List Entry} → Recs kind l from rs
+    → Spans lo l → MaySwitch day install l (lastEnd rs) on → Recs kind (offsAfter day on l) from rs
+unfolding offsAfter
+offs-after-recs {day = day} rs r (mayOff e f h) = recs-off rs day f
+offs-after-recs {day = day} rs r (mayOn e) = recs-on rs r day e
+
+-- a notice that row 16 does not send back leaves at most `room` spans
+pub offs-after-few : (day on room : ℕ) (l : List Span) → length l ≤ room → (eqb on 0 && leb room (length l)) ≡ false
+    → length (offsAfter day on l) ≤ room
+unfolding offsAfter
+offs-after-few day on room l h = go (eqb on 0)
+  where
+    go : (t : Bool) → (t && leb room (length l)) ≡ false
+        → length (cond t (l ++ ((day, none) ∷ [])) (closed day l)) ≤ room
+    go true e = simp length-append (omega (arith, leb-false room (length l) e))
+    go false e = omega (arith, length-closed day l)

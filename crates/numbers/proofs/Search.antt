@@ -6,7 +6,7 @@ use Prim.Native.Nat.{ℕ, zero, suc, _+_, _≤_, _<_}
 use native.Mathlib.Omega.{arith}
 use lib.Dec.{eqb}
 use borrow.Author.Tests.{eqb-true, eqb-false}
-use Rattle.numbers.specs.Search.{maybe, isSome, firstFrom}
+use Rattle.numbers.specs.Search.{isSome, firstFrom}
 
 -- What the first of the n indices from a on at which the test holds is: none where it fails on all of them; else an
 -- index among them at which it holds, and before which it fails.
@@ -25,7 +25,8 @@ module _ (p : ℕ → Bool) where
   first-later a n e = rw (e, firstFrom) refl
 
   -- the search finds k where the test holds at k and fails before it
-  pub first-is : (a n k : ℕ) → a ≤ k → k < a + n → p k ≡ true → ((x : ℕ) → a ≤ x → x < k → p x ≡ false) → firstFrom p a n ≡ some k
+  pub first-is : (a n k : ℕ) → a ≤ k → k < a + n → p k ≡ true → ((x : ℕ) → a ≤ x → x < k → p x ≡ false)
+      → firstFrom p a n ≡ some k
   first-is a zero k l h e f = absurd (omega arith)
   first-is a (suc n) k l h e f = go (eqb a k) refl (first-is (suc a) n k)
     where
@@ -50,7 +51,8 @@ module _ (p : ℕ → Bool) where
   first-tells a zero = nowhere (λ x u v. absurd (omega arith))
   first-tells a (suc n) = go (p a) refl (firstFrom p (suc a) n) (first-tells (suc a) n)
     where
-      earlier : {k : ℕ} → p a ≡ false → ((x : ℕ) → suc a ≤ x → x < k → p x ≡ false) → (x : ℕ) → a ≤ x → x < k → p x ≡ false
+      earlier : {k : ℕ} → p a ≡ false → ((x : ℕ) → suc a ≤ x → x < k → p x ≡ false) → (x : ℕ) → a ≤ x → x < k
+          → p x ≡ false
       earlier e f x u v = at (eqb a x) refl
         where
           at : (t : Bool) → eqb a x ≡ t → p x ≡ false
@@ -79,7 +81,8 @@ module _ (p : ℕ → Bool) where
       go (some i) r = refl
 
 -- the same tests find the same
-pub first-cong : (p q : ℕ → Bool) (a n : ℕ) → ((x : ℕ) → a ≤ x → x < a + n → p x ≡ q x) → firstFrom p a n ≡ firstFrom q a n
+pub first-cong : (p q : ℕ → Bool) (a n : ℕ) → ((x : ℕ) → a ≤ x → x < a + n → p x ≡ q x)
+    → firstFrom p a n ≡ firstFrom q a n
 unfolding firstFrom
 first-cong p q a zero f = refl
 first-cong p q a (suc n) f = go (q a) refl (first-cong p q (suc a) n (λ x u v. f x (omega arith) (omega arith)))
@@ -87,12 +90,14 @@ first-cong p q a (suc n) f = go (q a) refl (first-cong p q (suc a) n (λ x u v. 
     same : p a ≡ q a
     same = f a (omega arith) (omega arith)
 
-    go : (t : Bool) → q a ≡ t → firstFrom p (suc a) n ≡ firstFrom q (suc a) n → firstFrom p a (suc n) ≡ firstFrom q a (suc n)
+    go : (t : Bool) → q a ≡ t → firstFrom p (suc a) n ≡ firstFrom q (suc a) n
+        → firstFrom p a (suc n) ≡ firstFrom q a (suc n)
     go true e ih = first-here p a n (same ∙ e) ∙ sym (first-here q a n e)
     go false e ih = first-later p a n (same ∙ e) ∙ ih ∙ sym (first-later q a n e)
 
 -- a search for either of two tests finds something where one of the two searches does
-pub some-either : (p q : ℕ → Bool) (a n : ℕ) → isSome (firstFrom (λ x. p x || q x) a n) ≡ (isSome (firstFrom p a n) || isSome (firstFrom q a n))
+pub some-either : (p q : ℕ → Bool) (a n : ℕ)
+    → isSome (firstFrom (λ x. p x || q x) a n) ≡ (isSome (firstFrom p a n) || isSome (firstFrom q a n))
 unfolding firstFrom
 some-either p q a zero = refl
 some-either p q a (suc n) = go (p a) (q a) (firstFrom (λ x. p x || q x) (suc a) n) (firstFrom p (suc a) n) (firstFrom q (suc a) n) (some-either p q (suc a) n)
