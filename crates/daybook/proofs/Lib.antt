@@ -6,3 +6,4 @@ pub mod Well
 pub mod Scan
 pub mod Spans
 pub mod SpanSteps
+pub mod Switch

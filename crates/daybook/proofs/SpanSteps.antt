@@ -1,24 +1,21 @@
--- Off and on again: what a status notice does to the off days and to well-formed spans, and that the records beside them
--- stay well-formed.
+-- Off and on again: what an open span behind the others and an end of the last do to the off days, to well-formed spans
+-- and to the records beside them.
 use mathlib.Core.Path.{_≡_, refl, sym, _∙_, ap, fun-ext}
-use mathlib.Core.Bool.{Bool, true, false, _&&_, _||_, cond, or-true, or-false, or-assoc}
-use mathlib.Core.Option.{Option, none, some}
+use mathlib.Core.Bool.{Bool, true, false, _&&_, _||_, cond, or-true, or-false, or-assoc, true≢false}
+use mathlib.Core.Option.{Option, none, some, Option·none-ne-some}
 use mathlib.Core.List.{List, [], _∷_, _++_}
-use Prim.Native.Nat.{ℕ, zero, suc, _≤_, _<_}
+use Prim.Native.Nat.{ℕ, suc, _≤_, _<_}
 use native.Mathlib.Omega.{arith}
 use lib.Dec.{leb, ltb, eqb}
-use lib.ListN.{length, length-append}
-use borrow.Author.Tests.{leb-true, leb-false, ltb-true, ltb-false, eqb-true, lt-leb, lt-ltb, le-ltb}
+use lib.ListN.{length}
+use borrow.Author.Tests.{leb-true, leb-false, ltb-true, eqb-true, lt-leb, lt-ltb, le-ltb}
 use Rattle.numbers.specs.Search.{maybe}
 use Rattle.daybook.specs.Book.{Entry, fromOn, lastOf}
 use Rattle.daybook.specs.Notices.{fitsKind, cannotOff, cannotOn}
 use Rattle.daybook.proofs.Lists.{inSpan, offOn}
-use Rattle.daybook.proofs.Steps.{lastEnd, skip, closed, offsAfter}
+use Rattle.daybook.proofs.Steps.{lastEnd, skip, closed}
 use Rattle.daybook.proofs.Well.{Spans, nospan, still, ended, Recs, norec, rec}
 use Rattle.daybook.proofs.Spans.{Span, off-past}
-
-true-false : {A : Type 0} → true ≡ false → A
-true-false e = let z : _≡_ {A = ℕ} 0 1 = cc in absurd (omega arith)
 
 -- ---- off from day d on
 
@@ -42,35 +39,37 @@ later-off : (off : ℕ) {on : ℕ} {l : List Span} → Spans (suc on) l → (d :
     → cannotOff d (lastOf ((off, some on) ∷ l)) ≡ false → (on < d) × (cannotOff d (lastOf l) ≡ false)
 unfolding lastOf
 later-off off {on} nospan d e = (leb-false d on e, refl)
-later-off off (still a b) d e = true-false e
+later-off off (still a b) d e = absurd (true≢false e)
 later-off off (ended {off = off′} {on = on} a b c r) d e = let h : on < d = later-off off′ r d e .0 in (omega arith, e)
 
+-- the spans stay well-formed
 pub spans-off : {lo : ℕ} {l : List Span} → Spans lo l → (d : ℕ) → lo ≤ d → d ≤ 39999 → cannotOff d (lastOf l) ≡ false
     → Spans lo (l ++ ((d, none) ∷ []))
 unfolding lastOf
 spans-off nospan d h k e = still h k
-spans-off (still a b) d h k e = true-false e
+spans-off (still a b) d h k e = absurd (true≢false e)
 spans-off (ended {off = off} a b c r) d h k e = ended a b c (spans-off r d (later-off off r d e .0) k (later-off off r d e .1))
 
 -- ---- on from day d on
 
 -- The last span is still off, from before day d.
-pub data LastOff (d : ℕ) : ℕ → List Span → Type 0 where
+data LastOff (d : ℕ) : ℕ → List Span → Type 0 where
   last : {lo off : ℕ} → lo ≤ off → off < d → LastOff d lo ((off, none) ∷ [])
   later :
       {lo off on : ℕ} {l : List Span} → lo ≤ off → off < on → on ≤ 39999 → LastOff d (suc on) l
       → LastOff d lo ((off, some on) ∷ l)
 
+-- the spans behind the first end with the same last one
 later-on : (off : ℕ) {on : ℕ} {l : List Span} → Spans (suc on) l → (d : ℕ)
     → cannotOn d (lastOf ((off, some on) ∷ l)) ≡ false → cannotOn d (lastOf l) ≡ false
 unfolding lastOf
-later-on off nospan d e = true-false e
+later-on off nospan d e = absurd (true≢false e)
 later-on off (still a b) d e = e
 later-on off (ended a b c r) d e = e
 
-pub last-off : {lo : ℕ} {l : List Span} → Spans lo l → (d : ℕ) → cannotOn d (lastOf l) ≡ false → LastOff d lo l
+last-off : {lo : ℕ} {l : List Span} → Spans lo l → (d : ℕ) → cannotOn d (lastOf l) ≡ false → LastOff d lo l
 unfolding lastOf
-last-off nospan d e = true-false e
+last-off nospan d e = absurd (true≢false e)
 last-off (still {off = off} a b) d e = last a (leb-false d off e)
 last-off (ended {off = off} a b c r) d e = later a b c (last-off r d (later-on off r d e))
 
@@ -106,6 +105,7 @@ pub on-after : {lo : ℕ} {l : List Span} → Spans lo l → (d : ℕ) → canno
     → offOn (closed d l) ≡ fromOn d false (offOn l)
 on-after r d e = fun-ext (on-from (last-off r d e))
 
+-- the spans stay well-formed
 pub spans-on : {lo : ℕ} {l : List Span} → Spans lo l → (d : ℕ) → d ≤ 39999 → cannotOn d (lastOf l) ≡ false
     → Spans lo (closed d l)
 unfolding closed
@@ -153,7 +153,7 @@ skip-on {d = d} (last {off = off} a b) from s e = go (ltb from off) e
     go : (t : Bool) → cond t (some from) none ≡ some s
         → cond t (some from) (cond (ltb from d) (some d) (some from)) ≡ some s
     go true e = e
-    go false e = let z : _≡_ {A = ℕ} 0 1 = cc in absurd (omega arith)
+    go false e = absurd (Option·none-ne-some s e)
 skip-on {d = d} (later {off = off} {on = on} {l = l} a b c r) from s e =
     ap (λ m. skip m from) (closed-behind r (off, some on)) ∙ go (ltb from off) (ltb from on) (skip-on r from s) e
   where
@@ -178,7 +178,7 @@ skip-ge (x ∷ l) d k e = go (ltb d (x .0)) (x .1) (skip-ge l d k) e
     go : (t : Bool) (o : Option ℕ) → (skip l d ≡ some k → d ≤ k)
         → cond t (some d) (maybe none (λ on. cond (ltb d on) (some on) (skip l d)) o) ≡ some k → d ≤ k
     go true o ih e = let q : d ≡ k = cc in omega arith
-    go false none ih e = let z : _≡_ {A = ℕ} 0 1 = cc in absurd (omega arith)
+    go false none ih e = absurd (Option·none-ne-some k e)
     go false (some on) ih e = past on (ltb d on) refl ih e
 
 -- a record of either kind ends no earlier than it starts
@@ -205,8 +205,8 @@ unfolding fromOn
 recs-off norec d h = norec
 recs-off {kind} {from} {l} (rec {x = x} s f e n t o r) d h =
     let k : x .end < d = end-before (rec {x = x} s f e n t o r) d h .0 in
-    let still-on : (y : ℕ) → x .start ≤ y → y ≤ x .end → offOn (l ++ ((d, none) ∷ [])) y ≡ false = λ y u v. ap (λ g. g y) (off-after l d) ∙ rw (lt-leb d y (omega arith)) (o y u v) in
-    rec {x = x} (skip-off l d from (x .start) (omega (arith, fits-le kind (x .start) (x .end) f)) s) f e n t still-on
+    rec {x = x} (skip-off l d from (x .start) (omega (arith, fits-le kind (x .start) (x .end) f)) s) f e n t
+    (λ y u v. ap (λ g. g y) (off-after l d) ∙ rw (lt-leb d y (omega arith)) (o y u v))
     (recs-off r d (end-before (rec {x = x} s f e n t o r) d h .1))
 
 -- and so do those of any record where the last span ends
@@ -229,58 +229,3 @@ recs-on {lo = lo} {l = l} all spans d h = go all
     go norec = norec
     go {from = from} (rec {x = x} s f e n t o r) =
         rec {x = x} (skip-on off-last from (x .start) s) f e n t (λ y u v. still-on y (o y u v)) (go r)
-
--- ---- either, as a status notice asks
-
--- A notice that row 14 does not send back: off (0) after the last on day and the last filled day, from install on, or
--- on (1) after the off day.
-pub data MaySwitch (day install : ℕ) (l : List Span) (lastFilled : Option ℕ) : ℕ → Type 0 where
-  mayOff :
-      cannotOff day (lastOf l) ≡ false → maybe false (leb day) lastFilled ≡ false → install ≤ day
-      → MaySwitch day install l lastFilled 0
-  mayOn : cannotOn day (lastOf l) ≡ false → MaySwitch day install l lastFilled 1
-
-pub may-switch : (day on install : ℕ) (lastFilled : Option ℕ) (l : List Span) → on ≤ 1
-    → cond (eqb on 1) (cannotOn day (lastOf l)) (cannotOff day (lastOf l) || maybe false (leb day) lastFilled || ltb day install) ≡ false → MaySwitch day install l lastFilled on
-may-switch day zero install lastFilled l h e =
-    let a : (cannotOff day (lastOf l) || maybe false (leb day) lastFilled ≡ false) × (ltb day install ≡ false) = neither _ _ e in
-    let b : (cannotOff day (lastOf l) ≡ false) × (maybe false (leb day) lastFilled ≡ false) = neither _ _ (a .0) in
-    mayOff (b .0) (b .1) (ltb-false day install (a .1))
-  where
-    neither : (s t : Bool) → (s || t) ≡ false → (s ≡ false) × (t ≡ false)
-    neither true t e = true-false e
-    neither false t e = (refl, e)
-may-switch day (suc zero) install lastFilled l h e = mayOn e
-may-switch day (suc (suc on)) install lastFilled l h e = absurd (omega arith)
-
--- the off days after it are the book's
-pub offs-after-days : {day install lo on : ℕ} {o : Option ℕ} {l : List Span} → Spans lo l
-    → MaySwitch day install l o on → offOn (offsAfter day on l) ≡ fromOn day (eqb on 0) (offOn l)
-unfolding offsAfter
-offs-after-days {day} {l = l} r (mayOff e f h) = off-after l day
-offs-after-days {day} r (mayOn e) = on-after r day e
-
--- the spans stay well-formed
-pub offs-after-spans : {day install on : ℕ} {o : Option ℕ} {l : List Span} → Spans install l → day ≤ 39999
-    → MaySwitch day install l o on → Spans install (offsAfter day on l)
-unfolding offsAfter
-offs-after-spans {day} r k (mayOff e f h) = spans-off r day h k e
-offs-after-spans {day} r k (mayOn e) = spans-on r day k e
-
--- and so do the records beside them
-pub offs-after-recs : {kind from day install lo on : ℕ} {l : List Span} {rs : List Entry} → Recs kind l from rs
-    → Spans lo l → MaySwitch day install l (lastEnd rs) on → Recs kind (offsAfter day on l) from rs
-unfolding offsAfter
-offs-after-recs {day = day} rs r (mayOff e f h) = recs-off rs day f
-offs-after-recs {day = day} rs r (mayOn e) = recs-on rs r day e
-
--- a notice that row 16 does not send back leaves at most `room` spans
-pub offs-after-few : (day on room : ℕ) (l : List Span) → length l ≤ room → (eqb on 0 && leb room (length l)) ≡ false
-    → length (offsAfter day on l) ≤ room
-unfolding offsAfter
-offs-after-few day on room l h = go (eqb on 0)
-  where
-    go : (t : Bool) → (t && leb room (length l)) ≡ false
-        → length (cond t (l ++ ((day, none) ∷ [])) (closed day l)) ≤ room
-    go true e = simp length-append (omega (arith, leb-false room (length l) e))
-    go false e = omega (arith, length-closed day l)

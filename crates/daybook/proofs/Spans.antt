@@ -50,6 +50,7 @@ off-past off on l x h = go (leb off x)
 
 -- ---- the spans
 
+-- off days ascend
 ascend : {lo : ℕ} {l : List Span} → Spans lo l → Asc (λ x. x .0) days lo l
 ascend nospan = nil
 ascend (still a b) = cons a (omega arith) nil
@@ -73,7 +74,10 @@ begins-off f d o e k h = rw (e, k, h) refl
 -- a span is told by its day, the day before and the days after
 begins-cong : (f g : ℕ → Bool) (d : ℕ) → ((x : ℕ) → d ≤ x → f x ≡ g x) → spanAt f (suc d) ≡ spanAt g (suc d)
 unfolding spanAt begins
-begins-cong f g d h = rw (h d (omega arith), h (suc d) (omega arith), first-cong (λ x. not (f x)) (λ x. not (g x)) (suc (suc d)) (days - suc (suc d)) (λ x u v. ap not (h x (omega arith)))) refl
+begins-cong f g d h = rw (h d (omega arith), h (suc d) (omega arith), after) refl
+  where
+    after : firstFrom (λ x. not (f x)) (suc (suc d)) (days - suc (suc d)) ≡ firstFrom (λ x. not (g x)) (suc (suc d)) (days - suc (suc d))
+    after = first-cong _ _ (suc (suc d)) (days - suc (suc d)) (λ x u v. ap not (h x (omega arith)))
 
 -- the first span is read on its off day, and nothing before it
 head-at : (x : Span) (l : List Span) → Spans (x .0) (x ∷ l) → Asc (λ y. y .0) days (suc (x .0)) l
