@@ -18,8 +18,6 @@ use Rattle.calendar.specs.declared.Reached.the-variants.{On, Outside}
 use Rattle.calendar.specs.declared.Period.{Period}
 use Rattle.calendar.specs.declared.Period.the-variants.{Window, Outside as NoWindow}
 
--- ---- dates
-
 -- lo ≤ z ≤ hi.
 abbrev pub within : ℤ → ℤ → ℤ → Bool
 within lo hi z = leZ lo z && leZ z hi

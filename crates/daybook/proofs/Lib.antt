@@ -3,11 +3,14 @@
 pub mod Lists
 pub mod Steps
 pub mod Well
+pub mod Rows
 pub mod Scan
 pub mod Apart
 pub mod Records
 pub mod RecordSteps
-pub mod Rows
-pub mod Points
 pub mod Registrations
 pub mod Covering
+pub mod Spans
+pub mod SpanSteps
+pub mod Switch
+pub mod Points

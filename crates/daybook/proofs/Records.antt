@@ -8,6 +8,7 @@ use native.Mathlib.Omega.{arith}
 use lib.Dec.{eqb}
 use borrow.Author.Tests.{eqb-true, eqb-false, ne-eqb}
 use Rattle.numbers.specs.Search.{maybe, isSome, lastBelow}
+use Rattle.numbers.proofs.Search.{last-none, last-is}
 use Rattle.daybook.specs.Book.{Entry, days, fill, lastOf, recordAt, records, lastFilled}
 use Rattle.daybook.specs.Notices.{whichOf, which}
 use Rattle.daybook.proofs.Lists.{Lists, entryOn, pointOf}
@@ -79,21 +80,6 @@ last-end-bounds {hi} {lo} {l} r d h = go (lastEnd l) (last-end-is r) h
     go : (o : Option ℕ) → LastIs hi lo l o → o ≡ some d → (lo ≤ d) × (d < hi)
     go none (never f) i = absurd (Option·none-ne-some d i)
     go (some e) (lastly u v t f) i = let k : e ≡ d = Option·some-injective e d i in (omega arith, omega arith)
-
--- the last index below n that passes a test, by what is found
-last-none : (p : ℕ → Bool) (n : ℕ) → ((d : ℕ) → p d ≡ false) → lastBelow p n ≡ none
-unfolding lastBelow
-last-none p zero f = refl
-last-none p (suc n) f = rw (f n, lastBelow) (last-none p n f)
-
-last-is : (p : ℕ → Bool) (n d : ℕ) → d < n → p d ≡ true → ((e : ℕ) → d < e → p e ≡ false) → lastBelow p n ≡ some d
-unfolding lastBelow
-last-is p zero d h e f = absurd (omega arith)
-last-is p (suc n) d h e f = go (eqb n d) refl (last-is p n d)
-  where
-    go : (b : Bool) → eqb n d ≡ b → (d < n → p d ≡ true → ((e : ℕ) → d < e → p e ≡ false) → lastBelow p n ≡ some d) → lastBelow p (suc n) ≡ some d
-    go true k ih = let q : n ≡ d = eqb-true n d k in rw (ap p q ∙ e, lastBelow) (ap some q)
-    go false k ih = let q : ¬ (n ≡ d) = eqb-false n d k in rw (f n (omega arith), lastBelow) (ih (omega arith) e f)
 
 -- ---- the day after the records
 
