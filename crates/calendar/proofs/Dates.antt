@@ -9,6 +9,7 @@ use borrow.Author.Tests.{eqb-true, eqb-false, leb-true, le-leb, lt-leb}
 use lib.Dec.{leb, eqb}
 use lib.IntN.{ℤ, pos, negsuc}
 use lib.ListN.{getD}
+use Rattle.numbers.proofs.Bools.{both}
 use Rattle.numbers.specs.Naturals.{natOf}
 use Rattle.numbers.specs.Rows.{all}
 use Rattle.numbers.proofs.Rows.{all-at}
@@ -58,21 +59,17 @@ month-length-bound y m =
     (cond-small (eqb m 2) _ _ 31 (omega arith)
     (cond-small (eqb m 4 || eqb m 6 || eqb m 9 || eqb m 11) 30 31 31 (omega arith) (omega arith)))
 
-and-both : (a b : Bool) → (a && b) ≡ true → (a ≡ true) × (b ≡ true)
-and-both true b e = (refl, e)
-and-both false b e = let z : _≡_ {A = ℕ} 0 1 = cc in absurd (omega arith)
-
 -- the code's tests, on the naturals that it reads
 abbrev pub onCalendar : ℕ → ℕ → ℕ → Bool
 onCalendar y m d = leb 1970 y && leb y 2079 && (leb 1 m && leb m 12) && (leb 1 d && leb d (monthLength y m))
 
 pub calendar-bound : (y m d : ℕ) {t : Bool} → t ≡ onCalendar y m d → t ≡ true → (1970 ≤ y) × (y ≤ 2079) × (1 ≤ m) × (m ≤ 12) × (1 ≤ d) × (d ≤ 31)
 calendar-bound y m d h e =
-    let s = and-both _ _ (sym h ∙ e) in
-    let t = and-both _ _ (s .0) in
-    let year = and-both _ _ (t .0) in
-    let month = and-both _ _ (t .1) in
-    let day = and-both _ _ (s .1) in
+    let s = both _ _ (sym h ∙ e) in
+    let t = both _ _ (s .0) in
+    let year = both _ _ (t .0) in
+    let month = both _ _ (t .1) in
+    let day = both _ _ (s .1) in
     let last : d ≤ monthLength y m = leb-true _ _ (day .1) in
     let small : d ≤ 31 = le-trans last (month-length-bound y m) in
     (leb-true _ _ (year .0), leb-true _ _ (year .1), leb-true _ _ (month .0), leb-true _ _ (month .1), leb-true _ _ (day .0), small)

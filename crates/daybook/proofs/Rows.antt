@@ -9,6 +9,7 @@ use lib.Dec.{ltb}
 use lib.ListN.{replicate}
 use lib.IntN.{pos}
 use borrow.Author.Tests.{ltb-true}
+use Rattle.numbers.proofs.Bools.{both}
 use Rattle.daybook.specs.Notices.{Row, smaller, least, Numbers, decide}
 
 -- ---- the lowest row that applies
@@ -17,10 +18,6 @@ use Rattle.daybook.specs.Notices.{Row, smaller, least, Numbers, decide}
 unfoldable pub above : ℕ → List Row → Bool
 above n [] = true
 above n (r ∷ rs) = ltb n (r .0) && above n rs
-
-both : (a b : Bool) → (a && b) ≡ true → (a ≡ true) × (b ≡ true)
-both true b e = (refl, e)
-both false b e = let z : _≡_ {A = ℕ} 0 1 = cc in absurd (omega arith)
 
 pub above-append : (n : ℕ) (rs ss : List Row) → above n rs ≡ true → above n ss ≡ true → above n (rs ++ ss) ≡ true
 unfolding above
