@@ -1,0 +1,159 @@
+-- Editions and places, the layout of a register's lists into numbers, and the way back.
+use mathlib.Core.Option.{Option, none, some}
+use mathlib.Core.List.{List, [], _∷_, _++_, map}
+use Prim.Native.Nat.{ℕ, zero, suc, _+_, _-_, _*_, _≤_, _^_}
+use lib.IntN.{ℤ, pos, negsuc}
+use lib.ListN.{length, getD, take, drop, replicate}
+use Rattle.numbers.specs.Naturals.{natOf}
+use Rattle.daybook.specs.Book.{Entry, Pending, Facts, Point, Book, Edition, records, registrations, spans}
+use Rattle.daybook.proofs.Lists.{Lists, Register, bookOf}
+
+-- ---- editions and places
+
+-- How many numbers a register has; those past them are never touched.
+abbrev pub tableLength : ℕ
+tableLength = 7688
+
+abbrev pub standard : Edition
+standard = record { points = 32; records = 48 }
+
+-- How many numbers a point has: records start at place 48, four numbers each.
+abbrev pub stride : Edition → ℕ
+stride ed = 48 + 4 * ed .records
+
+-- Where point i starts.
+abbrev pub placeOf : Edition → ℕ → ℕ
+placeOf ed i = 8 + stride ed * i
+
+-- An edition whose points fit the table.
+abbrev pub Fits : Edition → Type 0
+Fits ed = placeOf ed (ed .points) ≤ tableLength
+
+-- The numbers of point i.
+unfoldable pub partOf : Edition → List ℤ → ℕ → List ℤ
+partOf ed t i = take (stride ed) (drop (placeOf ed i) t)
+
+-- The table with p for the numbers of point i.
+unfoldable pub withPart : Edition → List ℤ → ℕ → List ℤ → List ℤ
+withPart ed t i p = take (placeOf ed i) t ++ (p ++ drop (placeOf ed i + stride ed) t)
+
+-- ---- from lists to numbers
+
+-- Unused places are 0.
+unfoldable pub pad : ℕ → List ℤ → List ℤ
+pad n l = l ++ replicate (n - length l) (pos 0)
+
+unfoldable pub regNumbers : List (ℕ × ℕ) → List ℤ
+regNumbers [] = []
+regNumbers (x ∷ l) = pos (x .0) ∷ pos (x .1) ∷ regNumbers l
+
+-- The on day of a span, -1 if it is still off.
+abbrev pub onNumber : Option ℕ → ℤ
+onNumber none = negsuc 0
+onNumber (some d) = pos d
+
+unfoldable pub offNumbers : List (ℕ × Option ℕ) → List ℤ
+offNumbers [] = []
+offNumbers (x ∷ l) = pos (x .0) ∷ onNumber (x .1) ∷ offNumbers l
+
+unfoldable pub recNumbers : List Entry → List ℤ
+recNumbers [] = []
+recNumbers (x ∷ l) = pos (x .start) ∷ pos (x .end) ∷ x .energy ∷ pos (x .type) ∷ recNumbers l
+
+-- A pending request, or three zeros.
+abbrev pub asked : Option Pending → Pending
+asked none = record { user = 0; first = 0; last = 0 }
+asked (some q) = q
+
+-- The first sixteen places of a point: MIRN, kind, install, base load, how many registrations, off spans and records,
+-- pending User, first, last, six zeros.
+unfoldable pub headNumbers : Lists → List ℤ
+headNumbers q =
+    pos (q .facts .mirn) ∷ pos (q .facts .kind) ∷ pos (q .facts .install) ∷ pos (q .facts .base)
+    ∷ pos (length (q .regs)) ∷ pos (length (q .offs)) ∷ pos (length (q .recs))
+    ∷ pos (asked (q .pending) .user) ∷ pos (asked (q .pending) .first) ∷ pos (asked (q .pending) .last)
+    ∷ replicate 6 (pos 0)
+
+-- From 16 registrations, from 32 off spans, from 48 records.
+unfoldable pub pointNumbers : ℕ → Lists → List ℤ
+pointNumbers room q =
+    headNumbers q ++ (pad 16 (regNumbers (q .regs)) ++ (pad 16 (offNumbers (q .offs)) ++ pad (4 * room) (recNumbers (q .recs))))
+
+unfoldable pub pointsNumbers : ℕ → List Lists → List ℤ
+pointsNumbers room [] = []
+pointsNumbers room (q ∷ qs) = pointNumbers room q ++ pointsNumbers room qs
+
+-- Places 0 to 7: how many points, the two ranges, five zeros. Then the points; what is left of the table is 0.
+unfoldable pub layout : Edition → Register → List ℤ
+layout ed R =
+    pad tableLength (pad 8 (pos (length (R .points)) ∷ R .nondaily ∷ R .daily ∷ []) ++ pointsNumbers (ed .records) (R .points))
+
+-- ---- from numbers to lists
+
+-- The number at a place; a negative one is above every bound.
+abbrev pub numAt : List ℤ → ℕ → ℕ
+numAt t i = natOf (getD t i (pos 0))
+
+unfoldable pub regsFrom : ℕ → List ℤ → List (ℕ × ℕ)
+regsFrom zero t = []
+regsFrom (suc n) t = (numAt t 0, numAt t 1) ∷ regsFrom n (drop 2 t)
+
+-- -1 is still off; any other negative number is above every bound.
+abbrev pub onOf : ℤ → Option ℕ
+onOf (pos d) = some d
+onOf (negsuc zero) = none
+onOf (negsuc (suc d)) = some (2 ^ 63)
+
+unfoldable pub offsFrom : ℕ → List ℤ → List (ℕ × Option ℕ)
+offsFrom zero t = []
+offsFrom (suc n) t = (numAt t 0, onOf (getD t 1 (pos 0))) ∷ offsFrom n (drop 2 t)
+
+unfoldable pub recsFrom : ℕ → List ℤ → List Entry
+recsFrom zero t = []
+recsFrom (suc n) t =
+    record { start = numAt t 0; end = numAt t 1; energy = getD t 2 (pos 0); type = numAt t 3 } ∷ recsFrom n (drop 4 t)
+
+-- A pending User of 0 is none.
+abbrev pub pendingFrom : ℕ → ℕ → ℕ → Option Pending
+pendingFrom zero first last = none
+pendingFrom (suc u) first last = some (record { user = suc u; first = first; last = last })
+
+unfoldable pub pointFrom : List ℤ → Lists
+pointFrom p =
+    record {
+      facts = record { mirn = numAt p 0; kind = numAt p 1; install = numAt p 2; base = numAt p 3 };
+      regs = regsFrom (numAt p 4) (drop 16 p);
+      offs = offsFrom (numAt p 5) (drop 32 p);
+      recs = recsFrom (numAt p 6) (drop 48 p);
+      pending = pendingFrom (numAt p 7) (numAt p 8) (numAt p 9);
+    }
+
+unfoldable pub pointsFrom : Edition → ℕ → List ℤ → List Lists
+pointsFrom ed zero t = []
+pointsFrom ed (suc n) t = pointFrom (take (stride ed) t) ∷ pointsFrom ed n (drop (stride ed) t)
+
+unfoldable pub registerOf : Edition → List ℤ → Register
+registerOf ed t =
+    record {
+      nondaily = getD t 1 (pos 0);
+      daily = getD t 2 (pos 0);
+      points = pointsFrom ed (numAt t 0) (drop 8 t);
+    }
+
+-- ---- tables and books
+
+-- The day book of a table.
+unfoldable pub tableBook : Edition → List ℤ → Book
+tableBook ed t = bookOf (registerOf ed t)
+
+-- A book's points as lists, read off their days.
+unfoldable pub listsOf : Point → Lists
+listsOf p =
+    record { facts = p .facts; regs = registrations p; offs = spans p; recs = records p; pending = p .pending }
+
+unfoldable pub bookRegister : Book → Register
+bookRegister B = record { nondaily = B .nondaily; daily = B .daily; points = map listsOf (B .points) }
+
+-- The table t with the book B laid out over its register; the numbers past that are kept.
+unfoldable pub written : Edition → List ℤ → Book → List ℤ
+written ed t B = layout ed (bookRegister B) ++ drop tableLength t

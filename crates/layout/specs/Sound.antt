@@ -1,0 +1,101 @@
+-- When a table is a sound register: document 01's sentence, clause by clause.
+use mathlib.Core.Bool.{Bool, true, false, not, _&&_, cond}
+use mathlib.Core.Option.{Option}
+use mathlib.Core.List.{List, [], _∷_, _++_}
+use Prim.Native.Nat.{ℕ, _+_, _-_, _*_, _/_}
+use lib.Dec.{leb, ltb, eqb}
+use lib.IntN.{ℤ, pos, negsuc}
+use lib.ListN.{length, getD, drop}
+use Rattle.numbers.specs.Rows.{all}
+use Rattle.numbers.specs.Search.{maybe}
+use Rattle.calendar.specs.Calendar.{within}
+use Rattle.daybook.specs.Book.{Entry, Pending, Facts, Edition, lastOf, appendDay}
+use Rattle.daybook.specs.Notices.{fitsKind, isRange, offWithin}
+use Rattle.daybook.proofs.Lists.{Lists, pointOf}
+use Rattle.layout.specs.Layout.{tableLength, placeOf, partOf, numAt, pointFrom, pointsFrom}
+
+unfoldable pub each : {A : Type 0} → (A → Bool) → List A → Bool
+each test [] = true
+each test (x ∷ l) = test x && each test l
+
+unfoldable pub neighbours : {A : Type 0} → (A → A → Bool) → List A → Bool
+neighbours test [] = true
+neighbours test (x ∷ []) = true
+neighbours test (x ∷ y ∷ l) = test x y && neighbours test (y ∷ l)
+
+-- All values are in range.
+unfoldable pub factsSound : Facts → Bool
+factsSound f = leb 1 (f .mirn) && leb (f .mirn) 9999999999 && leb (f .kind) 1 && leb (f .install) 39999 && leb (f .base) 10000
+
+abbrev pub startsOn : ℕ → List (ℕ × ℕ) → Bool
+startsOn install [] = true
+startsOn install (x ∷ l) = eqb (x .0) install
+
+-- Registrations ascend strictly from install (a start may be 40,000) and neighbours differ in User.
+unfoldable pub regsSound : ℕ → List (ℕ × ℕ) → Bool
+regsSound install l =
+    each (λ (x : ℕ × ℕ). leb (x .0) 40000 && leb 1 (x .1) && leb (x .1) 16) l && startsOn install l
+    && neighbours (λ (x y : ℕ × ℕ). ltb (x .0) (y .0) && not (eqb (x .1) (y .1))) l
+
+-- Spans begin at or after install, each ends after it begins, the next begins after that on day, only the last is open.
+unfoldable pub offsSound : ℕ → List (ℕ × Option ℕ) → Bool
+offsSound install l =
+    each (λ (x : ℕ × Option ℕ). leb install (x .0) && leb (x .0) 39999 && maybe true (λ on. ltb (x .0) on && leb on 39999) (x .1)) l
+    && neighbours (λ (x y : ℕ × Option ℕ). maybe false (λ on. ltb on (y .0)) (x .1)) l
+
+-- The point with only these records.
+unfoldable pub withRecs : List Entry → Lists → Lists
+withRecs l q = record { facts = q .facts; regs = q .regs; offs = q .offs; recs = l; pending = q .pending }
+
+-- Each record starts on the append day of the point with only the records before it.
+unfoldable pub byAppendRule : Lists → List Entry → List Entry → Bool
+byAppendRule q before [] = true
+byAppendRule q before (x ∷ l) =
+    maybe false (eqb (x .start)) (appendDay (pointOf (withRecs before q))) && byAppendRule q (before ++ (x ∷ [])) l
+
+-- Records start by the append rule, fit their kind and hold no off day.
+unfoldable pub recsSound : Lists → Bool
+recsSound q =
+    each (λ (x : Entry). leb (x .end) 39999 && within (negsuc 999999) (pos 1000000) (x .energy) && leb (x .type) 2 && fitsKind (q .facts .kind) (x .start) (x .end) && not (offWithin (pointOf q) (x .start) (x .end))) (q .recs)
+    && byAppendRule q [] (q .recs)
+
+-- A pending User isn't the latest, first ≤ last, both are days, and registrations are at most 7.
+unfoldable pub pendingSound : Lists → Bool
+pendingSound q =
+    maybe true
+    (λ (r : Pending). leb (r .user) 16 && not (eqb (maybe 0 (λ x. x .1) (lastOf (q .regs))) (r .user)) && leb (r .first) (r .last) && leb (r .last) 39999 && leb (length (q .regs)) 7)
+    (q .pending)
+
+unfoldable pub listsSound : Lists → Bool
+listsSound q =
+    factsSound (q .facts) && regsSound (q .facts .install) (q .regs) && offsSound (q .facts .install) (q .offs)
+    && recsSound q && pendingSound q
+
+-- The places a to b - 1 are 0.
+unfoldable pub zeros : List ℤ → ℕ → ℕ → Bool
+zeros t a b = all (λ k. eqb (numAt t (a + k)) 0) (b - a)
+
+-- Registrations are 1 to 8, off spans 0 to 8, records 0 to as many as the part holds.
+unfoldable pub countsSound : List ℤ → Bool
+countsSound p =
+    leb 1 (numAt p 4) && leb (numAt p 4) 8 && leb (numAt p 5) 8 && leb (numAt p 6) ((length p - 48) / 4)
+
+-- Unused places are 0; without a pending User, all three are 0.
+unfoldable pub unusedZero : List ℤ → Bool
+unusedZero p =
+    zeros p 10 16 && zeros p (16 + 2 * numAt p 4) 32 && zeros p (32 + 2 * numAt p 5) 48 && zeros p (48 + 4 * numAt p 6) (length p)
+    && cond (eqb (numAt p 7) 0) (zeros p 7 10) true
+
+unfoldable pub partSound : List ℤ → Bool
+partSound p = countsSound p && unusedZero p && listsSound (pointFrom p)
+
+unfoldable pub mirnsDiffer : List Lists → Bool
+mirnsDiffer [] = true
+mirnsDiffer (q ∷ qs) = each (λ (r : Lists). not (eqb (q .facts .mirn) (r .facts .mirn))) qs && mirnsDiffer qs
+
+-- The header, every point, MIRNs that differ, and 0 in all that is left.
+unfoldable pub sound : Edition → List ℤ → Bool
+sound ed t =
+    leb tableLength (length t) && leb (numAt t 0) (ed .points) && isRange (getD t 1 (pos 0)) && isRange (getD t 2 (pos 0))
+    && zeros t 3 8 && all (λ i. partSound (partOf ed t i)) (numAt t 0) && mirnsDiffer (pointsFrom ed (numAt t 0) (drop 8 t))
+    && zeros t (placeOf ed (numAt t 0)) tableLength

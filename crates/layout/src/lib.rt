@@ -1,0 +1,1 @@
+// No code: the places of the register table, its soundness, and the laws of both.
