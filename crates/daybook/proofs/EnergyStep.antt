@@ -3,7 +3,7 @@
 use mathlib.Core.Path.{_≡_, refl, sym, _∙_, ap}
 use mathlib.Core.Bool.{Bool, true, false, not, _&&_, cond, and-false}
 use mathlib.Core.Option.{Option, none, some}
-use mathlib.Core.List.{List, [], _++_, map}
+use mathlib.Core.List.{List, [], _∷_, _++_, map}
 use Prim.Native.Nat.{ℕ, suc, _≤_, _<_}
 use native.Mathlib.Omega.{arith}
 use lib.Dec.{leb, ltb, eqb}
@@ -90,3 +90,132 @@ energy-clear ed n R q e =
       next = λ a. is-day (natOf (n .start)) (appendDayOf q) (of-append _ _ (row7 .0) a);
       more = λ a. leb-false _ _ (of-append _ _ (row16 .0) a);
     }
+
+-- ---- the step is the book's
+
+module _ {room : ℕ} {q : Lists} (ok : Well room q) where
+  -- the first day after the records is a day of the book
+  day-after-days : dayAfter (q .facts .install) (q .recs) < days
+  day-after-days =
+      let h : q .facts .install ≤ 39999 = ok .factsOk .installOk in
+      omega (arith, day-after-le (recs-apart (ok .recsOk)) (omega arith))
+
+  pub append-is : appendDay (pointOf q) ≡ appendDayOf q
+  append-is = append-day-is ok (last-filled-is ok) day-after-days
+
+  -- the rows of the notice, on the point's days and on its lists
+  energy-rows-is : (ed : Edition) (n : EnergyNotice) (R : Register)
+      → energyRows ed n (q .facts .kind) (which (pointOf q) (entryOf n)) (appendDay (pointOf q)) (offWithin (pointOf q) (entryOf n .start) (entryOf n .end))
+      (beyond (R .nondaily) (R .daily) (q .facts .kind) (entryOf n .energy)) (length (records (pointOf q)))
+      ≡ energyListsRows ed n R q
+  unfolding energyListsRows
+  energy-rows-is ed n R = rw (which-is ok (entryOf n), append-is, off-within-is ok (entryOf n .start) (entryOf n .end), records-is ok)
+
+  -- an entry goes onto the lists as it goes onto the days, whatever becomes of the request
+  entered-is : (x : Entry) (w : Which) (o : Outcome) → fill x (kept w (x .start) (entryOn (q .recs))) ≡ entryOn (recsAfter w x (q .recs))
+      → entered x w o (pointOf q) ≡ (enteredLists x w o q .0, pointOf (enteredLists x w o q .1))
+  unfolding entered enteredLists pointOf withEntries withFro withPending
+  entered-is x w o e = λ i. (map pos (whichNumber w ∷ removed w (x .start) (records-is ok i) ∷ outcomeNumbers o), go o i)
+    where
+      go : (o : Outcome) → settled o (x .end) (withEntries (fill x (kept w (x .start) (entryOn (q .recs)))) (pointOf q)) ≡ pointOf (enteredLists x w o q .1)
+      go (registers u) = λ i. record {
+        facts = q .facts;
+        entry = e i;
+        off = offOn (q .offs);
+        fro = sym (user-from (ok .regsOk) (suc (x .end)) u) i;
+        pending = none;
+      }
+      go lapses = λ i. record { facts = q .facts; entry = e i; off = offOn (q .offs); fro = userOn 0 (q .regs); pending = none }
+      go stays = λ i. record { facts = q .facts; entry = e i; off = offOn (q .offs); fro = userOn 0 (q .regs); pending = q .pending }
+
+  enter-is : (x : Entry) → MayEnter room x q → enter x (pointOf q) ≡ (enterLists x q .0, pointOf (enterLists x q .1))
+  unfolding enter enterLists whichIn appendDayOf pointOf
+  enter-is x may =
+      ap (λ w. entered x w (outcomeOf w x (latest (pointOf q) .0) (q .pending)) (pointOf q)) (which-is ok x)
+      ∙ ap (λ l. entered x (whichIn q x) (outcomeOf (whichIn q x) x (l .0) (q .pending)) (pointOf q)) (latest-is ok)
+      ∙ entered-is x (whichIn q x) _ (entries-after (ok .recsOk) x (whichIn q x) refl (λ a. skip-ge (q .offs) _ (x .start) (may .next a)))
+
+-- An energy notice on the book's days is the notice on the lists.
+pub energy-step : (ed : Edition) (n : EnergyNotice) (R : Register) → WellFormed ed R
+    → energy ed n (bookOf R) ≡ (energyLists ed n R .0, bookOf (energyLists ed n R .1))
+unfolding energy energyLists pointOf bookOf
+energy-step ed n R ok =
+    on-lists 4 (n .mirn) (energyEarly n) _ (energyListsRows ed n R) (enter (entryOf n)) (enterLists (entryOf n))
+    (λ q w. energy-rows-is w ed n R) (λ q w e. enter-is w (entryOf n) (energy-clear ed n R q e)) R (ok .pointsOk)
+
+-- ---- the register stays well-formed
+
+-- What a request comes to leaves well-formed registrations and a request that may stand beside them.
+record Settled (install : ℕ) (regs : List (ℕ × ℕ)) (o : Option Pending) : Type 0 where
+  pub regsOk : Regs 0 install regs
+  pub regsStart : StartsOn install regs
+  pub regsFew : length regs ≤ 8
+  pub pendingOk : PendingOk regs o
+
+settled-keeps : {install : ℕ} {regs : List (ℕ × ℕ)} {o : Option Pending} → Settled install regs o → (w : Which) (x : Entry) → x .end ≤ 39999
+    → Settled install (regsAfter (outcomeOf w x (latestOf regs .0) o) (x .end) regs) (pendingAfter (outcomeOf w x (latestOf regs .0) o) o)
+settled-keeps {install} {regs} {o} ok w x h = go o (ok .pendingOk)
+  where
+    lapsed : Settled install regs none
+    lapsed = record { regsOk = ok .regsOk; regsStart = ok .regsStart; regsFew = ok .regsFew; pendingOk = nopending }
+
+    waits : {p : Pending} (t : Bool) → PendingOk regs (some p)
+        → Settled install (regsAfter (cond t lapses stays) (x .end) regs) (pendingAfter (cond t lapses stays) (some p))
+    waits true p = lapsed
+    waits false p = record { regsOk = ok .regsOk; regsStart = ok .regsStart; regsFew = ok .regsFew; pendingOk = p }
+
+    registered : (u : ℕ) → 1 ≤ u → u ≤ 16 → eqb (latestOf regs .1) u ≡ false → length regs ≤ 7 → latestOf regs .0 < suc (x .end)
+        → Settled install (userFrom (suc (x .end)) u regs) none
+    registered u a b c f g =
+        let i : install ≤ latestOf regs .0 = latest-after (ok .regsOk) (ok .regsStart) in
+        record {
+          regsOk = regs-from (ok .regsOk) (suc (x .end)) u (omega arith) (omega arith) a b;
+          regsStart = starts-from (ok .regsStart) (suc (x .end)) u (omega arith);
+          regsFew = omega (arith, user-from-length (ok .regsOk) (suc (x .end)) u g c);
+          pendingOk = nopending;
+        }
+
+    go : (o : Option Pending) → PendingOk regs o
+        → Settled install (regsAfter (outcomeOf w x (latestOf regs .0) o) (x .end) regs) (pendingAfter (outcomeOf w x (latestOf regs .0) o) o)
+    go none p = lapsed
+    go (some r) (pending a b c d e f) = by (leb (r .first) (x .end) && leb (x .end) (r .last)) (ltb (latestOf regs .0) (suc (x .end))) refl
+      where
+        by : (s t : Bool) → ltb (latestOf regs .0) (suc (x .end)) ≡ t
+            → Settled install (regsAfter (cond (s && t) (registers (r .user)) (cond (ltb (r .last) (x .end)) lapses stays)) (x .end) regs)
+            (pendingAfter (cond (s && t) (registers (r .user)) (cond (ltb (r .last) (x .end)) lapses stays)) (some r))
+        by true true g = registered (r .user) a b c f (ltb-true _ _ g)
+        by true false g = waits (ltb (r .last) (x .end)) (pending a b c d e f)
+        by false t g = waits (ltb (r .last) (x .end)) (pending a b c d e f)
+
+-- an entry that may go onto the point leaves it well-formed
+pub enter-keeps : {room : ℕ} {q : Lists} → Well room q → (x : Entry) → MayEnter room x q → Well room (enterLists x q .1)
+unfolding enterLists enteredLists whichIn appendDayOf pointOf
+enter-keeps {q = q} ok x may =
+    record {
+      factsOk = ok .factsOk;
+      regsOk = after .regsOk;
+      regsStart = after .regsStart;
+      regsFew = after .regsFew;
+      offsOk = ok .offsOk;
+      offsFew = ok .offsFew;
+      recsOk = recs-after x (may .fits) (may .endOk) (may .energyOk) (may .typeOk) on (ok .recsOk) (whichIn q x) refl (may .next);
+      recsFew = recs-few (ok .recsOk) (ok .recsFew) x (whichIn q x) refl (may .more);
+      pendingOk = after .pendingOk;
+    }
+  where
+    after : Settled (q .facts .install) (enterLists x q .1 .regs) (enterLists x q .1 .pending)
+    after =
+        settled-keeps (record { regsOk = ok .regsOk; regsStart = ok .regsStart; regsFew = ok .regsFew; pendingOk = ok .pendingOk })
+        (whichIn q x) x (may .endOk)
+
+    on : (d : ℕ) → x .start ≤ d → d ≤ x .end → offOn (q .offs) d ≡ false
+    on =
+        no-off (pointOf q) (x .start) (x .end)
+        (off-within-is ok (x .start) (x .end) ∙ rw (may .on) (and-false (leb (x .start) (x .end))))
+
+-- An energy notice keeps the register well-formed.
+pub energy-keeps : (ed : Edition) (n : EnergyNotice) {R : Register} → WellFormed ed R → WellFormed ed (energyLists ed n R .1)
+unfolding energyLists enterLists enteredLists
+energy-keeps ed n {R} ok =
+    on-lists-keeps 4 (n .mirn) (energyEarly n) (energyListsRows ed n R) (enterLists (entryOf n))
+    (λ q w e. (enter-keeps w (entryOf n) (energy-clear ed n R q e), refl)) ok
