@@ -16,10 +16,10 @@ use Rattle.numbers.proofs.Bools.{both}
 use Rattle.calendar.specs.Calendar.{within, isDay}
 use Rattle.calendar.proofs.Dates.{within-natural, day-natural}
 use Rattle.daybook.specs.declared.EnergyNotice.{EnergyNotice}
-use Rattle.daybook.specs.Book.{Entry, Pending, Point, Edition, days, fromOn, fill, withEntries, withFro, withPending, records, latest, appendDay}
-use Rattle.daybook.specs.Notices.{Row, least, Numbers, isMirn, isFlag, Which, append, whichNumber, which, entryOf, energyEarly, energyRows, fitsKind, offWithin, beyond, kept, removed, Outcome, registers, lapses, stays, outcomeOf, outcomeNumbers, settled, entered, enter, energy}
+use Rattle.daybook.specs.Book.{Entry, Pending, Edition, days, fill, withEntries, withFro, withPending, records, latest, appendDay}
+use Rattle.daybook.specs.Notices.{least, isMirn, isFlag, Which, append, whichNumber, which, entryOf, energyEarly, energyRows, fitsKind, offWithin, beyond, kept, removed, Outcome, registers, lapses, stays, outcomeOf, outcomeNumbers, settled, entered, enter, energy}
 use Rattle.daybook.proofs.Lists.{Lists, Register, offOn, entryOn, userOn, pointOf, bookOf}
-use Rattle.daybook.proofs.Steps.{latestOf, whichIn, skip, appendDayOf, someOverlap, recsAfter, userFrom, regsAfter, pendingAfter, enteredLists, enterLists, energyListsRows, energyLists}
+use Rattle.daybook.proofs.Steps.{latestOf, whichIn, appendDayOf, someOverlap, recsAfter, userFrom, regsAfter, pendingAfter, enteredLists, enterLists, energyListsRows, energyLists}
 use Rattle.daybook.proofs.Well.{Regs, StartsOn, PendingOk, nopending, pending, Well, WellFormed}
 use Rattle.daybook.proofs.Rows.{above, least-none, least-append-both}
 use Rattle.daybook.proofs.Apart.{recs-apart, skip-ge, fits-le}
@@ -42,22 +42,22 @@ pub record MayEnter (room : ℕ) (x : Entry) (q : Lists) : Type 0 where
   pub next : whichIn q x ≡ append → appendDayOf q ≡ some (x .start)
   pub more : whichIn q x ≡ append → length (q .recs) < room
 
--- a row of appends alone fails its other test on an append
+-- where a row for appends alone doesn't apply to an append, its other test fails
 of-append : (w : Which) (t : Bool) → (eqb (whichNumber w) 1 && t) ≡ false → w ≡ append → t ≡ false
 of-append w t h e = rw e at h
 
--- a day that is not refused as another than the append day is the append day
+-- a day that isn't refused as another day is that day
 is-day : (d : ℕ) (o : Option ℕ) → not (maybe false (eqb d) o) ≡ false → o ≡ some d
 is-day d none h = let z : _≡_ {A = ℕ} 0 1 = cc in absurd (omega arith)
 is-day d (some k) h = ap some (sym (eqb-true d k (not-false _ h)))
 
--- a notice whose numbers are not refused has an entry with numbers in range
+-- row 2: the numbers of the entry are in range
 energy-numbers : (n : EnergyNotice) → least (energyEarly n) ≡ 0
     → (natOf (n .end) ≤ 39999) × (within (negsuc 999999) (pos 1000000) (n .energy) ≡ true) × (natOf (n .quality) ≤ 2)
 unfolding energyEarly
 energy-numbers n e =
     let tests : (isDay (n .end) ≡ true) × (within (negsuc 999999) (pos 1000000) (n .energy) ≡ true) × (within (pos 0) (pos 2) (n .quality) ≡ true) =
-        middle (isMirn (n .mirn) && isDay (n .start)) _ _ _ (isFlag (n .confirmed)) (not-false _ (least-none 1 _ [] e .0)) in
+    middle (isMirn (n .mirn) && isDay (n .start)) _ _ _ (isFlag (n .confirmed)) (not-false _ (least-none 1 _ [] e .0)) in
     let type = both (leb 0 (natOf (n .quality))) _ (within-natural 0 2 (n .quality) (omega arith) ∙ tests .2) in
     (leb-true _ _ (day-natural (n .end) ∙ tests .0), tests .1, leb-true _ _ (type .1))
   where
@@ -68,7 +68,7 @@ energy-numbers n e =
         let two : ((a && b) ≡ true) × (c ≡ true) = both _ c (three .0) in
         (both a b (two .0) .1, two .1, three .1)
 
--- a notice that no row sends back has such an entry
+-- The entry of a notice that no row sends back may go onto the point.
 pub energy-clear : (ed : Edition) (n : EnergyNotice) (R : Register) (q : Lists) → least (energyEarly n ++ energyListsRows ed n R q) ≡ 0
     → MayEnter (ed .records) (entryOf n) q
 unfolding energyEarly energyListsRows energyRows entryOf above
@@ -94,13 +94,13 @@ energy-clear ed n R q e =
 -- ---- the step is the book's
 
 module _ {room : ℕ} {q : Lists} (ok : Well room q) where
-  -- the first day after the records is a day of the book
+  -- the day after the records is a day of the book, so the append day is the lists'
   day-after-days : dayAfter (q .facts .install) (q .recs) < days
   day-after-days =
       let h : q .facts .install ≤ 39999 = ok .factsOk .installOk in
       omega (arith, day-after-le (recs-apart (ok .recsOk)) (omega arith))
 
-  pub append-is : appendDay (pointOf q) ≡ appendDayOf q
+  append-is : appendDay (pointOf q) ≡ appendDayOf q
   append-is = append-day-is ok (last-filled-is ok) day-after-days
 
   -- the rows of the notice, on the point's days and on its lists
@@ -128,6 +128,7 @@ module _ {room : ℕ} {q : Lists} (ok : Well room q) where
       go lapses = λ i. record { facts = q .facts; entry = e i; off = offOn (q .offs); fro = userOn 0 (q .regs); pending = none }
       go stays = λ i. record { facts = q .facts; entry = e i; off = offOn (q .offs); fro = userOn 0 (q .regs); pending = q .pending }
 
+  -- which it is and what becomes of the request are read off the lists as off the days
   enter-is : (x : Entry) → MayEnter room x q → enter x (pointOf q) ≡ (enterLists x q .0, pointOf (enterLists x q .1))
   unfolding enter enterLists whichIn appendDayOf pointOf
   enter-is x may =
@@ -145,23 +146,24 @@ energy-step ed n R ok =
 
 -- ---- the register stays well-formed
 
--- What a request comes to leaves well-formed registrations and a request that may stand beside them.
+-- Well-formed registrations, at most 8, and a request that may stand beside them.
 record Settled (install : ℕ) (regs : List (ℕ × ℕ)) (o : Option Pending) : Type 0 where
   pub regsOk : Regs 0 install regs
   pub regsStart : StartsOn install regs
   pub regsFew : length regs ≤ 8
   pub pendingOk : PendingOk regs o
 
+-- whatever the request comes to leaves them so
 settled-keeps : {install : ℕ} {regs : List (ℕ × ℕ)} {o : Option Pending} → Settled install regs o → (w : Which) (x : Entry) → x .end ≤ 39999
     → Settled install (regsAfter (outcomeOf w x (latestOf regs .0) o) (x .end) regs) (pendingAfter (outcomeOf w x (latestOf regs .0) o) o)
 settled-keeps {install} {regs} {o} ok w x h = go o (ok .pendingOk)
   where
-    lapsed : Settled install regs none
-    lapsed = record { regsOk = ok .regsOk; regsStart = ok .regsStart; regsFew = ok .regsFew; pendingOk = nopending }
+    norequest : Settled install regs none
+    norequest = record { regsOk = ok .regsOk; regsStart = ok .regsStart; regsFew = ok .regsFew; pendingOk = nopending }
 
     waits : {p : Pending} (t : Bool) → PendingOk regs (some p)
         → Settled install (regsAfter (cond t lapses stays) (x .end) regs) (pendingAfter (cond t lapses stays) (some p))
-    waits true p = lapsed
+    waits true p = norequest
     waits false p = record { regsOk = ok .regsOk; regsStart = ok .regsStart; regsFew = ok .regsFew; pendingOk = p }
 
     registered : (u : ℕ) → 1 ≤ u → u ≤ 16 → eqb (latestOf regs .1) u ≡ false → length regs ≤ 7 → latestOf regs .0 < suc (x .end)
@@ -177,7 +179,7 @@ settled-keeps {install} {regs} {o} ok w x h = go o (ok .pendingOk)
 
     go : (o : Option Pending) → PendingOk regs o
         → Settled install (regsAfter (outcomeOf w x (latestOf regs .0) o) (x .end) regs) (pendingAfter (outcomeOf w x (latestOf regs .0) o) o)
-    go none p = lapsed
+    go none p = norequest
     go (some r) (pending a b c d e f) = by (leb (r .first) (x .end) && leb (x .end) (r .last)) (ltb (latestOf regs .0) (suc (x .end))) refl
       where
         by : (s t : Bool) → ltb (latestOf regs .0) (suc (x .end)) ≡ t
@@ -187,7 +189,7 @@ settled-keeps {install} {regs} {o} ok w x h = go o (ok .pendingOk)
         by true false g = waits (ltb (r .last) (x .end)) (pending a b c d e f)
         by false t g = waits (ltb (r .last) (x .end)) (pending a b c d e f)
 
--- an entry that may go onto the point leaves it well-formed
+-- An entry that may go onto the point leaves it well-formed.
 pub enter-keeps : {room : ℕ} {q : Lists} → Well room q → (x : Entry) → MayEnter room x q → Well room (enterLists x q .1)
 unfolding enterLists enteredLists whichIn appendDayOf pointOf
 enter-keeps {q = q} ok x may =
