@@ -14,3 +14,4 @@ pub mod Spans
 pub mod SpanSteps
 pub mod Switch
 pub mod Points
+pub mod EnergyStep
