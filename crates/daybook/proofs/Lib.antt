@@ -14,3 +14,5 @@ pub mod Spans
 pub mod SpanSteps
 pub mod Switch
 pub mod Points
+pub mod Bounds
+pub mod OpenStep
