@@ -16,3 +16,4 @@ pub mod Switch
 pub mod Points
 pub mod Bounds
 pub mod OpenStep
+pub mod StatusStep
