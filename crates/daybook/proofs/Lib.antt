@@ -17,3 +17,4 @@ pub mod Points
 pub mod Bounds
 pub mod OpenStep
 pub mod StatusStep
+pub mod TransferStep
