@@ -14,4 +14,8 @@ pub mod Spans
 pub mod SpanSteps
 pub mod Switch
 pub mod Points
+pub mod Bounds
+pub mod OpenStep
 pub mod EnergyStep
+pub mod StatusStep
+pub mod TransferStep

@@ -8,6 +8,7 @@ use native.Mathlib.Omega.{arith}
 use lib.Dec.{leb, ltb, eqb}
 use lib.ListN.{length, length-append}
 use borrow.Author.Tests.{leb-false, ltb-false}
+use Rattle.numbers.proofs.Bools.{neither}
 use Rattle.numbers.specs.Search.{maybe}
 use Rattle.daybook.specs.Book.{Entry, fromOn, lastOf}
 use Rattle.daybook.specs.Notices.{cannotOff, cannotOn}
@@ -32,10 +33,6 @@ may-switch day zero install lastFilled l h e =
     let a : (cannotOff day (lastOf l) || maybe false (leb day) lastFilled ≡ false) × (ltb day install ≡ false) = neither _ _ e in
     let b : (cannotOff day (lastOf l) ≡ false) × (maybe false (leb day) lastFilled ≡ false) = neither _ _ (a .0) in
     mayOff (b .0) (b .1) (ltb-false day install (a .1))
-  where
-    neither : (s t : Bool) → (s || t) ≡ false → (s ≡ false) × (t ≡ false)
-    neither true t e = absurd (true≢false e)
-    neither false t e = (refl, e)
 may-switch day (suc zero) install lastFilled l h e = mayOn e
 may-switch day (suc (suc on)) install lastFilled l h e = absurd (omega arith)
 
