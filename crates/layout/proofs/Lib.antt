@@ -3,3 +3,4 @@ pub mod Numbers
 pub mod Cells
 pub mod Parse
 pub mod RowsSound
+pub mod ListsSound
