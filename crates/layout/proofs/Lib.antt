@@ -4,3 +4,4 @@ pub mod Cells
 pub mod Parse
 pub mod RowsSound
 pub mod ListsSound
+pub mod Rows
