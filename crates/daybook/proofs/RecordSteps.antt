@@ -125,7 +125,7 @@ entries-after {from = from} {l = l} rs x w e late = go w (chosen r x w e) late
 module _ {kind : ℕ} {offs : List (ℕ × Option ℕ)} (x : Entry) (fits : fitsKind kind (x .start) (x .end) ≡ true) (day : x .end ≤ 39999)
     (energy : within (negsuc 999999) (pos 1000000) (x .energy) ≡ true) (type : x .type ≤ 2)
     (on : (d : ℕ) → x .start ≤ d → d ≤ x .end → offOn offs d ≡ false) where
-  recs-append : {from : ℕ} {l : List Entry} → Recs kind offs from l → skip offs (dayAfter from l) ≡ some (x .start) → Recs kind offs from (l ++ (x ∷ []))
+  pub recs-append : {from : ℕ} {l : List Entry} → Recs kind offs from l → skip offs (dayAfter from l) ≡ some (x .start) → Recs kind offs from (l ++ (x ∷ []))
   recs-append {from} norec e = rec (rw (day-after-nil from) at e) fits day energy type on norec
   recs-append {from} (rec {x = z} {l = l} a b c d t f r) e = rec a b c d t f (recs-append r (rw (day-after-cons from z l) at e))
 
