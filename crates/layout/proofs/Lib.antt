@@ -1,0 +1,2 @@
+-- The numbers of a changed register are the old numbers with those set that the row writers write. Assumes nothing.
+pub mod Blocks
