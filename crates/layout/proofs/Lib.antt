@@ -2,3 +2,4 @@
 pub mod Blocks
 pub mod PartBlocks
 pub mod RowWrites
+pub mod Parts
