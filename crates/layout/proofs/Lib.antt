@@ -3,3 +3,5 @@ pub mod Blocks
 pub mod PartBlocks
 pub mod RowWrites
 pub mod Parts
+pub mod PointParts
+pub mod NewPoint
