@@ -33,6 +33,10 @@ pub few-here : {room : ℕ} (a : List Lists) (q : Lists) (b : List Lists) → Al
 few-here [] q b (few f r) = f
 few-here (x ∷ a) q b (few f r) = few-here a q b r
 
+pub few-more : {room : ℕ} {l : List Lists} {q : Lists} → AllFew room l → Few room q → AllFew room (l ++ (q ∷ []))
+few-more nofew g = few g nofew
+few-more (few f r) g = few f (few-more r g)
+
 pub few-put : {room : ℕ} (a : List Lists) (q q′ : Lists) (b : List Lists) → AllFew room (a ++ q ∷ b) → Few room q′ → AllFew room (a ++ q′ ∷ b)
 few-put [] q q′ b (few f r) g = few g r
 few-put (x ∷ a) q q′ b (few f r) g = few f (few-put a q q′ b r g)
