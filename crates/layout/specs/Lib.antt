@@ -1,3 +1,5 @@
--- The register table (document 01, "The register table"): what its numbers stand for, and when it is sound.
+-- The register table (document 01, "The register table"): what its numbers stand for, when it is sound, and what writes
+-- leave in it.
 pub mod Layout
 pub mod Sound
+pub mod Writes

@@ -1,0 +1,52 @@
+-- What each row writer leaves in a point's part p, and an opening in the table: numbers set at places, nothing of lists.
+use mathlib.Core.List.{List}
+use Prim.Native.Nat.{ℕ, zero, suc, _+_, _-_, _*_}
+use lib.IntN.{ℤ, pos, negsuc}
+use lib.ListN.{set}
+use Rattle.daybook.specs.Book.{Entry, Facts, Edition}
+use Rattle.layout.specs.Layout.{partOf, withPart}
+
+-- The places a to a + n - 1 set to 0.
+unfoldable pub cleared : List ℤ → ℕ → ℕ → List ℤ
+cleared t a zero = t
+cleared t a (suc n) = set (cleared t a n) (a + n) (pos 0)
+
+-- The four numbers of record j.
+unfoldable pub putRecord : List ℤ → ℕ → Entry → List ℤ
+putRecord p j x =
+    set (set (set (set p (48 + 4 * j) (pos (x .start))) (48 + 4 * j + 1) (pos (x .end))) (48 + 4 * j + 2) (x .energy)) (48 + 4 * j + 3) (pos (x .type))
+
+-- Record n, and n + 1 records.
+unfoldable pub appendRecord : List ℤ → ℕ → Entry → List ℤ
+appendRecord p n x = set (putRecord p n x) 6 (pos (n + 1))
+
+-- The records j to n - 1 are 0, and j records are left.
+unfoldable pub cutRecords : List ℤ → ℕ → ℕ → List ℤ
+cutRecords p j n = set (cleared p (48 + 4 * j) (4 * (n - j))) 6 (pos j)
+
+-- Registration n, of User u from day d on, and n + 1 registrations.
+unfoldable pub appendRegistration : List ℤ → ℕ → ℕ → ℕ → List ℤ
+appendRegistration p n d u = set (set (set p (16 + 2 * n) (pos d)) (16 + 2 * n + 1) (pos u)) 4 (pos (n + 1))
+
+-- Off span n from day d on, still off, and n + 1 spans.
+unfoldable pub openSpan : List ℤ → ℕ → ℕ → List ℤ
+openSpan p n d = set (set (set p (32 + 2 * n) (pos d)) (32 + 2 * n + 1) (negsuc 0)) 5 (pos (n + 1))
+
+-- Day d is the on day of span k.
+unfoldable pub closeSpan : List ℤ → ℕ → ℕ → List ℤ
+closeSpan p k d = set p (32 + 2 * k + 1) (pos d)
+
+unfoldable pub setPending : List ℤ → ℕ → ℕ → ℕ → List ℤ
+setPending p user first last = set (set (set p 7 (pos user)) 8 (pos first)) 9 (pos last)
+
+abbrev pub clearPending : List ℤ → List ℤ
+clearPending p = setPending p 0 0 0
+
+-- A point's facts, and its first registration, of User u from the install day on.
+unfoldable pub openPoint : List ℤ → Facts → ℕ → List ℤ
+openPoint p f u =
+    appendRegistration (set (set (set (set p 0 (pos (f .mirn))) 1 (pos (f .kind))) 2 (pos (f .install))) 3 (pos (f .base))) 0 (f .install) u
+
+-- Point n, and n + 1 points.
+unfoldable pub appendPoint : Edition → List ℤ → ℕ → Facts → ℕ → List ℤ
+appendPoint ed t n f u = set (withPart ed t n (openPoint (partOf ed t n) f u)) 0 (pos (n + 1))
