@@ -12,3 +12,4 @@ pub mod RowWrites
 pub mod Parts
 pub mod PointParts
 pub mod NewPoint
+pub mod Tables

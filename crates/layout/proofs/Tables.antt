@@ -1,0 +1,72 @@
+-- A whole register: its lists come back from its numbers and from its days. Assumes nothing.
+use mathlib.Core.Path.{_≡_, refl, sym, _∙_, ap, ap₂}
+use mathlib.Core.List.{List, [], _∷_, _++_, map, append-assoc}
+use Prim.Native.Nat.{ℕ, zero, suc, _+_, _-_, _*_, _≤_}
+use native.Mathlib.Omega.{arith}
+use lib.ListN.{length, getD, take, drop}
+use lib.Seq.{take-at, drop-at}
+use lib.IntN.{ℤ, pos}
+use Rattle.daybook.specs.Book.{Book, Edition, records, registrations, spans}
+use Rattle.daybook.proofs.Lists.{Lists, Register, pointOf, bookOf}
+use Rattle.daybook.proofs.Well.{Well, Points, nopoint, point, WellFormed}
+use Rattle.daybook.proofs.Records.{records-is}
+use Rattle.daybook.proofs.Registrations.{registrations-is}
+use Rattle.daybook.proofs.Spans.{point-spans}
+use Rattle.layout.specs.Layout.{tableLength, stride, placeOf, Fits, pad, pointNumbers, pointsNumbers, layout, pointFrom, pointsFrom, registerOf, tableBook, listsOf, bookRegister, written}
+use Rattle.layout.proofs.Numbers.{few, length-point}
+use Rattle.layout.proofs.Parse.{point-alone}
+
+-- ---- from the numbers
+
+points-back : (ed : Edition) {qs : List Lists} (rest : List ℤ) → Points (ed .records) qs → pointsFrom ed (length qs) (pointsNumbers (ed .records) qs ++ rest) ≡ qs
+unfolding pointsFrom pointsNumbers
+points-back ed rest nopoint = refl
+points-back ed rest (point {q = q} {qs = qs} w n r) =
+    let long : length (pointNumbers (ed .records) q) ≡ stride ed = length-point (few w) in
+    let t : List ℤ = pointsNumbers (ed .records) qs ++ rest in
+    ap (λ s. pointFrom (take (stride ed) s) ∷ pointsFrom ed (length qs) (drop (stride ed) s)) (append-assoc (pointNumbers (ed .records) q) (pointsNumbers (ed .records) qs) rest)
+    ∙ ap₂ (λ p s. pointFrom p ∷ pointsFrom ed (length qs) s) (take-at (pointNumbers (ed .records) q) t (stride ed) long) (drop-at (pointNumbers (ed .records) q) t (stride ed) long)
+    ∙ ap₂ _∷_ (point-alone w) (points-back ed rest r)
+
+-- the register that a layout's numbers stand for is the one laid out
+pub register-back : (ed : Edition) {R : Register} → WellFormed ed R → (rest : List ℤ) → registerOf ed (layout ed R ++ rest) ≡ R
+unfolding registerOf layout pad
+register-back ed {R} w rest = λ i. record { nondaily = R .nondaily; daily = R .daily; points = back i }
+  where
+    back : pointsFrom ed (length (R .points)) (drop 8 (layout ed R ++ rest)) ≡ R .points
+    back = ap (pointsFrom ed (length (R .points))) (append-assoc (pointsNumbers (ed .records) (R .points)) _ rest) ∙ points-back ed _ (w .pointsOk)
+
+-- ---- from the days
+
+lists-back : {room : ℕ} {q : Lists} → Well room q → listsOf (pointOf q) ≡ q
+unfolding listsOf pointOf
+lists-back {q = q} w = λ i. record {
+  facts = q .facts;
+  regs = registrations-is w i;
+  offs = point-spans w i;
+  recs = records-is w i;
+  pending = q .pending;
+}
+
+all-back : {room : ℕ} {qs : List Lists} → Points room qs → map listsOf (map pointOf qs) ≡ qs
+all-back nopoint = refl
+all-back (point w n r) = ap₂ _∷_ (lists-back w) (all-back r)
+
+-- a book gives back the well-formed lists that it stands for
+pub book-back : {ed : Edition} {R : Register} → WellFormed ed R → bookRegister (bookOf R) ≡ R
+unfolding bookRegister bookOf
+book-back {R = R} w = λ i. record { nondaily = R .nondaily; daily = R .daily; points = all-back (w .pointsOk) i }
+
+-- so a book is written as the layout of its lists
+pub written-is : (ed : Edition) {R : Register} → WellFormed ed R → (t : List ℤ) → written ed t (bookOf R) ≡ layout ed R ++ drop tableLength t
+unfolding written
+written-is ed w t = ap (λ S. layout ed S ++ drop tableLength t) (book-back w)
+
+-- and its book is read back
+pub book-of-layout : (ed : Edition) {R : Register} → WellFormed ed R → (rest : List ℤ) → tableBook ed (layout ed R ++ rest) ≡ bookOf R
+unfolding tableBook
+book-of-layout ed w rest = ap bookOf (register-back ed w rest)
+
+-- one book, one layout
+pub one-layout : (ed : Edition) {R S : Register} → WellFormed ed R → WellFormed ed S → bookOf R ≡ bookOf S → layout ed R ≡ layout ed S
+one-layout ed w v e = ap (layout ed) (sym (book-back w) ∙ ap bookRegister e ∙ book-back v)
