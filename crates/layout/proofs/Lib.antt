@@ -5,3 +5,4 @@ pub mod Parse
 pub mod RowsSound
 pub mod ListsSound
 pub mod Rows
+pub mod PartSound
