@@ -12,7 +12,7 @@ use Rattle.numbers.specs.Naturals.{natOf}
 use Rattle.numbers.proofs.Naturals.{natOf-is}
 use Rattle.daybook.specs.Book.{Entry, Pending}
 use Rattle.daybook.proofs.Well.{Regs, reg, Spans, nospan, still, ended, Recs, rec, PendingOk, pending}
-use Rattle.daybook.proofs.Apart.{fits-le}
+use Rattle.daybook.proofs.Apart.{Apart, noentry, apart, fits-le, recs-apart}
 use Rattle.layout.specs.Layout.{regNumbers, onNumber, offNumbers, recNumbers, asked, regsFrom, onOf, offsFrom, recsFrom, pendingFrom}
 
 pub two : {x x′ y y′ : ℤ} {l l′ : List ℤ} → x ≡ x′ → y ≡ y′ → l ≡ l′ → x ∷ y ∷ l ≡ x′ ∷ y′ ∷ l′
@@ -98,6 +98,14 @@ offs-lay (suc n) (x ∷ y ∷ t) r h =
 recs-first : {kind from : ℕ} {offs : List (ℕ × Option ℕ)} {x : Entry} {l : List Entry} → Recs kind offs from (x ∷ l)
     → (x .start ≤ x .end) × (x .end ≤ 39999) × (x .type ≤ 2) × Recs kind offs (suc (x .end)) l
 recs-first {kind} (rec {x = x} s f d e t o r) = (fits-le kind (x .start) (x .end) f, d, t, r)
+
+-- each record has a day of its own, so there are not too many to be counted
+apart-length : {hi lo : ℕ} {l : List Entry} → Apart hi lo l → lo ≤ hi → length l + lo ≤ hi
+apart-length noentry h = omega arith
+apart-length (apart {x = x} {l = l} a b c r) h = omega (arith, apart-length r c)
+
+pub recs-count : {kind from : ℕ} {offs : List (ℕ × Option ℕ)} {l : List Entry} → Recs kind offs from l → from ≤ 40000 → length l ≤ 40000
+recs-count r h = omega (arith, apart-length (recs-apart r) h)
 
 pub recs-lay : (n : ℕ) (t : List ℤ) {kind from : ℕ} {offs : List (ℕ × Option ℕ)} → Recs kind offs from (recsFrom n t) → 4 * n ≤ length t
     → recNumbers (recsFrom n t) ≡ take (4 * n) t
