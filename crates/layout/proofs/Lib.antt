@@ -4,5 +4,6 @@ pub mod Cells
 pub mod Parse
 pub mod RowsSound
 pub mod ListsSound
-pub mod Rows
+pub mod RowsLaid
 pub mod PartSound
+pub mod PartLays
