@@ -96,7 +96,7 @@ module _ {room : ℕ} {q : Lists} (w : Well room q) where
           let z = no-user (w .pendingOk) (sym (cell-user room q) ∙ u) in
           join (eq-eqb (numAt p 9) 0 (cell-last room q ∙ z .1)) (join (eq-eqb (numAt p 8) 0 (cell-first room q ∙ z .0)) (join e refl))
 
-  pub lays-part : partSound p ≡ true
+  pub lays-part : partSound (pointNumbers room q) ≡ true
   unfolding partSound unusedZero
   lays-part =
       join (join counts (join (join (join (join head-unused regs-unused) offs-unused) recs-unused) pending-unused))
