@@ -1,18 +1,17 @@
 -- Which number of a point's layout stands at each place. A row that is missing reads as zeros, so the laws of a row hold
 -- at every index of its block. Assumes nothing.
 use mathlib.Core.Path.{_≡_, refl, sym, ap, _∙_}
-use mathlib.Core.Option.{Option, none, some}
+use mathlib.Core.Option.{Option, some}
 use mathlib.Core.List.{List, [], _∷_, _++_}
 use Prim.Native.Nat.{ℕ, zero, suc, _+_, _*_, _<_}
 use native.Mathlib.Omega.{arith}
-use native.Mathlib.Nat.{add-zero}
 use lib.IntN.{ℤ, pos}
 use lib.ListN.{length, getD, List·getD-append}
 use Rattle.numbers.specs.Naturals.{natOf}
 use Rattle.daybook.specs.Book.{Entry}
 use Rattle.daybook.proofs.Lists.{Lists}
 use Rattle.layout.specs.Layout.{regNumbers, onNumber, offNumbers, recNumbers, asked, headNumbers, pointNumbers, numAt}
-use Rattle.layout.proofs.Numbers.{past, Few, in-regs, in-offs, in-recs}
+use Rattle.layout.proofs.Numbers.{getD-past, Few, in-regs, in-offs, in-recs}
 
 -- ---- the numbers of a row
 
@@ -48,9 +47,10 @@ module _ {X : Type 0} (w : ℕ) (row : X → List ℤ) (gap : X) (numbers : List
   row-at (x ∷ l) (suc k) j h =
       let e : w * suc k + j ≡ w + (w * k + j) = omega arith in
       ap (λ l. getD l (w * suc k + j) (pos 0)) (more x l) ∙ ap (λ i. getD (row x ++ numbers l) i (pos 0)) e
-      ∙ past w (row x) (numbers l) (w * k + j) (wide x) ∙ row-at l k j h
+      ∙ getD-past w (row x) (numbers l) (w * k + j) (wide x) ∙ row-at l k j h
 
-pub reg-number : (l : List (ℕ × ℕ)) (k j : ℕ) → j < 2 → getD (regNumbers l) (2 * k + j) (pos 0) ≡ getD (regRow (getD l k noReg)) j (pos 0)
+pub reg-number : (l : List (ℕ × ℕ)) (k j : ℕ) → j < 2
+    → getD (regNumbers l) (2 * k + j) (pos 0) ≡ getD (regRow (getD l k noReg)) j (pos 0)
 unfolding regNumbers
 reg-number = row-at 2 regRow noReg regNumbers refl (λ x l. refl) (λ x. refl) zeros
   where
@@ -59,7 +59,8 @@ reg-number = row-at 2 regRow noReg regNumbers refl (λ x l. refl) (λ x. refl) z
     zeros (suc zero) = refl
     zeros (suc (suc j)) = refl
 
-pub off-number : (l : List (ℕ × Option ℕ)) (k j : ℕ) → j < 2 → getD (offNumbers l) (2 * k + j) (pos 0) ≡ getD (offRow (getD l k noOff)) j (pos 0)
+pub off-number : (l : List (ℕ × Option ℕ)) (k j : ℕ) → j < 2
+    → getD (offNumbers l) (2 * k + j) (pos 0) ≡ getD (offRow (getD l k noOff)) j (pos 0)
 unfolding offNumbers
 off-number = row-at 2 offRow noOff offNumbers refl (λ x l. refl) (λ x. refl) zeros
   where
@@ -68,7 +69,8 @@ off-number = row-at 2 offRow noOff offNumbers refl (λ x l. refl) (λ x. refl) z
     zeros (suc zero) = refl
     zeros (suc (suc j)) = refl
 
-pub rec-number : (l : List Entry) (k j : ℕ) → j < 4 → getD (recNumbers l) (4 * k + j) (pos 0) ≡ getD (recRow (getD l k noRec)) j (pos 0)
+pub rec-number : (l : List Entry) (k j : ℕ) → j < 4
+    → getD (recNumbers l) (4 * k + j) (pos 0) ≡ getD (recRow (getD l k noRec)) j (pos 0)
 unfolding recNumbers
 rec-number = row-at 4 recRow noRec recNumbers refl (λ x l. refl) (λ x. refl) zeros
   where
@@ -125,13 +127,16 @@ module _ (room : ℕ) (q : Lists) where
 -- ---- the rows of a point
 
 module _ {room : ℕ} {q : Lists} (f : Few room q) (k : ℕ) where
-  reg-cell : (j i : ℕ) → k < 8 → j < 2 → i ≡ 16 + (2 * k + j) → getD (pointNumbers room q) i (pos 0) ≡ getD (regRow (getD (q .regs) k noReg)) j (pos 0)
+  reg-cell : (j i : ℕ) → k < 8 → j < 2 → i ≡ 16 + (2 * k + j)
+      → getD (pointNumbers room q) i (pos 0) ≡ getD (regRow (getD (q .regs) k noReg)) j (pos 0)
   reg-cell j i h l e = ap (λ i. getD (pointNumbers room q) i (pos 0)) e ∙ in-regs f (2 * k + j) (omega arith) ∙ reg-number (q .regs) k j l
 
-  off-cell : (j i : ℕ) → k < 8 → j < 2 → i ≡ 32 + (2 * k + j) → getD (pointNumbers room q) i (pos 0) ≡ getD (offRow (getD (q .offs) k noOff)) j (pos 0)
+  off-cell : (j i : ℕ) → k < 8 → j < 2 → i ≡ 32 + (2 * k + j)
+      → getD (pointNumbers room q) i (pos 0) ≡ getD (offRow (getD (q .offs) k noOff)) j (pos 0)
   off-cell j i h l e = ap (λ i. getD (pointNumbers room q) i (pos 0)) e ∙ in-offs f (2 * k + j) (omega arith) ∙ off-number (q .offs) k j l
 
-  rec-cell : (j i : ℕ) → j < 4 → i ≡ 48 + (4 * k + j) → getD (pointNumbers room q) i (pos 0) ≡ getD (recRow (getD (q .recs) k noRec)) j (pos 0)
+  rec-cell : (j i : ℕ) → j < 4 → i ≡ 48 + (4 * k + j)
+      → getD (pointNumbers room q) i (pos 0) ≡ getD (recRow (getD (q .recs) k noRec)) j (pos 0)
   rec-cell j i l e = ap (λ i. getD (pointNumbers room q) i (pos 0)) e ∙ in-recs f (4 * k + j) ∙ rec-number (q .recs) k j l
 
   pub cell-reg-start : k < 8 → numAt (pointNumbers room q) (16 + 2 * k) ≡ getD (q .regs) k noReg .0

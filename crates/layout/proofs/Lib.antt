@@ -5,8 +5,9 @@ pub mod Cells
 pub mod Parse
 pub mod RowsSound
 pub mod ListsSound
-pub mod Rows
+pub mod RowsLaid
 pub mod PartSound
+pub mod PartLays
 pub mod Blocks
 pub mod PartBlocks
 pub mod RowWrites

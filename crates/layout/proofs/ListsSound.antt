@@ -94,12 +94,14 @@ module _ (q : Lists) where
   unfolding each
   recs-each norec = refl
   recs-each (rec {x = x} s fits day energy type on r) =
-      join (join (join (join (join (le-leb (x .end) 39999 day) energy) (le-leb (x .type) 2 type)) fits) (ap not (all-on (x .start) (x .end) on))) (recs-each r)
+      let numbers = join (join (le-leb (x .end) 39999 day) energy) (le-leb (x .type) 2 type) in
+      join (join (join numbers fits) (ap not (all-on (x .start) (x .end) on))) (recs-each r)
 
   -- ---- the append rule, where all but the records is well-formed
 
   module _ (bare : Well 0 (withRecs [] q)) where
-    append-rule : {l : List Entry} → Chain (q .facts .install) l → appendDay (pointOf (withRecs l q)) ≡ skip (q .offs) (dayAfter (q .facts .install) l)
+    append-rule : {l : List Entry} → Chain (q .facts .install) l
+        → appendDay (pointOf (withRecs l q)) ≡ skip (q .offs) (dayAfter (q .facts .install) l)
     unfolding withRecs appendDayOf
     append-rule {l} r =
         let w : Well (length l) (withRecs l q) = with-recs bare r (omega arith) in
@@ -119,8 +121,8 @@ module _ (q : Lists) where
         (subst (λ d. Chain d l) (day-after-last (q .facts .install) before x)
         (follows (before ++ (x ∷ [])) l (recs-append x (o .fits) (o .day) (o .energyOk) (o .typeOk) (o .on) r s) (a .1) (b .1)))
 
-    recs-rule : {from : ℕ} {l : List Entry} (before : List Entry) → Chain (q .facts .install) before → Chain from l → from ≡ dayAfter (q .facts .install) before
-        → byAppendRule q before l ≡ true
+    recs-rule : {from : ℕ} {l : List Entry} (before : List Entry) → Chain (q .facts .install) before → Chain from l
+        → from ≡ dayAfter (q .facts .install) before → byAppendRule q before l ≡ true
     unfolding byAppendRule
     recs-rule before r norec e = refl
     recs-rule before r (rec {x = x} s fits day energy type on t) e =
@@ -143,11 +145,12 @@ module _ (q : Lists) where
 pub well-lists-sound : {room : ℕ} {q : Lists} → Well room q → listsSound q ≡ true
 unfolding listsSound
 well-lists-sound {q = q} w =
-    join (join (join (join (facts-sound (w .factsOk)) (regs-sound (w .regsOk) (w .regsStart))) (spans-sound (w .offsOk))) (recs-sound q (with-recs w norec (omega arith)) (w .recsOk)))
-    (pending-sound q (w .pendingOk))
+    let regs = join (facts-sound (w .factsOk)) (regs-sound (w .regsOk) (w .regsStart)) in
+    let recs = recs-sound q (with-recs w norec (omega arith)) (w .recsOk) in
+    join (join (join regs (spans-sound (w .offsOk))) recs) (pending-sound q (w .pendingOk))
 
-pub lists-sound-well : (room : ℕ) (q : Lists) → listsSound q ≡ true → 1 ≤ length (q .regs) → length (q .regs) ≤ 8 → length (q .offs) ≤ 8 → length (q .recs) ≤ room
-    → ((r : Pending) → q .pending ≡ some r → 1 ≤ r .user) → Well room q
+pub lists-sound-well : (room : ℕ) (q : Lists) → listsSound q ≡ true → 1 ≤ length (q .regs) → length (q .regs) ≤ 8
+    → length (q .offs) ≤ 8 → length (q .recs) ≤ room → ((r : Pending) → q .pending ≡ some r → 1 ≤ r .user) → Well room q
 unfolding listsSound withRecs
 lists-sound-well room q e someReg fewRegs fewOffs fewRecs someUser =
     let a = both _ _ e in

@@ -27,14 +27,14 @@ take-pad n l t h = take-at (pad n l) t n (length-pad n l h)
 pub drop-pad : (n : ℕ) (l t : List ℤ) → length l ≤ n → drop n (pad n l ++ t) ≡ t
 drop-pad n l t h = drop-at (pad n l) t n (length-pad n l h)
 
-zeros-at : (n i : ℕ) → getD (replicate n (pos 0)) i (pos 0) ≡ pos 0
-zeros-at zero i = refl
-zeros-at (suc n) zero = refl
-zeros-at (suc n) (suc i) = zeros-at n i
+zero-each : (n i : ℕ) → getD (replicate n (pos 0)) i (pos 0) ≡ pos 0
+zero-each zero i = refl
+zero-each (suc n) zero = refl
+zero-each (suc n) (suc i) = zero-each n i
 
 -- zeros behind a list change no place of it
 pub zeros-behind : (l : List ℤ) (n i : ℕ) → getD (l ++ replicate n (pos 0)) i (pos 0) ≡ getD l i (pos 0)
-zeros-behind [] n i = zeros-at n i
+zeros-behind [] n i = zero-each n i
 zeros-behind (x ∷ l) n zero = refl
 zeros-behind (x ∷ l) n (suc i) = zeros-behind l n i
 
@@ -46,17 +46,18 @@ pad-at n l i = zeros-behind l (n - length l) i
 pub pad-here : (n : ℕ) (l t : List ℤ) (i : ℕ) → length l ≤ n → i < n → getD (pad n l ++ t) i (pos 0) ≡ getD l i (pos 0)
 pad-here n l t i h k = List·getD-append (pad n l) t (pos 0) i (omega (arith, length-pad n l h)) ∙ pad-at n l i
 
-pub past : (n : ℕ) (l t : List ℤ) (i : ℕ) → length l ≡ n → getD (l ++ t) (n + i) (pos 0) ≡ getD t i (pos 0)
-past n l t i e = ap (λ (m : ℕ). getD (l ++ t) (m + i) (pos 0)) (sym e) ∙ getD-append-add l t i (pos 0)
+pub getD-past : (n : ℕ) (l t : List ℤ) (i : ℕ) → length l ≡ n → getD (l ++ t) (n + i) (pos 0) ≡ getD t i (pos 0)
+getD-past n l t i e = ap (λ (m : ℕ). getD (l ++ t) (m + i) (pos 0)) (sym e) ∙ getD-append-add l t i (pos 0)
 
 pub pad-past : (n : ℕ) (l t : List ℤ) (i : ℕ) → length l ≤ n → getD (pad n l ++ t) (n + i) (pos 0) ≡ getD t i (pos 0)
-pad-past n l t i h = past n (pad n l) t i (length-pad n l h)
+pad-past n l t i h = getD-past n (pad n l) t i (length-pad n l h)
 
 -- n numbers of which those from m on are 0
 pub pad-take : (n m : ℕ) (t : List ℤ) → m ≤ n → n ≤ length t → ((i : ℕ) → m ≤ i → i < n → getD t i (pos 0) ≡ pos 0)
     → pad n (take m t) ≡ take n t
 pad-take n m t h k z =
-    ext-getD (pos 0) (pad n (take m t)) (take n t) (long ∙ sym whole) (λ i l. pad-at n (take m t) i ∙ go i (omega (arith, long)) (ltb i m) refl)
+    ext-getD (pos 0) (pad n (take m t)) (take n t) (long ∙ sym whole)
+    (λ i l. pad-at n (take m t) i ∙ go i (omega (arith, long)) (ltb i m) refl)
   where
     short : length (take m t) ≡ m
     short = length-take-le m t (omega arith)
@@ -118,25 +119,27 @@ module _ {room : ℕ} {q : Lists} (f : Few room q) where
   pub length-point : length (pointNumbers room q) ≡ 48 + 4 * room
   unfolding pointNumbers
   length-point =
-      simp length-append
-      (omega (arith, length-head q, length-pad 16 (regNumbers (q .regs)) fits-regs, length-pad 16 (offNumbers (q .offs)) fits-offs, length-pad (4 * room) (recNumbers (q .recs)) fits-recs))
+      let g = length-pad 16 (regNumbers (q .regs)) fits-regs in
+      let o = length-pad 16 (offNumbers (q .offs)) fits-offs in
+      let r = length-pad (4 * room) (recNumbers (q .recs)) fits-recs in
+      simp length-append (omega (arith, length-head q))
 
   -- a number of each block
   pub in-regs : (i : ℕ) → i < 16 → getD (pointNumbers room q) (16 + i) (pos 0) ≡ getD (regNumbers (q .regs)) i (pos 0)
   unfolding pointNumbers
-  in-regs i h = past 16 (headNumbers q) _ i (length-head q) ∙ pad-here 16 (regNumbers (q .regs)) _ i fits-regs h
+  in-regs i h = getD-past 16 (headNumbers q) _ i (length-head q) ∙ pad-here 16 (regNumbers (q .regs)) _ i fits-regs h
 
   pub in-offs : (i : ℕ) → i < 16 → getD (pointNumbers room q) (32 + i) (pos 0) ≡ getD (offNumbers (q .offs)) i (pos 0)
   unfolding pointNumbers
   in-offs i h =
       let e : 32 + i ≡ 16 + (16 + i) = omega arith in
-      ap (λ j. getD (pointNumbers room q) j (pos 0)) e ∙ past 16 (headNumbers q) _ (16 + i) (length-head q)
+      ap (λ j. getD (pointNumbers room q) j (pos 0)) e ∙ getD-past 16 (headNumbers q) _ (16 + i) (length-head q)
       ∙ pad-past 16 (regNumbers (q .regs)) _ i fits-regs ∙ pad-here 16 (offNumbers (q .offs)) _ i fits-offs h
 
   pub in-recs : (i : ℕ) → getD (pointNumbers room q) (48 + i) (pos 0) ≡ getD (recNumbers (q .recs)) i (pos 0)
   unfolding pointNumbers
   in-recs i =
       let e : 48 + i ≡ 16 + (16 + (16 + i)) = omega arith in
-      ap (λ j. getD (pointNumbers room q) j (pos 0)) e ∙ past 16 (headNumbers q) _ (16 + (16 + i)) (length-head q)
+      ap (λ j. getD (pointNumbers room q) j (pos 0)) e ∙ getD-past 16 (headNumbers q) _ (16 + (16 + i)) (length-head q)
       ∙ pad-past 16 (regNumbers (q .regs)) _ (16 + i) fits-regs ∙ pad-past 16 (offNumbers (q .offs)) _ i fits-offs
       ∙ pad-at (4 * room) (recNumbers (q .recs)) i

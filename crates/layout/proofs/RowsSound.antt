@@ -1,10 +1,10 @@
 -- Facts, registrations, off spans and the pending request: the tests of soundness pass exactly where the lists are
 -- well-formed. Assumes nothing.
-use mathlib.Core.Path.{_≡_, refl, sym, ap, subst, _∙_}
+use mathlib.Core.Path.{_≡_, refl, sym, ap, _∙_}
 use mathlib.Core.Bool.{Bool, true, false, not, _&&_}
 use mathlib.Core.Option.{Option, none, some}
 use mathlib.Core.List.{List, [], _∷_}
-use Prim.Native.Nat.{ℕ, suc, _≤_, _<_}
+use Prim.Native.Nat.{ℕ, suc, _≤_}
 use native.Mathlib.Omega.{arith}
 use lib.Dec.{leb, ltb, eqb}
 use lib.ListN.{length}
@@ -26,8 +26,8 @@ join e k = rw (e, k) refl
 pub facts-sound : {f : Facts} → FactsOk f → factsSound f ≡ true
 unfolding factsSound
 facts-sound {f} o =
-    join (join (join (join (le-leb 1 (f .mirn) (o .mirnLow)) (le-leb (f .mirn) 9999999999 (o .mirnHigh))) (le-leb (f .kind) 1 (o .kindOk))) (le-leb (f .install) 39999 (o .installOk)))
-    (le-leb (f .base) 10000 (o .baseOk))
+    let mirn = join (le-leb 1 (f .mirn) (o .mirnLow)) (le-leb (f .mirn) 9999999999 (o .mirnHigh)) in
+    join (join (join mirn (le-leb (f .kind) 1 (o .kindOk))) (le-leb (f .install) 39999 (o .installOk))) (le-leb (f .base) 10000 (o .baseOk))
 
 pub facts-ok : (f : Facts) → factsSound f ≡ true → FactsOk f
 unfolding factsSound
@@ -80,11 +80,12 @@ reg-facts x e =
     let b = both _ _ (a .0) in
     (leb-true (x .0) 40000 (b .0), leb-true 1 (x .1) (b .1), leb-true (x .1) 16 (a .1))
 
-reg-row : {u lo : ℕ} (x : ℕ × ℕ) {l : List (ℕ × ℕ)} → regTest x ≡ true → lo ≤ x .0 → eqb u (x .1) ≡ false → Regs (x .1) (suc (x .0)) l → Regs u lo (x ∷ l)
+reg-row : {u lo : ℕ} (x : ℕ × ℕ) {l : List (ℕ × ℕ)} → regTest x ≡ true → lo ≤ x .0 → eqb u (x .1) ≡ false
+    → Regs (x .1) (suc (x .0)) l → Regs u lo (x ∷ l)
 reg-row x e h n r = let f = reg-facts x e in reg h (f .0) (f .1) (f .2) n r
 
-regs-from : (u lo : ℕ) (x : ℕ × ℕ) (l : List (ℕ × ℕ)) → each regTest (x ∷ l) ≡ true → neighbours regNext (x ∷ l) ≡ true → lo ≤ x .0 → eqb u (x .1) ≡ false
-    → Regs u lo (x ∷ l)
+regs-from : (u lo : ℕ) (x : ℕ × ℕ) (l : List (ℕ × ℕ)) → each regTest (x ∷ l) ≡ true → neighbours regNext (x ∷ l) ≡ true
+    → lo ≤ x .0 → eqb u (x .1) ≡ false → Regs u lo (x ∷ l)
 unfolding each neighbours
 regs-from u lo x [] e k h n = reg-row x (both _ _ e .0) h n noreg
 regs-from u lo x (y ∷ l) e k h n =
@@ -151,15 +152,15 @@ span-last {off = off} (some on) d e h =
     let a = both (ltb off on) (leb on 39999) e in
     ended h (ltb-true off on (a .0)) (leb-true on 39999 (a .1)) nospan
 
-span-more : {lo off : ℕ} (o : Option ℕ) (y : ℕ × Option ℕ) (l : List (ℕ × Option ℕ)) → onTest off o ≡ true → offNext (off, o) y ≡ true → lo ≤ off
-    → ((on : ℕ) → suc on ≤ y .0 → Spans (suc on) (y ∷ l)) → Spans lo ((off, o) ∷ y ∷ l)
+span-more : {lo off : ℕ} (o : Option ℕ) (y : ℕ × Option ℕ) (l : List (ℕ × Option ℕ)) → onTest off o ≡ true
+    → offNext (off, o) y ≡ true → lo ≤ off → ((on : ℕ) → suc on ≤ y .0 → Spans (suc on) (y ∷ l)) → Spans lo ((off, o) ∷ y ∷ l)
 span-more none y l e k h r = let z : _≡_ {A = ℕ} 0 1 = cc in absurd (omega arith)
 span-more {off = off} (some on) y l e k h r =
     let a = both (ltb off on) (leb on 39999) e in
     ended h (ltb-true off on (a .0)) (leb-true on 39999 (a .1)) (r on (ltb-true on (y .0) k))
 
-spans-from : (install lo : ℕ) (x : ℕ × Option ℕ) (l : List (ℕ × Option ℕ)) → each (offTest install) (x ∷ l) ≡ true → neighbours offNext (x ∷ l) ≡ true → lo ≤ x .0
-    → Spans lo (x ∷ l)
+spans-from : (install lo : ℕ) (x : ℕ × Option ℕ) (l : List (ℕ × Option ℕ)) → each (offTest install) (x ∷ l) ≡ true
+    → neighbours offNext (x ∷ l) ≡ true → lo ≤ x .0 → Spans lo (x ∷ l)
 unfolding each neighbours
 spans-from install lo x [] e k h =
     let f = span-facts install x (both (offTest install x) true e .0) in
@@ -188,28 +189,34 @@ latest-user l = go (lastOf l)
     go none = refl
     go (some x) = refl
 
+abbrev pendingTest : List (ℕ × ℕ) → Pending → Bool
+pendingTest regs r =
+    leb (r .user) 16 && not (eqb (maybe 0 (λ x. x .1) (lastOf regs)) (r .user)) && leb (r .first) (r .last)
+    && leb (r .last) 39999 && leb (length regs) 7
+
 pub pending-sound : (q : Lists) → PendingOk (q .regs) (q .pending) → pendingSound q ≡ true
 unfolding pendingSound
 pending-sound q p = go (q .pending) p
   where
-    go : (o : Option Pending) → PendingOk (q .regs) o
-        → maybe true (λ (r : Pending). leb (r .user) 16 && not (eqb (maybe 0 (λ x. x .1) (lastOf (q .regs))) (r .user)) && leb (r .first) (r .last) && leb (r .last) 39999 && leb (length (q .regs)) 7) o ≡ true
+    go : (o : Option Pending) → PendingOk (q .regs) o → maybe true (pendingTest (q .regs)) o ≡ true
     go none nopending = refl
     go (some r) (pending a b n c d e) =
-        join (join (join (join (le-leb (r .user) 16 b) (ap not (ap (λ u. eqb u (r .user)) (latest-user (q .regs)) ∙ n))) (le-leb (r .first) (r .last) c)) (le-leb (r .last) 39999 d)) (le-leb (length (q .regs)) 7 e)
+        let other = ap not (ap (λ u. eqb u (r .user)) (latest-user (q .regs)) ∙ n) in
+        join (join (join (join (le-leb (r .user) 16 b) other) (le-leb (r .first) (r .last) c)) (le-leb (r .last) 39999 d))
+        (le-leb (length (q .regs)) 7 e)
 
-pub pending-ok : (q : Lists) → pendingSound q ≡ true → ((r : Pending) → q .pending ≡ some r → 1 ≤ r .user) → PendingOk (q .regs) (q .pending)
+pub pending-ok : (q : Lists) → pendingSound q ≡ true → ((r : Pending) → q .pending ≡ some r → 1 ≤ r .user)
+    → PendingOk (q .regs) (q .pending)
 unfolding pendingSound
 pending-ok q e h = go (q .pending) e h
   where
-    go : (o : Option Pending)
-        → maybe true (λ (r : Pending). leb (r .user) 16 && not (eqb (maybe 0 (λ x. x .1) (lastOf (q .regs))) (r .user)) && leb (r .first) (r .last) && leb (r .last) 39999 && leb (length (q .regs)) 7) o ≡ true
-        → ((r : Pending) → o ≡ some r → 1 ≤ r .user) → PendingOk (q .regs) o
+    go : (o : Option Pending) → maybe true (pendingTest (q .regs)) o ≡ true → ((r : Pending) → o ≡ some r → 1 ≤ r .user) → PendingOk (q .regs) o
     go none e h = nopending
     go (some r) e h =
         let a = both _ _ e in
         let b = both _ _ (a .0) in
         let c = both _ _ (b .0) in
         let d = both _ _ (c .0) in
-        pending (h r refl) (leb-true (r .user) 16 (d .0)) (ap (λ u. eqb u (r .user)) (sym (latest-user (q .regs))) ∙ not-true _ (d .1)) (leb-true (r .first) (r .last) (c .1))
+        let other = ap (λ u. eqb u (r .user)) (sym (latest-user (q .regs))) ∙ not-true _ (d .1) in
+        pending (h r refl) (leb-true (r .user) 16 (d .0)) other (leb-true (r .first) (r .last) (c .1))
         (leb-true (r .last) 39999 (b .1)) (leb-true (length (q .regs)) 7 (a .1))

@@ -22,8 +22,9 @@ use Rattle.daybook.proofs.Well.{Well, Points, nopoint, point, WellFormed}
 use Rattle.layout.specs.Layout.{tableLength, stride, placeOf, Fits, partOf, pad, pointNumbers, pointsNumbers, layout, numAt, pointFrom, pointsFrom, registerOf}
 use Rattle.layout.specs.Sound.{each, zeros, partSound, mirnsDiffer, sound}
 use Rattle.layout.proofs.Numbers.{pad-take, few, length-point}
-use Rattle.layout.proofs.Rows.{clean}
-use Rattle.layout.proofs.PartSound.{zeros-at, zeros-of, lays-part, part-lays}
+use Rattle.layout.proofs.RowsLaid.{clean}
+use Rattle.layout.proofs.PartSound.{zeros-at}
+use Rattle.layout.proofs.PartLays.{part-lays}
 use Rattle.layout.proofs.Tables.{register-back}
 
 -- ---- MIRNs that differ

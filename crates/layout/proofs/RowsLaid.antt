@@ -1,7 +1,7 @@
 -- Rows of a table that are read and laid out again: where what is read is well-formed, these are the table's own numbers.
 -- Assumes nothing.
 use mathlib.Core.Path.{_≡_, refl, sym, ap, ap₂, _∙_}
-use mathlib.Core.Option.{Option, none, some, Option·none-ne-some, Option·some-injective}
+use mathlib.Core.Option.{Option, some, Option·none-ne-some, Option·some-injective}
 use mathlib.Core.List.{List, [], _∷_}
 use Prim.Native.Nat.{ℕ, zero, suc, _+_, _*_, _≤_, _<_, _^_}
 use native.Mathlib.Omega.{arith}
@@ -67,7 +67,8 @@ regs-lay (suc n) (x ∷ y ∷ t) r h =
 
 -- ---- off spans
 
-pub record FirstSpan (x : ℕ × Option ℕ) (l : List (ℕ × Option ℕ)) : Type 0 where
+-- What is known of the first of some spans.
+record FirstSpan (x : ℕ × Option ℕ) (l : List (ℕ × Option ℕ)) : Type 0 where
   offDay : x .0 ≤ 39999
   onDay : (d : ℕ) → x .1 ≡ some d → d ≤ 39999
   lo : ℕ
