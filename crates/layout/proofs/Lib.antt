@@ -17,3 +17,4 @@ pub mod NewPoint
 pub mod Tables
 pub mod TableSound
 pub mod SoundTable
+pub mod Mirns

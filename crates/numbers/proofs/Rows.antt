@@ -1,6 +1,6 @@
 -- The combinator `all`: what a checking loop and its callers need of it. Assumes nothing.
-use mathlib.Core.Path.{_≡_, refl, sym, _∙_}
-use mathlib.Core.Bool.{Bool, true, false, and-false}
+use mathlib.Core.Path.{_≡_, refl, sym, _∙_, ap, ap₂}
+use mathlib.Core.Bool.{Bool, true, false, _&&_, and-false}
 use Prim.Native.Nat.{ℕ, zero, suc, _+_, _<_}
 use native.Mathlib.Omega.{arith}
 use native.Mathlib.Numerals.{add-one}
@@ -40,3 +40,19 @@ module _ (p : ℕ → Bool) where
   unfolding all
   all-of zero h = refl
   all-of (suc n) h = rw (h n (omega arith), all-of n (λ i l. h i (omega arith)))
+
+  -- the test of the first index, taken off
+  pub all-front : (n : ℕ) → all p (suc n) ≡ (p 0 && all (λ i. p (suc i)) n)
+  unfolding all
+  all-front zero = refl
+  all-front (suc n) = ap (λ b. p (suc n) && b) (all-front n) ∙ swap (p (suc n)) (p 0) (all (λ i. p (suc i)) n)
+    where
+      swap : (a b c : Bool) → (a && (b && c)) ≡ (b && (a && c))
+      swap true b c = refl
+      swap false b c = sym (and-false b)
+
+-- the same tests give the same
+pub all-same : (p q : ℕ → Bool) (n : ℕ) → ((i : ℕ) → i < n → p i ≡ q i) → all p n ≡ all q n
+unfolding all
+all-same p q zero h = refl
+all-same p q (suc n) h = ap₂ _&&_ (h n (omega arith)) (all-same p q n (λ i l. h i (omega arith)))
