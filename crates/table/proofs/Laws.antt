@@ -1,0 +1,93 @@
+-- What the loops and the parts of the whole table need. Assumes nothing.
+use mathlib.Core.Path.{_≡_, refl, sym, ap, _∙_}
+use mathlib.Core.Bool.{Bool, true, false, not, _&&_, cond}
+use mathlib.Core.Option.{Option, none, some}
+use mathlib.Core.List.{List}
+use Prim.Native.Nat.{ℕ, zero, suc, _+_, _-_, _*_, _≤_, _<_, _^_}
+use native.Mathlib.Omega.{arith}
+use lib.Dec.{leb, ltb, eqb}
+use lib.ListN.{getD, length, take, drop, length-take, length-drop}
+use lib.IntN.{ℤ, pos, negsuc}
+use borrow.Author.Tests.{le-leb, lt-leb, eq-eqb, ne-eqb, leb-true, leb-false, ltb-true, ltb-false}
+use Rattle.numbers.specs.Naturals.{biasOf}
+use Rattle.numbers.specs.Rows.{all}
+use Rattle.numbers.specs.Search.{maybe, firstFrom}
+use Rattle.numbers.proofs.Rows.{all-more, all-fails, all-done}
+use Rattle.numbers.proofs.Search.{from-none, from-hit, from-miss}
+use Rattle.daybook.specs.Notices.{isRange}
+use Rattle.layout.specs.Layout.{standard, placeOf, partOf, numAt}
+use Rattle.layout.proofs.Mirns.{laterDiffer}
+use Rattle.table.specs.Lookup.{indexOf}
+
+module _ (t : List ℤ) (i : ℕ) where
+  pub part-is : take (8 + 240 * i + 240 - (8 + 240 * i)) (drop (8 + 240 * i) t) ≡ partOf standard t i
+  unfolding partOf
+  part-is = let e : 8 + 240 * i + 240 - (8 + 240 * i) ≡ 240 = omega arith in rw e
+
+  pub part-long : placeOf standard i + 240 ≤ length t → length (take (8 + 240 * i + 240 - (8 + 240 * i)) (drop (8 + 240 * i) t)) ≡ 240
+  part-long h = simp (length-take, length-drop) (omega arith)
+
+-- a range, raised by 1,000,000
+pub range-is : (z : ℤ) (u : ℕ) → u ≡ biasOf z → (leb 999999 u && leb u 2000000) ≡ isRange z
+range-is (pos n) u e = go (leb n 1000000) refl e
+  where
+    go : (b : Bool) → leb n 1000000 ≡ b → u ≡ cond b (n + 1000000) (2 ^ 63) → (leb 999999 u && leb u 2000000) ≡ leb n 1000000
+    go true h e =
+        let l : n ≤ 1000000 = leb-true n 1000000 h in
+        rw (h, le-leb 999999 u (omega arith), le-leb u 2000000 (omega arith)) refl
+    go false h e = rw (h, le-leb 999999 u (omega arith), lt-leb u 2000000 (omega arith)) refl
+range-is (negsuc n) u e = go n (ltb n 1000000) refl e
+  where
+    go : (n : ℕ) (b : Bool) → ltb n 1000000 ≡ b → u ≡ cond b (999999 - n) (2 ^ 63) → (leb 999999 u && leb u 2000000) ≡ isRange (negsuc n)
+    go zero true h e = rw (le-leb 999999 u (omega arith), le-leb u 2000000 (omega arith)) refl
+    go zero false h e = let z : _≡_ {A = ℕ} 0 1 = cc in absurd (omega arith)
+    go (suc n) true h e = rw (lt-leb 999999 u (omega (arith, ltb-true (suc n) 1000000 h)), lt-leb (suc n) 0 (omega arith)) refl
+    go (suc n) false h e = rw (le-leb 999999 u (omega arith), lt-leb u 2000000 (omega arith), lt-leb (suc n) 0 (omega arith)) refl
+
+-- Is point i's MIRN another than that of point i + 1 + j?
+abbrev pub differAt : List ℤ → ℕ → ℕ → Bool
+differAt t i j = not (eqb (numAt t (placeOf standard i)) (numAt t (placeOf standard (suc i + j))))
+
+abbrev pub mirnAt : List ℤ → ℕ → ℕ → Bool
+mirnAt t m i = eqb (numAt t (placeOf standard i)) m
+
+-- ---- the loops
+
+module _ (t : List ℤ) (m n i : ℕ) (o : Option ℕ) where
+  -- the search from point i on, of n
+  pub index-hit : firstFrom (mirnAt t m) i (n - i) ≡ o → i < n → numAt t (placeOf standard i) ≡ m → i ≡ maybe 32 (λ k. k) o
+  index-hit e l h =
+      let q : some i ≡ o = sym (from-hit (mirnAt t m) i (n - i) (omega arith) (eq-eqb _ _ h)) ∙ e in
+      ap (maybe 32 (λ k. k)) q
+
+  pub index-miss : firstFrom (mirnAt t m) i (n - i) ≡ o → i < n → (numAt t (placeOf standard i) ≡ m → ⊥) → firstFrom (mirnAt t m) (i + 1) (n - (i + 1)) ≡ o
+  index-miss e l h =
+      let k : n - i - 1 ≡ n - (i + 1) = omega arith in
+      ap (firstFrom (mirnAt t m) (i + 1)) (sym k) ∙ sym (from-miss (mirnAt t m) i (n - i) (omega arith) (ne-eqb _ _ h)) ∙ e
+
+  pub index-end : firstFrom (mirnAt t m) i (n - i) ≡ o → n ≤ i → 32 ≡ maybe 32 (λ k. k) o
+  index-end e l =
+      let k : n - i ≡ 0 = omega arith in
+      let q : none ≡ o = sym (ap (firstFrom (mirnAt t m) i) k ∙ from-none (mirnAt t m) i) ∙ e in
+      ap (maybe 32 (λ k. k)) q
+
+pub index-start : (t : List ℤ) (m n : ℕ) → n ≡ numAt t 0 → firstFrom (mirnAt t m) 0 (n - 0) ≡ indexOf standard t m
+unfolding indexOf
+index-start t m n e = let k : n - 0 ≡ numAt t 0 = omega arith in ap (firstFrom (mirnAt t m) 0) k
+
+-- one more MIRN that differs, one that does not, and the end
+module _ (t : List ℤ) (i n : ℕ) where
+  pub later-fails : (j r : ℕ) → j < n - suc i → r ≡ numAt t (placeOf standard (i + 1 + j)) → r ≡ numAt t (placeOf standard i) → false ≡ laterDiffer standard t n i
+  unfolding laterDiffer
+  later-fails j r l e h =
+      let k : i + 1 + j ≡ suc i + j = omega arith in
+      sym (all-fails (differAt t i) j (n - suc i) l (ap not (eq-eqb _ _ (sym h ∙ e ∙ ap (λ a. numAt t (placeOf standard a)) k))))
+
+  pub later-more : (j r : ℕ) → r ≡ numAt t (placeOf standard (i + 1 + j)) → (r ≡ numAt t (placeOf standard i) → ⊥) → all (differAt t i) j ≡ true → all (differAt t i) (j + 1) ≡ true
+  later-more j r e h q =
+      let k : i + 1 + j ≡ suc i + j = omega arith in
+      all-more (differAt t i) j q (ap not (ne-eqb _ _ (λ (z : numAt t (placeOf standard i) ≡ numAt t (placeOf standard (suc i + j))). h (e ∙ ap (λ a. numAt t (placeOf standard a)) k ∙ sym z))))
+
+  pub later-done : (j : ℕ) → all (differAt t i) j ≡ true → j ≡ n - suc i → true ≡ laterDiffer standard t n i
+  unfolding laterDiffer
+  later-done j q e = all-done (differAt t i) j (n - suc i) q e

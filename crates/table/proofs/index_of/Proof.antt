@@ -1,0 +1,87 @@
+use Prim.Native.Nat.{_≤_, _-_}
+use mathlib.Core.Path.{_≡_, sym, _∙_}
+use native.Mathlib.Omega.{arith}
+use borrow.Author.Needs.{needs}
+use Rattle.numbers.specs.Search.{firstFrom}
+use Rattle.layout.specs.Layout.{standard, numAt}
+use Rattle.table.specs.Lookup.{indexOf}
+use Rattle.table.proofs.Laws.{mirnAt, index-start, index-hit, index-miss, index-end}
+use Rattle.table.proofs.index_of.Statement.{statement}
+use Rattle.table.proofs.index_of.Tie as tie
+use Rattle.table.proofs.index_of.Reads as reads
+use Rattle.table.proofs.index_of.Lts as lts
+use Rattle.numbers.proofs.get.Reads as get-reads
+
+abbrev Inv-loop : tie.InvT-loop
+Inv-loop t mirn n i₀ i = (i ≤ n) × (n ≡ numAt t 0) × (n ≤ 32) × (firstFrom (mirnAt t mirn) i (n - i) ≡ indexOf standard t mirn)
+
+abbrev μ-loop : tie.MeasureT-loop
+μ-loop t mirn n i₀ i = n - i
+
+-- src/lib.rt:83:13
+get-requires : tie.Need-get-requires Inv-loop μ-loop
+get-requires c κs = search needs
+
+-- src/lib.rt:85:5
+loop-holds : tie.Need-loop-holds Inv-loop μ-loop
+loop-holds c =
+    let e = c .get .ensures .0 in
+    (search needs, search needs, search needs, index-start (c .before .args .t .now) (c .before .args .mirn) (c .get .result) e)
+
+-- src/lib.rt:86:32
+mul-get : tie.Need-mul-get Inv-loop μ-loop
+mul-get c = search needs
+
+-- src/lib.rt:86:28
+add-get : tie.Need-add-get Inv-loop μ-loop
+add-get c = search needs
+
+-- src/lib.rt:86:12
+get-requires-2 : tie.Need-get-requires-2 Inv-loop μ-loop
+get-requires-2 c κs = search needs
+
+-- src/lib.rt:87:13
+returns : tie.Need-returns Inv-loop μ-loop
+returns c =
+    let l = c .before .before .before .loop in
+    let s = c .before .before .before .before .before in
+    (index-hit (s .args .t .now) (s .args .mirn) _ (l .i) _ (l .inv .3) (search needs) (sym (c .before .get2 .ensures .0) ∙ c .if1 .taken), search needs)
+
+-- src/lib.rt:89:9
+add-i : tie.Need-add-i Inv-loop μ-loop
+add-i c = search needs
+
+-- src/lib.rt:85:5
+loop-less : tie.Need-loop-less Inv-loop μ-loop
+loop-less c = search needs
+
+-- src/lib.rt:85:5
+loop-again : tie.Need-loop-again Inv-loop μ-loop
+loop-again c =
+    let l = c .before .before .before .loop in
+    let s = c .before .before .before .before .before in
+    (search needs, search needs, search needs, index-miss (s .args .t .now) (s .args .mirn) _ (l .i) _ (l .inv .3) (search needs) (λ q. c .if1 .left (c .before .get2 .ensures .0 ∙ q)))
+
+-- src/lib.rt:79:1
+returns-2 : tie.Need-returns-2 Inv-loop μ-loop
+returns-2 c =
+    let l = c .before .loop in
+    let s = c .before .before .before in
+    (index-end (s .args .t .now) (s .args .mirn) _ (l .i) _ (l .inv .3) (search needs), search needs)
+
+pub index-of-spec : {M : Type 1} → statement M
+index-of-spec =
+    tie.close
+    (tie.spec
+    Inv-loop
+    μ-loop
+    get-requires
+    loop-holds
+    mul-get
+    add-get
+    get-requires-2
+    returns
+    add-i
+    loop-less
+    loop-again
+    returns-2)

@@ -1,0 +1,54 @@
+use borrow.Author.Needs.{needs}
+use Rattle.table.proofs.mirns_differ.Statement.{statement}
+use Rattle.table.proofs.mirns_differ.Tie as tie
+use Rattle.table.proofs.mirns_differ.Reads as reads
+use Rattle.table.proofs.mirns_differ.Lts as lts
+use Rattle.table.proofs.later_differ.Reads as later-differ-reads
+
+abbrev Inv-loop : tie.InvT-loop
+Inv-loop t n i₀ i = ?
+
+abbrev μ-loop : tie.MeasureT-loop
+μ-loop t n i₀ i = ?
+
+-- src/lib.rt:69:5
+loop-holds : tie.Need-loop-holds Inv-loop μ-loop
+loop-holds c = search needs
+
+-- src/lib.rt:70:13
+later-differ-requires : tie.Need-later-differ-requires Inv-loop μ-loop
+later-differ-requires c κs = search needs
+
+-- src/lib.rt:71:13
+returns : tie.Need-returns Inv-loop μ-loop
+returns c = search needs
+
+-- src/lib.rt:73:9
+add-i : tie.Need-add-i Inv-loop μ-loop
+add-i c = search needs
+
+-- src/lib.rt:69:5
+loop-less : tie.Need-loop-less Inv-loop μ-loop
+loop-less c = search needs
+
+-- src/lib.rt:69:5
+loop-again : tie.Need-loop-again Inv-loop μ-loop
+loop-again c = search needs
+
+-- src/lib.rt:64:1
+returns-2 : tie.Need-returns-2 Inv-loop μ-loop
+returns-2 c = search needs
+
+pub mirns-differ-spec : {M : Type 1} → statement M
+mirns-differ-spec =
+    tie.close
+    (tie.spec
+    Inv-loop
+    μ-loop
+    loop-holds
+    later-differ-requires
+    returns
+    add-i
+    loop-less
+    loop-again
+    returns-2)

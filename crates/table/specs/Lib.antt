@@ -1,0 +1,2 @@
+-- The look-up of a point by its MIRN.
+pub mod Lookup

@@ -1,0 +1,92 @@
+// The whole register table of the standard edition: is it sound, where does a point stand, and what are its numbers?
+// How far apart points are and how many there are is said here, in `part`, `place` and the two bounds below.
+ghost use mathlib.Core.Path.{_≡_};
+ghost use mathlib.Core.Bool.{not};
+ghost use Prim.Native.Nat.{suc, _+_, _-_, _*_, _<_, _≤_, _^_};
+ghost use lib.Dec.{eqb};
+ghost use lib.ListN.{length, getD, drop};
+ghost use lib.IntN.{pos};
+ghost use Rattle.numbers.specs.Rows.{all};
+ghost use Rattle.numbers.specs.Search.{maybe};
+ghost use Rattle.daybook.specs.Notices.{isRange};
+ghost use Rattle.layout.specs.Layout.{standard, placeOf, partOf, numAt, pointsFrom};
+ghost use Rattle.layout.specs.Sound.{partSound, mirnsDiffer, sound};
+ghost use Rattle.layout.proofs.Mirns.{laterDiffer};
+ghost use Rattle.table.specs.Lookup.{indexOf, lookUp};
+
+// The numbers of a register, and its points.
+pub const TABLE: usize = 7688;
+pub const POINTS: usize = 32;
+
+// Where point i starts.
+pub fn place(i: usize) -> usize
+    requires { ⌜ i ≤ 32 ⌝ }
+    ensures { λ r. ⌜ r ≡ placeOf standard i ⌝ }
+{
+    8 + 240 * i
+}
+
+// The numbers of point i.
+pub fn part(t: &[i64], i: usize) -> &[i64]
+    requires { ⌜ placeOf standard i + 240 ≤ length (now t) ⌝ }
+    ensures { λ r. ⌜ (now r ≡ partOf standard (now (t .entry)) i) × (length (now r) ≡ 240) ⌝ }
+{
+    let a = 8 + 240 * i;
+    let b = a + 240;
+    &t[a..b]
+}
+
+fn range_ok(t: &[i64], i: usize) -> bool
+    requires { ⌜ i < length (now t) ⌝ }
+    ensures { λ r. ⌜ r ≡ isRange (getD (now (t .entry)) i (pos 0)) ⌝ }
+{
+    let u = numbers::get_energy(t, i);
+    (999999 <= u) & (u <= 2000000)
+}
+
+// Is the MIRN of point i that of no later point, of n?
+fn later_differ(t: &[i64], i: usize, n: usize) -> bool
+    requires { ⌜ (i < n) × (n ≤ 32) × (7688 ≤ length (now t)) ⌝ }
+    ensures { λ r. ⌜ r ≡ laterDiffer standard (now (t .entry)) n i ⌝ }
+{
+    let mirn = numbers::get(t, 8 + 240 * i);
+    let m = n - (i + 1);
+    let mut j: usize = 0;
+    while j < m {
+        if numbers::get(t, 8 + 240 * (i + 1 + j)) == mirn {
+            return false;
+        }
+        j += 1;
+    }
+    true
+}
+
+fn mirns_differ(t: &[i64], n: usize) -> bool
+    requires { ⌜ (n ≤ 32) × (7688 ≤ length (now t)) ⌝ }
+    ensures { λ r. ⌜ r ≡ mirnsDiffer (pointsFrom standard n (drop 8 (now (t .entry)))) ⌝ }
+{
+    let mut i: usize = 0;
+    while i < n {
+        if !later_differ(t, i, n) {
+            return false;
+        }
+        i += 1;
+    }
+    true
+}
+
+// The point of a MIRN, 32 if there is none.
+pub fn index_of(t: &[i64], mirn: u64) -> usize
+    requires { ⌜ (7688 ≤ length (now t)) × (numAt (now t) 0 ≤ 32) ⌝ }
+    ensures { λ r. ⌜ (r ≡ maybe 32 (λ i. i) (indexOf standard (now (t .entry)) mirn)) × (r ≤ 32) ⌝ }
+{
+    let n = numbers::get(t, 0) as usize;
+    let mut i: usize = 0;
+    while i < n {
+        if numbers::get(t, 8 + 240 * i) == mirn {
+            return i;
+        }
+        i += 1;
+    }
+    32
+}
