@@ -1,4 +1,13 @@
+use Prim.Native.Nat.{_≤_, _-_}
+use mathlib.Core.Path.{_≡_, sym, _∙_}
+use mathlib.Core.Bool.{true}
+use native.Mathlib.Omega.{arith}
 use borrow.Author.Needs.{needs}
+use borrow.Author.Tests.{not-true, not-false}
+use Rattle.numbers.specs.Rows.{all}
+use Rattle.numbers.proofs.Rows.{all-none, all-more, all-fails, all-done}
+use Rattle.layout.specs.Layout.{standard}
+use Rattle.layout.proofs.Mirns.{laterDiffer, differ-is}
 use Rattle.table.proofs.mirns_differ.Statement.{statement}
 use Rattle.table.proofs.mirns_differ.Tie as tie
 use Rattle.table.proofs.mirns_differ.Reads as reads
@@ -6,14 +15,14 @@ use Rattle.table.proofs.mirns_differ.Lts as lts
 use Rattle.table.proofs.later_differ.Reads as later-differ-reads
 
 abbrev Inv-loop : tie.InvT-loop
-Inv-loop t n i₀ i = ?
+Inv-loop t n i₀ i = (i ≤ n) × (all (laterDiffer standard t n) i ≡ true)
 
 abbrev μ-loop : tie.MeasureT-loop
-μ-loop t n i₀ i = ?
+μ-loop t n i₀ i = n - i
 
 -- src/lib.rt:69:5
 loop-holds : tie.Need-loop-holds Inv-loop μ-loop
-loop-holds c = search needs
+loop-holds c = (search needs, all-none _)
 
 -- src/lib.rt:70:13
 later-differ-requires : tie.Need-later-differ-requires Inv-loop μ-loop
@@ -21,7 +30,10 @@ later-differ-requires c κs = search needs
 
 -- src/lib.rt:71:13
 returns : tie.Need-returns Inv-loop μ-loop
-returns c = search needs
+returns c =
+    let s = c .before .before .before .before in
+    sym (all-fails _ (c .before .before .before .loop .i) _ (search needs) (sym (c .before .later-differ .ensures) ∙ not-true _ (c .if1 .taken)))
+    ∙ sym (differ-is standard (s .args .t .now) (s .args .n))
 
 -- src/lib.rt:73:9
 add-i : tie.Need-add-i Inv-loop μ-loop
@@ -33,11 +45,14 @@ loop-less c = search needs
 
 -- src/lib.rt:69:5
 loop-again : tie.Need-loop-again Inv-loop μ-loop
-loop-again c = search needs
+loop-again c =
+    (search needs, all-more _ _ (c .before .before .before .loop .inv .1) (sym (c .before .later-differ .ensures) ∙ not-false _ (c .if1 .left)))
 
 -- src/lib.rt:64:1
 returns-2 : tie.Need-returns-2 Inv-loop μ-loop
-returns-2 c = search needs
+returns-2 c =
+    let s = c .before .before .before in
+    all-done _ _ _ (c .before .loop .inv .1) (search needs) ∙ sym (differ-is standard (s .args .t .now) (s .args .n))
 
 pub mirns-differ-spec : {M : Type 1} → statement M
 mirns-differ-spec =

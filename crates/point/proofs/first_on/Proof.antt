@@ -1,0 +1,68 @@
+use mathlib.Core.Path.{_≡_, refl, sym, _∙_}
+use Prim.Native.Nat.{_≤_, _-_}
+use native.Mathlib.Omega.{arith}
+use Rattle.point.specs.Tests.{passed, firstOn}
+use Rattle.point.proofs.Loops.{passed-more, passed-end}
+use borrow.Author.Needs.{needs}
+use Rattle.point.proofs.first_on.Statement.{statement}
+use Rattle.point.proofs.first_on.Tie as tie
+
+abbrev Inv-loop : tie.InvT-loop
+Inv-loop p m d x₀ k₀ x k = (k ≤ m) × (passed p x k (m - k) ≡ firstOn p m d)
+
+abbrev μ-loop : tie.MeasureT-loop
+μ-loop p m d x₀ k₀ x k = m - k
+
+loop-holds : tie.Need-loop-holds Inv-loop μ-loop
+unfolding firstOn
+loop-holds c = let z : c .args .m - 0 ≡ c .args .m = omega arith in (omega arith, rw z)
+
+mul-i : tie.Need-mul-i Inv-loop μ-loop
+mul-i c = search needs
+
+add-i : tie.Need-add-i Inv-loop μ-loop
+add-i c = search needs
+
+get-requires : tie.Need-get-requires Inv-loop μ-loop
+get-requires c κs = search needs
+
+add-get-until : tie.Need-add-get-until Inv-loop μ-loop
+add-get-until c = search needs
+
+get-until-requires : tie.Need-get-until-requires Inv-loop μ-loop
+get-until-requires c κs = search needs
+
+past-span-requires : tie.Need-past-span-requires Inv-loop μ-loop
+past-span-requires c κs = search needs
+
+add-k : tie.Need-add-k Inv-loop μ-loop
+add-k c = search needs
+
+loop-less : tie.Need-loop-less Inv-loop μ-loop
+loop-less c = search needs
+
+loop-again : tie.Need-loop-again Inv-loop μ-loop
+loop-again c =
+    let l = c .before .before .before .before .loop in
+    (omega arith, rw (c .past-span .ensures, c .before .get-until .ensures .0, c .before .before .get .ensures .0) (sym (passed-more _ _ (l .k) _ (omega arith)) ∙ l .inv .1))
+
+returns : tie.Need-returns Inv-loop μ-loop
+returns c = sym (passed-end _ _ (c .before .loop .k) _ (omega arith)) ∙ c .before .loop .inv .1
+
+pub first-on-spec : {M : Type 1} → statement M
+first-on-spec =
+    tie.close
+    (tie.spec
+    Inv-loop
+    μ-loop
+    loop-holds
+    mul-i
+    add-i
+    get-requires
+    add-get-until
+    get-until-requires
+    past-span-requires
+    add-k
+    loop-less
+    loop-again
+    returns)

@@ -1,0 +1,74 @@
+use mathlib.Core.Path.{_≡_, refl, sym, _∙_}
+use mathlib.Core.Bool.{true}
+use Prim.Native.Nat.{_≤_, _-_}
+use native.Mathlib.Omega.{arith}
+use borrow.Author.Tests.{not-true, not-false}
+use Rattle.numbers.specs.Rows.{all}
+use Rattle.numbers.proofs.Rows.{all-none, all-more, all-fails, all-done}
+use Rattle.point.specs.Tests.{apart, apartAt, noOff}
+use borrow.Author.Needs.{needs}
+use Rattle.point.proofs.no_off.Statement.{statement}
+use Rattle.point.proofs.no_off.Tie as tie
+
+abbrev Inv-loop : tie.InvT-loop
+Inv-loop p m a b k₀ k = (k ≤ m) × (all (apartAt p a b) k ≡ true)
+
+abbrev μ-loop : tie.MeasureT-loop
+μ-loop p m a b k₀ k = m - k
+
+loop-holds : tie.Need-loop-holds Inv-loop μ-loop
+loop-holds c = (omega arith, all-none _)
+
+mul-i : tie.Need-mul-i Inv-loop μ-loop
+mul-i c = search needs
+
+add-i : tie.Need-add-i Inv-loop μ-loop
+add-i c = search needs
+
+get-requires : tie.Need-get-requires Inv-loop μ-loop
+get-requires c κs = search needs
+
+add-get-until : tie.Need-add-get-until Inv-loop μ-loop
+add-get-until c = search needs
+
+get-until-requires : tie.Need-get-until-requires Inv-loop μ-loop
+get-until-requires c κs = search needs
+
+returns : tie.Need-returns Inv-loop μ-loop
+unfolding noOff
+returns c =
+    let s = c .before .before .before .before .before .args in
+    sym (all-fails _ (c .before .before .before .before .loop .k) _ (omega arith) (rw (c .before .get-until .ensures .0, c .before .before .get .ensures .0) at (not-true (apart (s .a) (s .b) (c .before .before .get .result) (c .before .get-until .result)) (c .if1 .taken))))
+
+add-k : tie.Need-add-k Inv-loop μ-loop
+add-k c = search needs
+
+loop-less : tie.Need-loop-less Inv-loop μ-loop
+loop-less c = search needs
+
+loop-again : tie.Need-loop-again Inv-loop μ-loop
+loop-again c =
+    let s = c .before .before .before .before .before .args in
+    (omega arith, all-more _ _ (c .before .before .before .before .loop .inv .1) (rw (c .before .get-until .ensures .0, c .before .before .get .ensures .0) at (not-false (apart (s .a) (s .b) (c .before .before .get .result) (c .before .get-until .result)) (c .if1 .left))))
+
+returns-2 : tie.Need-returns-2 Inv-loop μ-loop
+unfolding noOff
+returns-2 c = all-done _ _ _ (c .before .loop .inv .1) (omega arith)
+
+pub no-off-spec : {M : Type 1} → statement M
+no-off-spec =
+    tie.close
+    (tie.spec
+    Inv-loop
+    μ-loop
+    loop-holds
+    mul-i
+    add-i
+    get-requires
+    add-get-until
+    get-until-requires
+    returns
+    add-k
+    loop-less
+    loop-again
+    returns-2)

@@ -1,0 +1,254 @@
+// Soundness of one point's part of the register table. A part of any length is tested: how many records it holds is
+// said by its length. Counts are tested first, so that every row that is read lies in the part; each number is then
+// read a bounded number of times.
+ghost use mathlib.Core.Path.{_≡_};
+ghost use Prim.Native.Nat.{_+_, _*_, _<_, _≤_, _^_};
+ghost use lib.ListN.{length, getD};
+ghost use lib.IntN.{pos};
+ghost use Rattle.daybook.specs.Notices.{fitsKind};
+ghost use Rattle.layout.specs.Sound.{factsSound, countsSound, unusedZero, zeros};
+ghost use Rattle.point.specs.Tests.{factsAt, Counted, regsOk, untilOf, spansOk, past, firstOn, noOff, recAt, recsOk, pendingOk, rowsOk, testPart};
+
+// The day before which an off span ends; -1, still off, as 40,001.
+pub fn until(x: i64) -> u64
+    ensures { λ r. ⌜ (r ≡ untilOf x) × (r ≤ 2 ^ 63) ⌝ }
+{
+    if x == -1 {
+        return 40001;
+    }
+    let n = numbers::natural(x);
+    if n < 40000 {
+        return n;
+    }
+    0x8000_0000_0000_0000
+}
+
+pub fn get_until(p: &[i64], i: usize) -> u64
+    requires { ⌜ i < length (now p) ⌝ }
+    ensures { λ r. ⌜ (r ≡ untilOf (getD (now (p .entry)) i (pos 0))) × (r ≤ 2 ^ 63) ⌝ }
+{
+    until(p[i])
+}
+
+pub fn zeros_in(p: &[i64], a: usize, b: usize) -> bool
+    requires { ⌜ b ≤ length (now p) ⌝ }
+    ensures { λ r. ⌜ r ≡ zeros (now (p .entry)) a b ⌝ }
+{
+    let mut i = a;
+    while i < b {
+        if numbers::get(p, i) != 0 {
+            return false;
+        }
+        i += 1;
+    }
+    true
+}
+
+fn counts_sound(p: &[i64]) -> bool
+    requires { ⌜ 48 ≤ length (now p) ⌝ }
+    ensures { λ r. ⌜ r ≡ countsSound (now (p .entry)) ⌝ }
+{
+    let regs = numbers::get(p, 4);
+    let room = (p.len() - 48) / 4;
+    (1 <= regs) & (regs <= 8) & (numbers::get(p, 5) <= 8) & (numbers::get(p, 6) <= room as u64)
+}
+
+fn facts_sound(p: &[i64]) -> bool
+    requires { ⌜ 48 ≤ length (now p) ⌝ }
+    ensures { λ r. ⌜ r ≡ factsSound (factsAt (now (p .entry))) ⌝ }
+{
+    let mirn = numbers::get(p, 0);
+    let numbered = (1 <= mirn) & (mirn <= 9999999999);
+    numbered
+        & (numbers::get(p, 1) <= 1)
+        & (numbers::get(p, 2) <= 39999)
+        & (numbers::get(p, 3) <= 10000)
+}
+
+// Places 10 to 15, unused rows and, without a pending User, the pending request.
+fn unused_zero(p: &[i64]) -> bool
+    requires { ⌜ Counted (now p) ⌝ }
+    ensures { λ r. ⌜ r ≡ unusedZero (now (p .entry)) ⌝ }
+{
+    let regs = 16 + 2 * numbers::get(p, 4) as usize;
+    let spans = 32 + 2 * numbers::get(p, 5) as usize;
+    let recs = 48 + 4 * numbers::get(p, 6) as usize;
+    let zero = zeros_in(p, 10, 16)
+        & zeros_in(p, regs, 32)
+        & zeros_in(p, spans, 48)
+        & zeros_in(p, recs, p.len());
+    if numbers::get(p, 7) == 0 {
+        return zero & zeros_in(p, 7, 10);
+    }
+    zero
+}
+
+// Each of n registrations starts after the one before it, with another User.
+fn registrations_ok(p: &[i64], n: usize) -> bool
+    requires { ⌜ (16 + 2 * n ≤ 32) × (48 ≤ length (now p)) ⌝ }
+    ensures { λ r. ⌜ r ≡ regsOk (now (p .entry)) n ⌝ }
+{
+    let install = numbers::get(p, 2);
+    if numbers::get(p, 16) != install {
+        return false;
+    }
+    let mut lo = install;
+    let mut latest = 0;
+    let mut k: usize = 0;
+    while k < n {
+        let i = 16 + 2 * k;
+        let start = numbers::get(p, i);
+        let user = numbers::get(p, i + 1);
+        if !((lo <= start) & (start <= 40000) & (1 <= user) & (user <= 16) & (latest != user)) {
+            return false;
+        }
+        lo = start + 1;
+        latest = user;
+        k += 1;
+    }
+    true
+}
+
+// Each of n spans begins after the one before it has ended, and only the last is still off.
+fn spans_ok(p: &[i64], n: usize) -> bool
+    requires { ⌜ (32 + 2 * n ≤ 48) × (48 ≤ length (now p)) ⌝ }
+    ensures { λ r. ⌜ r ≡ spansOk (now (p .entry)) n ⌝ }
+{
+    let mut lo = numbers::get(p, 2);
+    let mut k: usize = 0;
+    while k < n {
+        let i = 32 + 2 * k;
+        let off = numbers::get(p, i);
+        let on = get_until(p, i + 1);
+        if !((lo <= off) & (off <= 39999) & (off < on) & (on <= 40001)) {
+            return false;
+        }
+        lo = on + 1;
+        k += 1;
+    }
+    true
+}
+
+fn past_span(off: u64, on: u64, d: u64) -> u64
+    ensures { λ r. ⌜ r ≡ past off on d ⌝ }
+{
+    if (off <= d) & (d < on) {
+        return on;
+    }
+    d
+}
+
+// The first day from d on that is in none of the first m spans; 40,001 if there is none.
+pub fn first_on(p: &[i64], m: usize, d: u64) -> u64
+    requires { ⌜ 32 + 2 * m ≤ length (now p) ⌝ }
+    ensures { λ r. ⌜ r ≡ firstOn (now (p .entry)) m d ⌝ }
+{
+    let mut x = d;
+    let mut k: usize = 0;
+    while k < m {
+        let i = 32 + 2 * k;
+        x = past_span(numbers::get(p, i), get_until(p, i + 1), x);
+        k += 1;
+    }
+    x
+}
+
+// Is none of the days a to b in one of the first m spans?
+pub fn no_off(p: &[i64], m: usize, a: u64, b: u64) -> bool
+    requires { ⌜ 32 + 2 * m ≤ length (now p) ⌝ }
+    ensures { λ r. ⌜ r ≡ noOff (now (p .entry)) m a b ⌝ }
+{
+    let mut k: usize = 0;
+    while k < m {
+        let i = 32 + 2 * k;
+        if !((b < numbers::get(p, i)) | (get_until(p, i + 1) <= a)) {
+            return false;
+        }
+        k += 1;
+    }
+    true
+}
+
+// A non-daily record has start < end, a daily one start = end.
+pub fn fits_kind(kind: u64, start: u64, end: u64) -> bool
+    ensures { λ r. ⌜ r ≡ fitsKind kind start end ⌝ }
+{
+    if kind == 0 {
+        return start < end;
+    }
+    start == end
+}
+
+// Record k, where the one before it leaves the days from `from` on.
+fn record_ok(p: &[i64], m: usize, from: u64, k: usize) -> bool
+    requires { ⌜ (32 + 2 * m ≤ length (now p)) × (48 + 4 * k + 3 < length (now p)) ⌝ }
+    ensures { λ r. ⌜ r ≡ recAt (now (p .entry)) m from k ⌝ }
+{
+    let i = 48 + 4 * k;
+    let start = numbers::get(p, i);
+    let end = numbers::get(p, i + 1);
+    let in_range = (end <= 39999)
+        & (numbers::get_energy(p, i + 2) <= 2000000)
+        & (numbers::get(p, i + 3) <= 2);
+    in_range
+        & fits_kind(numbers::get(p, 1), start, end)
+        & (start == first_on(p, m, from))
+        & no_off(p, m, start, end)
+}
+
+// Each of n records follows the one before it, beside m spans.
+fn records_ok(p: &[i64], m: usize, n: usize) -> bool
+    requires { ⌜ (32 + 2 * m ≤ length (now p)) × (48 + 4 * n ≤ length (now p)) ⌝ }
+    ensures { λ r. ⌜ r ≡ recsOk (now (p .entry)) m n ⌝ }
+{
+    let mut from = numbers::get(p, 2);
+    let mut k: usize = 0;
+    while k < n {
+        if !record_ok(p, m, from, k) {
+            return false;
+        }
+        from = numbers::get(p, 48 + 4 * k + 1) + 1;
+        k += 1;
+    }
+    true
+}
+
+// A pending User isn't the latest, whose place is that of the last of n registrations.
+fn pending_ok(p: &[i64], n: usize) -> bool
+    requires { ⌜ (n ≤ 8) × (48 ≤ length (now p)) ⌝ }
+    ensures { λ r. ⌜ r ≡ pendingOk (now (p .entry)) n ⌝ }
+{
+    let user = numbers::get(p, 7);
+    let latest = numbers::get(p, 15 + 2 * n);
+    let last = numbers::get(p, 9);
+    (user == 0)
+        | ((user <= 16)
+            & (latest != user)
+            & (numbers::get(p, 8) <= last)
+            & (last <= 39999)
+            & (n <= 7))
+}
+
+fn rows_ok(p: &[i64]) -> bool
+    requires { ⌜ Counted (now p) ⌝ }
+    ensures { λ r. ⌜ r ≡ rowsOk (now (p .entry)) ⌝ }
+{
+    let regs = numbers::get(p, 4) as usize;
+    let spans = numbers::get(p, 5) as usize;
+    let recs = numbers::get(p, 6) as usize;
+    registrations_ok(p, regs)
+        & spans_ok(p, spans)
+        & records_ok(p, spans, recs)
+        & pending_ok(p, regs)
+}
+
+// Is this a sound point?
+pub fn part_sound(p: &[i64]) -> bool
+    requires { ⌜ 48 ≤ length (now p) ⌝ }
+    ensures { λ r. ⌜ r ≡ testPart (now (p .entry)) ⌝ }
+{
+    if !counts_sound(p) {
+        return false;
+    }
+    facts_sound(p) & unused_zero(p) & rows_ok(p)
+}
