@@ -1,23 +1,25 @@
 -- What the loops and the parts of the whole table need. Assumes nothing.
 use mathlib.Core.Path.{_≡_, refl, sym, ap, _∙_}
-use mathlib.Core.Bool.{Bool, true, false, not, _&&_, cond}
+use mathlib.Core.Bool.{Bool, true, false, not, _&&_, cond, false≢true}
 use mathlib.Core.Option.{Option, none, some}
-use mathlib.Core.List.{List}
+use mathlib.Core.List.{List, []}
 use Prim.Native.Nat.{ℕ, zero, suc, _+_, _-_, _*_, _≤_, _<_, _^_}
 use native.Mathlib.Omega.{arith}
 use lib.Dec.{leb, ltb, eqb}
 use lib.ListN.{getD, length, take, drop, length-take, length-drop}
 use lib.IntN.{ℤ, pos, negsuc}
 use borrow.Author.Tests.{le-leb, lt-leb, eq-eqb, ne-eqb, leb-true, leb-false, ltb-true, ltb-false}
-use Rattle.numbers.specs.Naturals.{biasOf}
+use Rattle.numbers.specs.Naturals.{natOf, biasOf}
 use Rattle.numbers.specs.Rows.{all}
 use Rattle.numbers.specs.Search.{maybe, firstFrom}
 use Rattle.numbers.proofs.Rows.{all-more, all-fails, all-done}
-use Rattle.numbers.proofs.Search.{from-none, from-hit, from-miss}
+use Rattle.numbers.proofs.Search.{from-none, from-hit, from-miss, from-bound}
 use Rattle.daybook.specs.Notices.{isRange}
-use Rattle.layout.specs.Layout.{standard, placeOf, partOf, numAt}
+use Rattle.layout.specs.Layout.{standard, placeOf, partOf, numAt, pointsFrom}
+use Rattle.layout.specs.Sound.{zeros, partSound, mirnsDiffer, sound}
 use Rattle.layout.proofs.Mirns.{laterDiffer}
-use Rattle.table.specs.Lookup.{indexOf}
+use Rattle.point.specs.Tests.{testPart}
+use Rattle.table.specs.Lookup.{bodySound, indexOf, lookUp}
 
 module _ (t : List ℤ) (i : ℕ) where
   pub part-is : take (8 + 240 * i + 240 - (8 + 240 * i)) (drop (8 + 240 * i) t) ≡ partOf standard t i
@@ -91,3 +93,58 @@ module _ (t : List ℤ) (i n : ℕ) where
   pub later-done : (j : ℕ) → all (differAt t i) j ≡ true → j ≡ n - suc i → true ≡ laterDiffer standard t n i
   unfolding laterDiffer
   later-done j q e = all-done (differAt t i) j (n - suc i) q e
+
+-- TEMPORARY
+pub tested-is : (p : List ℤ) → length p ≡ 240 → testPart p ≡ partSound p
+tested-is p e = ?
+
+-- ---- the whole table
+
+pub body-is : (t : List ℤ) (n : ℕ) (a b z p m e : Bool) → n ≡ numAt t 0 → a ≡ isRange (getD t 1 (pos 0)) → b ≡ isRange (getD t 2 (pos 0)) → z ≡ zeros t 3 8
+    → p ≡ all (λ i. partSound (partOf standard t i)) n → m ≡ mirnsDiffer (pointsFrom standard n (drop 8 t)) → e ≡ zeros t (8 + 240 * n) 7688 → (a && b && z && p && m && e) ≡ bodySound t
+unfolding bodySound
+body-is t n a b z p m e q ea eb ez ep em ee = rw (ea, eb, ez, ep, em, ee, q)
+
+module _ (t : List ℤ) where
+  pub short-unsound : length t < 7688 → false ≡ sound standard t
+  unfolding sound
+  short-unsound h = rw (lt-leb 7688 (length t) h)
+
+  pub many-unsound : 7688 ≤ length t → 32 < numAt t 0 → false ≡ sound standard t
+  unfolding sound
+  many-unsound h k = rw (le-leb 7688 (length t) h, lt-leb (numAt t 0) 32 k)
+
+  pub body-sound : 7688 ≤ length t → numAt t 0 ≤ 32 → bodySound t ≡ sound standard t
+  unfolding sound bodySound
+  body-sound h k = rw (le-leb 7688 (length t) h, le-leb (numAt t 0) 32 k)
+
+  -- a sound table is long enough and has not too many points
+  pub sound-long : sound standard t ≡ true → (7688 ≤ length t) × (numAt t 0 ≤ 32)
+  sound-long e = go (leb 7688 (length t)) (leb (numAt t 0) 32) refl refl
+    where
+      go : (a b : Bool) → leb 7688 (length t) ≡ a → leb (numAt t 0) 32 ≡ b → (7688 ≤ length t) × (numAt t 0 ≤ 32)
+      go true true p q = (leb-true _ _ p, leb-true _ _ q)
+      go true false p q = let z : false ≡ true = many-unsound (leb-true _ _ p) (leb-false _ _ q) ∙ e in absurd (false≢true z)
+      go false b p q = let z : false ≡ true = short-unsound (leb-false _ _ p) ∙ e in absurd (false≢true z)
+
+  -- ---- the look-up
+
+  pub look-unsound : (m : ℤ) → sound standard t ≡ false → [] ≡ lookUp standard t m
+  unfolding lookUp
+  look-unsound m e = rw e
+
+  pub look-missing : (m : ℤ) → sound standard t ≡ true → 32 ≡ maybe 32 (λ k. k) (indexOf standard t (natOf m)) → [] ≡ lookUp standard t m
+  unfolding lookUp indexOf
+  look-missing m e h = rw e (go (indexOf standard t (natOf m)) (λ k q. from-bound (mirnAt t (natOf m)) 0 (numAt t 0) k q .1) h)
+    where
+      go : (o : Option ℕ) → ((k : ℕ) → o ≡ some k → k < 0 + numAt t 0) → 32 ≡ maybe 32 (λ k. k) o → [] ≡ maybe [] (partOf standard t) o
+      go none f h = refl
+      go (some k) f h = absurd (omega (arith, f k refl, sound-long e .1))
+
+  pub look-found : (m : ℤ) (i : ℕ) → sound standard t ≡ true → i ≡ maybe 32 (λ k. k) (indexOf standard t (natOf m)) → (i ≡ 32 → ⊥) → partOf standard t i ≡ lookUp standard t m
+  unfolding lookUp
+  look-found m i e h n = rw e (go (indexOf standard t (natOf m)) h)
+    where
+      go : (o : Option ℕ) → i ≡ maybe 32 (λ k. k) o → partOf standard t i ≡ maybe [] (partOf standard t) o
+      go none h = absurd (n h)
+      go (some k) h = ap (partOf standard t) h

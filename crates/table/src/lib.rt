@@ -10,9 +10,9 @@ ghost use Rattle.numbers.specs.Rows.{all};
 ghost use Rattle.numbers.specs.Search.{maybe};
 ghost use Rattle.daybook.specs.Notices.{isRange};
 ghost use Rattle.layout.specs.Layout.{standard, placeOf, partOf, numAt, pointsFrom};
-ghost use Rattle.layout.specs.Sound.{partSound, mirnsDiffer, sound};
+ghost use Rattle.layout.specs.Sound.{partSound, mirnsDiffer, sound as tableSound};
 ghost use Rattle.layout.proofs.Mirns.{laterDiffer};
-ghost use Rattle.table.specs.Lookup.{indexOf, lookUp};
+ghost use Rattle.table.specs.Lookup.{bodySound, indexOf, lookUp};
 
 // The numbers of a register, and its points.
 pub const TABLE: usize = 7688;
@@ -75,6 +75,48 @@ fn mirns_differ(t: &[i64], n: usize) -> bool
     true
 }
 
+fn parts_sound(t: &[i64], n: usize) -> bool
+    requires { ⌜ (n ≤ 32) × (7688 ≤ length (now t)) ⌝ }
+    ensures { λ r. ⌜ r ≡ all (λ i. partSound (partOf standard (now (t .entry)) i)) n ⌝ }
+{
+    let mut i: usize = 0;
+    while i < n {
+        if !point::part_sound(part(t, i)) {
+            return false;
+        }
+        i += 1;
+    }
+    true
+}
+
+// The tests of a table that is long enough and says that it has n points.
+fn body_sound(t: &[i64], n: usize) -> bool
+    requires { ⌜ (n ≤ 32) × (7688 ≤ length (now t)) × (n ≡ numAt (now t) 0) ⌝ }
+    ensures { λ r. ⌜ r ≡ bodySound (now (t .entry)) ⌝ }
+{
+    let end = 8 + 240 * n;
+    range_ok(t, 1)
+        & range_ok(t, 2)
+        & point::zeros_in(t, 3, 8)
+        & parts_sound(t, n)
+        & mirns_differ(t, n)
+        & point::zeros_in(t, end, 7688)
+}
+
+// Is this a sound register? Any numbers, any length.
+pub fn sound(t: &[i64]) -> bool
+    ensures { λ r. ⌜ r ≡ tableSound standard (now (t .entry)) ⌝ }
+{
+    if t.len() < 7688 {
+        return false;
+    }
+    let n = numbers::get(t, 0);
+    if 32 < n {
+        return false;
+    }
+    body_sound(t, n as usize)
+}
+
 // The point of a MIRN, 32 if there is none.
 pub fn index_of(t: &[i64], mirn: u64) -> usize
     requires { ⌜ (7688 ≤ length (now t)) × (numAt (now t) 0 ≤ 32) ⌝ }
@@ -89,4 +131,20 @@ pub fn index_of(t: &[i64], mirn: u64) -> usize
         i += 1;
     }
     32
+}
+
+// The point of a MIRN: its part of the lent table itself, an empty part if the table is short or unsound or has no
+// such point.
+pub fn look_up(t: &[i64], mirn: i64) -> &[i64]
+    ensures { λ r. ⌜ now r ≡ lookUp standard (now (t .entry)) mirn ⌝ }
+{
+    if !sound(t) {
+        return &t[0..0];
+    }
+    let m = numbers::natural(mirn);
+    let i = index_of(t, m);
+    if i == 32 {
+        return &t[0..0];
+    }
+    part(t, i)
 }

@@ -51,7 +51,7 @@ loop-again c =
 -- src/lib.rt:64:1
 returns-2 : tie.Need-returns-2 Inv-loop μ-loop
 returns-2 c =
-    let s = c .before .before .before in
+    let s = c .before .before in
     all-done _ _ _ (c .before .loop .inv .1) (search needs) ∙ sym (differ-is standard (s .args .t .now) (s .args .n))
 
 pub mirns-differ-spec : {M : Type 1} → statement M

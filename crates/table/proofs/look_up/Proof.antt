@@ -1,0 +1,103 @@
+use mathlib.Core.Path.{_∙_, sym, ap}
+use native.Mathlib.Omega.{arith}
+use mir.ValLaws.{toZ-ofZ}
+use mir.Syntax.{w64}
+use borrow.Author.Needs.{needs}
+use borrow.Author.Tests.{not-true, not-false}
+use Rattle.numbers.specs.Naturals.{natOf}
+use Rattle.numbers.specs.Search.{maybe}
+use Rattle.layout.specs.Layout.{standard}
+use Rattle.table.specs.Lookup.{indexOf}
+use Rattle.table.proofs.Laws.{sound-long, look-unsound, look-missing, look-found}
+use Rattle.table.proofs.look_up.Statement.{statement}
+use Rattle.table.proofs.look_up.Tie as tie
+use Rattle.table.proofs.look_up.Reads as reads
+use Rattle.table.proofs.look_up.Lts as lts
+use Rattle.numbers.proofs.natural.Reads as natural-reads
+use Rattle.table.proofs.index_of.Reads as index-of-reads
+use Rattle.table.proofs.part.Reads as part-reads
+use Rattle.table.proofs.sound.Reads as sound-reads
+
+-- src/lib.rt:141:9
+sound-requires : tie.Need-sound-requires
+sound-requires c κs = search needs
+
+-- src/lib.rt:142:16
+sub-result : tie.Need-sub-result
+sub-result c = search needs
+
+-- src/lib.rt:142:16
+part-result-start : tie.Need-part-result-start
+part-result-start c = search needs
+
+-- src/lib.rt:142:16
+part-result-end : tie.Need-part-result-end
+part-result-end c = search needs
+
+-- src/lib.rt:142:9
+returns : tie.Need-returns
+returns c =
+    let s = c .before .before .before in
+    look-unsound (s .args .t .now) (s .args .mirn) (sym (c .before .before .sound .ensures) ∙ not-true _ (c .before .if1 .taken))
+
+-- src/lib.rt:144:9
+natural-requires : tie.Need-natural-requires
+natural-requires c κs = search needs
+
+-- src/lib.rt:145:9
+index-of-requires : tie.Need-index-of-requires
+index-of-requires c κs =
+    let s = c .before .before .before in
+    sound-long (s .args .t .now) (sym (c .before .before .sound .ensures) ∙ not-false _ (c .before .if1 .left))
+
+-- src/lib.rt:147:16
+sub-result-2 : tie.Need-sub-result-2
+sub-result-2 c = search needs
+
+-- src/lib.rt:147:16
+part-result-start-2 : tie.Need-part-result-start-2
+part-result-start-2 c = search needs
+
+-- src/lib.rt:147:16
+part-result-end-2 : tie.Need-part-result-end-2
+part-result-end-2 c = search needs
+
+-- src/lib.rt:147:9
+returns-2 : tie.Need-returns-2
+returns-2 c =
+    let s = c .before .before .before .before .before .before in
+    look-missing (s .args .t .now) (s .args .mirn) (sym (c .before .before .before .before .before .sound .ensures) ∙ not-false _ (c .before .before .before .before .if1 .left))
+    (sym (c .before .if2 .taken) ∙ c .before .before .index-of .ensures .0 ∙ ap (λ m. maybe 32 (λ k. k) (indexOf standard (s .args .t .now) m)) (c .before .before .before .natural .ensures .0 ∙ ap natOf (toZ-ofZ w64 (s .args .mirn) (s .fits .mirn))))
+
+-- src/lib.rt:149:5
+part-requires : tie.Need-part-requires
+part-requires c κs =
+    let s = c .before .before .before .before .before in
+    omega (arith, c .before .index-of .ensures .1, c .if2 .left, sound-long (s .args .t .now) (sym (c .before .before .before .before .sound .ensures) ∙ not-false _ (c .before .before .before .if1 .left)))
+
+-- src/lib.rt:138:1
+returns-3 : tie.Need-returns-3
+returns-3 c =
+    let s = c .before .before .before .before .before .before in
+    c .part .ensures .0
+    ∙ look-found (s .args .t .now) (s .args .mirn) _ (sym (c .before .before .before .before .before .sound .ensures) ∙ not-false _ (c .before .before .before .before .if1 .left))
+    (c .before .before .index-of .ensures .0 ∙ ap (λ m. maybe 32 (λ k. k) (indexOf standard (s .args .t .now) m)) (c .before .before .before .natural .ensures .0 ∙ ap natOf (toZ-ofZ w64 (s .args .mirn) (s .fits .mirn))))
+    (c .before .if2 .left)
+
+pub look-up-spec : {M : Type 1} → statement M
+look-up-spec =
+    tie.close
+    (tie.spec
+    sound-requires
+    sub-result
+    part-result-start
+    part-result-end
+    returns
+    natural-requires
+    index-of-requires
+    sub-result-2
+    part-result-start-2
+    part-result-end-2
+    returns-2
+    part-requires
+    returns-3)

@@ -1,0 +1,72 @@
+use Prim.Native.Nat.{_≤_, _-_}
+use mathlib.Core.Path.{_≡_, sym, _∙_, ap}
+use mathlib.Core.Bool.{true}
+use native.Mathlib.Omega.{arith}
+use borrow.Author.Needs.{needs}
+use borrow.Author.Tests.{not-true, not-false}
+use Rattle.numbers.specs.Rows.{all}
+use Rattle.numbers.proofs.Rows.{all-none, all-more, all-fails, all-done}
+use Rattle.layout.specs.Layout.{standard, partOf}
+use Rattle.layout.specs.Sound.{partSound}
+use Rattle.table.proofs.Laws.{tested-is}
+use Rattle.table.proofs.parts_sound.Statement.{statement}
+use Rattle.table.proofs.parts_sound.Tie as tie
+use Rattle.table.proofs.parts_sound.Reads as reads
+use Rattle.table.proofs.parts_sound.Lts as lts
+use Rattle.point.proofs.part_sound.Reads as part-sound-reads
+use Rattle.table.proofs.part.Reads as part-reads
+
+abbrev Inv-loop : tie.InvT-loop
+Inv-loop t n i₀ i = (i ≤ n) × (all (λ k. partSound (partOf standard t k)) i ≡ true)
+
+abbrev μ-loop : tie.MeasureT-loop
+μ-loop t n i₀ i = n - i
+
+-- src/lib.rt:83:5
+loop-holds : tie.Need-loop-holds Inv-loop μ-loop
+loop-holds c = (search needs, all-none _)
+
+-- src/lib.rt:84:31
+part-requires : tie.Need-part-requires Inv-loop μ-loop
+part-requires c κs = search needs
+
+-- src/lib.rt:84:13
+part-sound-requires : tie.Need-part-sound-requires Inv-loop μ-loop
+part-sound-requires c κs = search needs
+
+-- src/lib.rt:85:13
+returns : tie.Need-returns Inv-loop μ-loop
+returns c =
+    sym (all-fails _ (c .before .before .before .before .loop .i) _ (search needs) (sym (c .before .part-sound .ensures ∙ tested-is _ (c .before .before .part .ensures .1) ∙ ap partSound (c .before .before .part .ensures .0)) ∙ not-true _ (c .if1 .taken)))
+
+-- src/lib.rt:87:9
+add-i : tie.Need-add-i Inv-loop μ-loop
+add-i c = search needs
+
+-- src/lib.rt:83:5
+loop-less : tie.Need-loop-less Inv-loop μ-loop
+loop-less c = search needs
+
+-- src/lib.rt:83:5
+loop-again : tie.Need-loop-again Inv-loop μ-loop
+loop-again c =
+    (search needs, all-more _ _ (c .before .before .before .before .loop .inv .1) (sym (c .before .part-sound .ensures ∙ tested-is _ (c .before .before .part .ensures .1) ∙ ap partSound (c .before .before .part .ensures .0)) ∙ not-false _ (c .if1 .left)))
+
+-- src/lib.rt:78:1
+returns-2 : tie.Need-returns-2 Inv-loop μ-loop
+returns-2 c = all-done _ _ _ (c .before .loop .inv .1) (search needs)
+
+pub parts-sound-spec : {M : Type 1} → statement M
+parts-sound-spec =
+    tie.close
+    (tie.spec
+    Inv-loop
+    μ-loop
+    loop-holds
+    part-requires
+    part-sound-requires
+    returns
+    add-i
+    loop-less
+    loop-again
+    returns-2)

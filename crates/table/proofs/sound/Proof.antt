@@ -1,0 +1,37 @@
+use mathlib.Core.Path.{_∙_}
+use native.Mathlib.Omega.{arith}
+use borrow.Author.Needs.{needs}
+use Rattle.table.proofs.Laws.{short-unsound, many-unsound, body-sound}
+use Rattle.table.proofs.sound.Statement.{statement}
+use Rattle.table.proofs.sound.Tie as tie
+use Rattle.table.proofs.sound.Reads as reads
+use Rattle.table.proofs.sound.Lts as lts
+use Rattle.numbers.proofs.get.Reads as get-reads
+use Rattle.table.proofs.body_sound.Reads as body-sound-reads
+
+-- src/lib.rt:111:9
+returns : tie.Need-returns
+returns c = short-unsound (c .before .args .t .now) (c .if1 .taken)
+
+-- src/lib.rt:113:9
+get-requires : tie.Need-get-requires
+get-requires c κs = search needs
+
+-- src/lib.rt:115:9
+returns-2 : tie.Need-returns-2
+returns-2 c =
+    let s = c .before .before .before in
+    many-unsound (s .args .t .now) (c .before .before .if1 .left) (omega (arith, c .before .get .ensures .0))
+
+-- src/lib.rt:117:5
+body-sound-requires : tie.Need-body-sound-requires
+body-sound-requires c κs = search needs
+
+-- src/lib.rt:107:1
+returns-3 : tie.Need-returns-3
+returns-3 c =
+    let s = c .before .before .before .before in
+    c .body-sound .ensures ∙ body-sound (s .args .t .now) (c .before .before .before .if1 .left) (omega (arith, c .before .before .get .ensures .0))
+
+pub sound-spec : {M : Type 1} → statement M
+sound-spec = tie.close (tie.spec returns get-requires returns-2 body-sound-requires returns-3)
