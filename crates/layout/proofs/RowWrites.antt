@@ -109,7 +109,7 @@ module _ (room : ℕ) (q : Lists) (f : Few room q) where
       rest : List ℤ
       rest = offsBlock room q f ++ recsBlock room q f
 
--- ---- off spans
+  -- ---- off spans
 
   -- the part with these spans and any head
   abbrev partOff : List ℤ → List (ℕ × Option ℕ) → List ℤ
@@ -154,7 +154,7 @@ module _ (room : ℕ) (q : Lists) (f : Few room q) where
       row : (o : Option ℕ) → offNumbers (a ++ ((s, o) ∷ [])) ≡ (offNumbers a ++ (pos s ∷ [])) ++ (onNumber o ∷ [])
       row o = offs-append a ((s, o) ∷ []) ∙ sym (append-snoc (offNumbers a) (pos s) (onNumber o ∷ []))
 
--- ---- a pending request
+  -- ---- a pending request
 
   pub set-pending : (r : Pending) → setPending (pointNumbers room q) (r .user) (r .first) (r .last) ≡ pointNumbers room (withPendingLists (some r) q)
   unfolding pointNumbers headNumbers setPending withPendingLists
