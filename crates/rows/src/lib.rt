@@ -2,7 +2,7 @@
 // here is met by every caller: a part is long enough, and counts and numbers have been tested.
 ghost use mathlib.Core.Path.{_≡_};
 ghost use Prim.Native.Nat.{_+_, _*_, _<_, _≤_, _^_};
-ghost use lib.IntN.{negsuc};
+ghost use lib.IntN.{pos, negsuc};
 ghost use lib.ListN.{length, set};
 ghost use Rattle.numbers.specs.Naturals.{energyOf};
 ghost use Rattle.layout.specs.Writes.{cleared, putRecord, appendRecord, cutRecords, appendRegistration, openSpan, closeSpan, setPending, clearPending, openPoint};
@@ -24,6 +24,15 @@ pub fn put_no_day(p: &mut [i64], i: usize)
     p[i] = -1;
 }
 
+// Two numbers, at places i and i + 1.
+pub fn put_pair(p: &mut [i64], i: usize, x: u64, y: u64)
+    requires { ⌜ (i + 1 < length (now p)) × (x < 2 ^ 63) × (y < 2 ^ 63) ⌝ }
+    ensures { λ _. ⌜ now (p .exit) ≡ set (set (now (p .entry)) i (pos x)) (i + 1) (pos y) ⌝ }
+{
+    numbers::put(p, i, x);
+    numbers::put(p, i + 1, y);
+}
+
 // The n places from a on.
 pub fn clear(p: &mut [i64], a: usize, n: usize)
     requires { ⌜ a + n ≤ length (now p) ⌝ }
@@ -42,8 +51,7 @@ pub fn put_record(p: &mut [i64], j: usize, start: u64, end: u64, u: u64, quality
     ensures { λ _. ⌜ now (p .exit) ≡ putRecord (now (p .entry)) j (recordOf start end u quality) ⌝ }
 {
     let at = 48 + 4 * j;
-    numbers::put(p, at, start);
-    numbers::put(p, at + 1, end);
+    put_pair(p, at, start, end);
     put_energy(p, at + 2, u);
     numbers::put(p, at + 3, quality);
 }
@@ -71,9 +79,7 @@ pub fn append_registration(p: &mut [i64], n: usize, day: u64, user: u64)
     requires { ⌜ (n < 8) × (48 ≤ length (now p)) × (day < 2 ^ 63) × (user < 2 ^ 63) ⌝ }
     ensures { λ _. ⌜ now (p .exit) ≡ appendRegistration (now (p .entry)) n day user ⌝ }
 {
-    let at = 16 + 2 * n;
-    numbers::put(p, at, day);
-    numbers::put(p, at + 1, user);
+    put_pair(p, 16 + 2 * n, day, user);
     numbers::put(p, 4, n as u64 + 1);
 }
 
@@ -99,8 +105,7 @@ pub fn set_pending(p: &mut [i64], user: u64, first: u64, last: u64)
     requires { ⌜ (48 ≤ length (now p)) × (user < 2 ^ 63) × (first < 2 ^ 63) × (last < 2 ^ 63) ⌝ }
     ensures { λ _. ⌜ now (p .exit) ≡ setPending (now (p .entry)) user first last ⌝ }
 {
-    numbers::put(p, 7, user);
-    numbers::put(p, 8, first);
+    put_pair(p, 7, user, first);
     numbers::put(p, 9, last);
 }
 
@@ -116,9 +121,7 @@ pub fn open_point(p: &mut [i64], mirn: u64, kind: u64, install: u64, base: u64, 
     requires { ⌜ (48 ≤ length (now p)) × (mirn < 2 ^ 63) × (kind < 2 ^ 63) × (install < 2 ^ 63) × (base < 2 ^ 63) × (user < 2 ^ 63) ⌝ }
     ensures { λ _. ⌜ now (p .exit) ≡ openPoint (now (p .entry)) (record { mirn = mirn; kind = kind; install = install; base = base }) user ⌝ }
 {
-    numbers::put(p, 0, mirn);
-    numbers::put(p, 1, kind);
-    numbers::put(p, 2, install);
-    numbers::put(p, 3, base);
+    put_pair(p, 0, mirn, kind);
+    put_pair(p, 2, install, base);
     append_registration(p, 0, install, user);
 }

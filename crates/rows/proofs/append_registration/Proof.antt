@@ -3,26 +3,20 @@ use borrow.Author.Needs.{needs}
 use Rattle.rows.proofs.append_registration.Statement.{statement}
 use Rattle.rows.proofs.append_registration.Tie as tie
 
-mul-at : tie.Need-mul-at
-mul-at c = search needs
+mul-put-pair : tie.Need-mul-put-pair
+mul-put-pair c = search needs
 
-add-at : tie.Need-add-at
-add-at c = search needs
+add-put-pair : tie.Need-add-put-pair
+add-put-pair c = search needs
 
-put-requires : tie.Need-put-requires
-put-requires c κs = search needs
+put-pair-requires : tie.Need-put-pair-requires
+put-pair-requires c κs = search needs
 
 add-put : tie.Need-add-put
 add-put c = search needs
 
-put-requires-2 : tie.Need-put-requires-2
-put-requires-2 c κs = search needs
-
-add-put-2 : tie.Need-add-put-2
-add-put-2 c = search needs
-
-put-requires-3 : tie.Need-put-requires-3
-put-requires-3 c κs = search needs
+put-requires : tie.Need-put-requires
+put-requires c κs = search needs
 
 same-length : tie.Need-same-length
 same-length c = search needs
@@ -34,13 +28,4 @@ returns c = cc
 pub append-registration-spec : {M : Type 1} → statement M
 append-registration-spec =
     tie.close
-    (tie.spec
-    mul-at
-    add-at
-    put-requires
-    add-put
-    put-requires-2
-    add-put-2
-    put-requires-3
-    same-length
-    returns)
+    (tie.spec mul-put-pair add-put-pair put-pair-requires add-put put-requires same-length returns)

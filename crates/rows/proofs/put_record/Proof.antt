@@ -9,14 +9,8 @@ mul-at c = search needs
 add-at : tie.Need-add-at
 add-at c = search needs
 
-put-requires : tie.Need-put-requires
-put-requires c κs = search needs
-
-add-put : tie.Need-add-put
-add-put c = search needs
-
-put-requires-2 : tie.Need-put-requires-2
-put-requires-2 c κs = search needs
+put-pair-requires : tie.Need-put-pair-requires
+put-pair-requires c κs = search needs
 
 add-put-energy : tie.Need-add-put-energy
 add-put-energy c = search needs
@@ -24,11 +18,11 @@ add-put-energy c = search needs
 put-energy-requires : tie.Need-put-energy-requires
 put-energy-requires c κs = search needs
 
-add-put-2 : tie.Need-add-put-2
-add-put-2 c = search needs
+add-put : tie.Need-add-put
+add-put c = search needs
 
-put-requires-3 : tie.Need-put-requires-3
-put-requires-3 c κs = search needs
+put-requires : tie.Need-put-requires
+put-requires c κs = search needs
 
 same-length : tie.Need-same-length
 same-length c = search needs
@@ -43,12 +37,10 @@ put-record-spec =
     (tie.spec
     mul-at
     add-at
-    put-requires
-    add-put
-    put-requires-2
+    put-pair-requires
     add-put-energy
     put-energy-requires
-    add-put-2
-    put-requires-3
+    add-put
+    put-requires
     same-length
     returns)

@@ -3,14 +3,11 @@ use borrow.Author.Needs.{needs}
 use Rattle.rows.proofs.set_pending.Statement.{statement}
 use Rattle.rows.proofs.set_pending.Tie as tie
 
+put-pair-requires : tie.Need-put-pair-requires
+put-pair-requires c κs = search needs
+
 put-requires : tie.Need-put-requires
 put-requires c κs = search needs
-
-put-requires-2 : tie.Need-put-requires-2
-put-requires-2 c κs = search needs
-
-put-requires-3 : tie.Need-put-requires-3
-put-requires-3 c κs = search needs
 
 same-length : tie.Need-same-length
 same-length c = search needs
@@ -20,5 +17,4 @@ unfolding setPending
 returns c = cc
 
 pub set-pending-spec : {M : Type 1} → statement M
-set-pending-spec =
-    tie.close (tie.spec put-requires put-requires-2 put-requires-3 same-length returns)
+set-pending-spec = tie.close (tie.spec put-pair-requires put-requires same-length returns)
