@@ -8,6 +8,7 @@ use lib.ListN.{length, replicate, set, drop, getD, length-append, length-replica
 use lib.Seq.{sets, set-at, drop-cons, drop-append-seam, append-snoc}
 use lib.IntN.{ℤ, pos}
 use Rattle.layout.specs.Layout.{pad}
+use Rattle.layout.proofs.Numbers.{length-pad}
 use Rattle.layout.specs.Writes.{cleared}
 
 abbrev pub zerosOf : ℕ → List ℤ
@@ -59,10 +60,6 @@ length-cleared t a zero = refl
 length-cleared t a (suc n) = length-set (cleared t a n) (a + n) (pos 0) ∙ length-cleared t a n
 
 -- ---- a block of room for n numbers, between P and S
-
-pub length-pad : (n : ℕ) (l : List ℤ) → length l ≤ n → length (pad n l) ≡ n
-unfolding pad
-length-pad n l h = simp (length-append, length-replicate) (omega arith)
 
 module _ (P S : List ℤ) (room n : ℕ) where
   pub block-append :

@@ -14,7 +14,8 @@ use Rattle.daybook.proofs.Lists.{Lists, Register}
 use Rattle.layout.specs.Layout.{tableLength, stride, placeOf, Fits, partOf, withPart, pad, headNumbers, regNumbers, offNumbers, recNumbers, pointNumbers, pointsNumbers, layout}
 use Rattle.layout.specs.Writes.{appendRegistration, openPoint, appendPoint}
 use Rattle.layout.proofs.Blocks.{zerosOf}
-use Rattle.layout.proofs.PartBlocks.{Few, snoc-length}
+use Rattle.layout.proofs.Numbers.{Few}
+use Rattle.layout.proofs.PartBlocks.{snoc-length}
 use Rattle.layout.proofs.Parts.{part-ends}
 use Rattle.layout.proofs.PointParts.{AllFew, few-more, withPoints, upTo, up-to-length, layout-with, layout-same, cut, total, total-length}
 
@@ -24,7 +25,7 @@ freshPoint f u = record { facts = f; regs = (f .install, u) ∷ []; offs = []; r
 
 pub few-fresh : (room : ℕ) (f : Facts) (u : ℕ) → Few room (freshPoint f u)
 unfolding freshPoint
-few-fresh room f u = record { regsFew = omega arith; offsFew = omega arith; recsFew = omega arith }
+few-fresh room f u = record { regs = omega arith; offs = omega arith; recs = omega arith }
 
 -- its numbers, written over zeros
 pub open-point : (room : ℕ) (f : Facts) (u : ℕ) → openPoint (zerosOf (48 + 4 * room)) f u ≡ pointNumbers room (freshPoint f u)

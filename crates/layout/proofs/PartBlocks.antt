@@ -9,39 +9,31 @@ use lib.IntN.{ℤ, pos}
 use Rattle.daybook.specs.Book.{Entry, Pending}
 use Rattle.daybook.proofs.Lists.{Lists}
 use Rattle.daybook.proofs.Steps.{withOffs, withPendingLists}
-use Rattle.daybook.proofs.Well.{Well}
-use Rattle.layout.specs.Layout.{pad, regNumbers, onNumber, offNumbers, recNumbers, headNumbers, pointNumbers}
+use Rattle.layout.specs.Layout.{pad, regNumbers, onNumber, offNumbers, recNumbers}
 use Rattle.layout.specs.Sound.{withRecs}
-use Rattle.layout.proofs.Blocks.{length-pad}
+use Rattle.layout.proofs.Numbers.{length-pad, length-regNumbers, length-offNumbers, length-recNumbers, Few}
 
 unfoldable pub withRegs : List (ℕ × ℕ) → Lists → Lists
 withRegs l q = record { facts = q .facts; regs = l; offs = q .offs; recs = q .recs; pending = q .pending }
 
--- Lists that fit a part of `room` records.
-pub record Few (room : ℕ) (q : Lists) : Type 0 where
-  pub regsFew : length (q .regs) ≤ 8
-  pub offsFew : length (q .offs) ≤ 8
-  pub recsFew : length (q .recs) ≤ room
+-- ---- changed lists that still fit
 
 module _ {room : ℕ} {q : Lists} where
-  pub few-of : Well room q → Few room q
-  few-of w = record { regsFew = w .regsFew; offsFew = w .offsFew; recsFew = w .recsFew }
-
   pub few-recs : Few room q → (l : List Entry) → length l ≤ room → Few room (withRecs l q)
   unfolding withRecs
-  few-recs f l h = record { regsFew = f .regsFew; offsFew = f .offsFew; recsFew = h }
+  few-recs f l h = record { regs = f .regs; offs = f .offs; recs = h }
 
   pub few-regs : Few room q → (l : List (ℕ × ℕ)) → length l ≤ 8 → Few room (withRegs l q)
   unfolding withRegs
-  few-regs f l h = record { regsFew = h; offsFew = f .offsFew; recsFew = f .recsFew }
+  few-regs f l h = record { regs = h; offs = f .offs; recs = f .recs }
 
   pub few-offs : Few room q → (l : List (ℕ × Option ℕ)) → length l ≤ 8 → Few room (withOffs l q)
   unfolding withOffs
-  few-offs f l h = record { regsFew = f .regsFew; offsFew = h; recsFew = f .recsFew }
+  few-offs f l h = record { regs = f .regs; offs = h; recs = f .recs }
 
   pub few-pending : Few room q → (o : Option Pending) → Few room (withPendingLists o q)
   unfolding withPendingLists
-  few-pending f o = record { regsFew = f .regsFew; offsFew = f .offsFew; recsFew = f .recsFew }
+  few-pending f o = record { regs = f .regs; offs = f .offs; recs = f .recs }
 
 -- ---- rows as numbers
 
@@ -63,21 +55,6 @@ unfolding offNumbers
 offs-append [] b = refl
 offs-append (x ∷ a) b = ap (λ t. pos (x .0) ∷ onNumber (x .1) ∷ t) (offs-append a b)
 
-pub recs-length : (l : List Entry) → length (recNumbers l) ≡ 4 * length l
-unfolding recNumbers
-recs-length [] = refl
-recs-length (x ∷ l) = omega (arith, recs-length l)
-
-pub regs-length : (l : List (ℕ × ℕ)) → length (regNumbers l) ≡ 2 * length l
-unfolding regNumbers
-regs-length [] = refl
-regs-length (x ∷ l) = omega (arith, regs-length l)
-
-pub offs-length : (l : List (ℕ × Option ℕ)) → length (offNumbers l) ≡ 2 * length l
-unfolding offNumbers
-offs-length [] = refl
-offs-length (x ∷ l) = omega (arith, offs-length l)
-
 -- one more at the end
 pub snoc-length : {A : Type 0} (l : List A) (x : A) → length (l ++ (x ∷ [])) ≡ length l + 1
 snoc-length l x = length-append l (x ∷ [])
@@ -95,13 +72,13 @@ module _ (room : ℕ) (q : Lists) (f : Few room q) where
   recsBlock = pad (4 * room) (recNumbers (q .recs))
 
   pub regs-block : length regsBlock ≡ 16
-  regs-block = length-pad 16 _ (omega (arith, f .regsFew, regs-length (q .regs)))
+  regs-block = length-pad 16 _ (omega (arith, f .regs, length-regNumbers (q .regs)))
 
   pub offs-block : length offsBlock ≡ 16
-  offs-block = length-pad 16 _ (omega (arith, f .offsFew, offs-length (q .offs)))
+  offs-block = length-pad 16 _ (omega (arith, f .offs, length-offNumbers (q .offs)))
 
   pub recs-block : length recsBlock ≡ 4 * room
-  recs-block = length-pad (4 * room) _ (omega (arith, f .recsFew, recs-length (q .recs)))
+  recs-block = length-pad (4 * room) _ (omega (arith, f .recs, length-recNumbers (q .recs)))
 
   pub before-offs : (h : List ℤ) → length h ≡ 16 → length (h ++ regsBlock) ≡ 32
   before-offs h e = length-append h regsBlock ∙ omega (arith, regs-block)
@@ -112,10 +89,3 @@ module _ (room : ℕ) (q : Lists) (f : Few room q) where
 
   pub cut-recs : (h r : List ℤ) → h ++ (regsBlock ++ (offsBlock ++ r)) ≡ (h ++ (regsBlock ++ offsBlock)) ++ (r ++ [])
   cut-recs h r = sym (ap (λ t. (h ++ (regsBlock ++ offsBlock)) ++ t) (append-nil r) ∙ simp append-assoc)
-
-  pub point-length : length (pointNumbers room q) ≡ 48 + 4 * room
-  unfolding pointNumbers headNumbers
-  point-length =
-      ap length (cut-recs (headNumbers q) recsBlock)
-      ∙ length-append (headNumbers q ++ (regsBlock ++ offsBlock)) (recsBlock ++ [])
-      ∙ ap₂ _+_ (before-recs (headNumbers q) refl) (ap length (append-nil recsBlock) ∙ recs-block)

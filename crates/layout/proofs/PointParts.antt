@@ -12,8 +12,8 @@ use Rattle.daybook.specs.Book.{Edition}
 use Rattle.daybook.proofs.Lists.{Lists, Register}
 use Rattle.daybook.proofs.Well.{Points, nopoint, point}
 use Rattle.layout.specs.Layout.{tableLength, stride, placeOf, Fits, partOf, withPart, pad, pointNumbers, pointsNumbers, layout}
-use Rattle.layout.proofs.Blocks.{zerosOf, length-pad}
-use Rattle.layout.proofs.PartBlocks.{Few, few-of, point-length}
+use Rattle.layout.proofs.Numbers.{length-pad, Few, few as few-of, length-point}
+use Rattle.layout.proofs.Blocks.{zerosOf}
 
 -- ---- points that fit
 
@@ -54,7 +54,7 @@ unfolding pointsNumbers
 points-length {room} nofew = sym (mul-zero (48 + 4 * room))
 points-length {room} (few {q = q} {qs = l} f r) =
     length-append (pointNumbers room q) (pointsNumbers room l)
-    ∙ more (48 + 4 * room) (length (pointNumbers room q)) (length (pointsNumbers room l)) (length l) (point-length room q f) (points-length r) (mul-suc (48 + 4 * room) (length l))
+    ∙ more (48 + 4 * room) (length (pointNumbers room q)) (length (pointsNumbers room l)) (length l) (length-point f) (points-length r) (mul-suc (48 + 4 * room) (length l))
   where
     more : (s x y n : ℕ) → x ≡ s → y ≡ s * n → s * suc n ≡ s * n + s → x + y ≡ s * suc n
     more s x y n a b c = omega arith
@@ -134,7 +134,7 @@ module _ (ed : Edition) (R : Register) (rest : List ℤ) (a : List Lists) (q : L
   front-place = up-to-length ed R (length (a ++ q ∷ b)) (few-before a (q ∷ b) fits)
 
   here : length (pointNumbers (ed .records) q) ≡ stride ed
-  here = point-length (ed .records) q (few-here a q b fits)
+  here = length-point (few-here a q b fits)
 
   pub part-of-point : partOf ed table (length a) ≡ pointNumbers (ed .records) q
   unfolding partOf

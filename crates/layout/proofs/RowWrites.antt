@@ -15,8 +15,9 @@ use Rattle.daybook.proofs.Steps.{withOffs, withPendingLists}
 use Rattle.layout.specs.Layout.{pad, regNumbers, onNumber, offNumbers, recNumbers, headNumbers, pointNumbers}
 use Rattle.layout.specs.Sound.{withRecs}
 use Rattle.layout.specs.Writes.{cleared, putRecord, appendRecord, cutRecords, appendRegistration, openSpan, closeSpan, setPending, clearPending}
+use Rattle.layout.proofs.Numbers.{length-regNumbers, length-offNumbers, length-recNumbers, Few}
 use Rattle.layout.proofs.Blocks.{block-append, block-replace, block-cut}
-use Rattle.layout.proofs.PartBlocks.{withRegs, Few, recordRow, recs-append, regs-append, offs-append, recs-length, regs-length, offs-length, snoc-length, regsBlock, offsBlock, recsBlock, before-offs, before-recs, cut-recs}
+use Rattle.layout.proofs.PartBlocks.{withRegs, recordRow, recs-append, regs-append, offs-append, snoc-length, regsBlock, offsBlock, recsBlock, before-offs, before-recs, cut-recs}
 
 -- ---- the code counts places up, `sets` by successors
 
@@ -51,7 +52,7 @@ module _ (room : ℕ) (q : Lists) (f : Few room q) where
 
   place : (a : List Entry) → 48 + 4 * length a ≡ length front + length (recNumbers a)
   unfolding headNumbers
-  place a = omega (arith, before-recs room q f (headNumbers q) refl, recs-length a)
+  place a = omega (arith, before-recs room q f (headNumbers q) refl, length-recNumbers a)
 
   part-with : (l : List Entry) → set (partWith (headNumbers q) l) 6 (pos (length l)) ≡ pointNumbers room (withRecs l q)
   unfolding pointNumbers headNumbers withRecs
@@ -75,7 +76,7 @@ module _ (room : ℕ) (q : Lists) (f : Few room q) where
       ap₂ (λ t n. set t 6 (pos n))
       (put-sets (pointNumbers room q) (length (q .recs)) x
       ∙ ap (λ t. sets t (48 + 4 * length (q .recs)) (recordRow x)) (cut (q .recs))
-      ∙ block-append front [] (4 * room) (48 + 4 * length (q .recs)) (recNumbers (q .recs)) (recordRow x) (omega (arith, recs-length (q .recs))) (place (q .recs))
+      ∙ block-append front [] (4 * room) (48 + 4 * length (q .recs)) (recNumbers (q .recs)) (recordRow x) (omega (arith, length-recNumbers (q .recs))) (place (q .recs))
       ∙ sym (cut (q .recs ++ (x ∷ [])) ∙ ap (λ t. front ++ (pad (4 * room) t ++ [])) (recs-append (q .recs) (x ∷ []))))
       (sym (snoc-length (q .recs) x))
       ∙ part-with (q .recs ++ (x ∷ []))
@@ -86,7 +87,7 @@ module _ (room : ℕ) (q : Lists) (f : Few room q) where
   cut-records a b e =
       ap (λ t. set t 6 (pos (length a)))
       (ap (λ t. cleared t (48 + 4 * length a) (4 * (length (q .recs) - length a))) (ap (partWith (headNumbers q)) e ∙ cut (a ++ b) ∙ ap (λ t. front ++ (pad (4 * room) t ++ [])) (recs-append a b))
-      ∙ block-cut front [] (4 * room) (48 + 4 * length a) (recNumbers a) (recNumbers b) (4 * (length (q .recs) - length a)) (omega (arith, recs-length a, recs-length b, f .recsFew, count)) (place a) (omega (arith, recs-length b, count))
+      ∙ block-cut front [] (4 * room) (48 + 4 * length a) (recNumbers a) (recNumbers b) (4 * (length (q .recs) - length a)) (omega (arith, length-recNumbers a, length-recNumbers b, f .recs, count)) (place a) (omega (arith, length-recNumbers b, count))
       ∙ sym (cut a))
       ∙ part-with a
     where
@@ -102,14 +103,14 @@ module _ (room : ℕ) (q : Lists) (f : Few room q) where
   append-registration d u h =
       registration-sets (pointNumbers room q) (length (q .regs)) d u
       ∙ ap₂ (λ t n. set t 4 (pos n))
-      (block-append (headNumbers q) rest 16 (16 + 2 * length (q .regs)) (regNumbers (q .regs)) (pos d ∷ pos u ∷ []) (omega (arith, regs-length (q .regs))) (omega (arith, regs-length (q .regs)))
+      (block-append (headNumbers q) rest 16 (16 + 2 * length (q .regs)) (regNumbers (q .regs)) (pos d ∷ pos u ∷ []) (omega (arith, length-regNumbers (q .regs))) (omega (arith, length-regNumbers (q .regs)))
       ∙ ap (λ t. headNumbers q ++ (pad 16 t ++ rest)) (sym (regs-append (q .regs) ((d, u) ∷ []))))
       (sym (snoc-length (q .regs) (d, u)))
     where
       rest : List ℤ
       rest = offsBlock room q f ++ recsBlock room q f
 
--- ---- off spans
+  -- ---- off spans
 
   -- the part with these spans and any head
   abbrev partOff : List ℤ → List (ℕ × Option ℕ) → List ℤ
@@ -123,7 +124,7 @@ module _ (room : ℕ) (q : Lists) (f : Few room q) where
 
   placeOff : (a : List (ℕ × Option ℕ)) → 32 + 2 * length a ≡ length frontOff + length (offNumbers a)
   unfolding headNumbers
-  placeOff a = omega (arith, before-offs room q f (headNumbers q) refl, offs-length a)
+  placeOff a = omega (arith, before-offs room q f (headNumbers q) refl, length-offNumbers a)
 
   part-off : (l : List (ℕ × Option ℕ)) → set (partOff (headNumbers q) l) 5 (pos (length l)) ≡ pointNumbers room (withOffs l q)
   unfolding pointNumbers headNumbers withOffs
@@ -136,7 +137,7 @@ module _ (room : ℕ) (q : Lists) (f : Few room q) where
       span-sets (pointNumbers room q) (length (q .offs)) d
       ∙ ap₂ (λ t n. set t 5 (pos n))
       (ap (λ t. sets t (32 + 2 * length (q .offs)) (pos d ∷ negsuc 0 ∷ [])) (cutOff (q .offs))
-      ∙ block-append frontOff (recsBlock room q f) 16 (32 + 2 * length (q .offs)) (offNumbers (q .offs)) (pos d ∷ negsuc 0 ∷ []) (omega (arith, offs-length (q .offs))) (placeOff (q .offs))
+      ∙ block-append frontOff (recsBlock room q f) 16 (32 + 2 * length (q .offs)) (offNumbers (q .offs)) (pos d ∷ negsuc 0 ∷ []) (omega (arith, length-offNumbers (q .offs))) (placeOff (q .offs))
       ∙ sym (cutOff (q .offs ++ ((d, none) ∷ [])) ∙ ap (λ t. frontOff ++ (pad 16 t ++ recsBlock room q f)) (offs-append (q .offs) ((d, none) ∷ []))))
       (sym (snoc-length (q .offs) (d, none)))
       ∙ part-off (q .offs ++ ((d, none) ∷ []))
@@ -154,7 +155,7 @@ module _ (room : ℕ) (q : Lists) (f : Few room q) where
       row : (o : Option ℕ) → offNumbers (a ++ ((s, o) ∷ [])) ≡ (offNumbers a ++ (pos s ∷ [])) ++ (onNumber o ∷ [])
       row o = offs-append a ((s, o) ∷ []) ∙ sym (append-snoc (offNumbers a) (pos s) (onNumber o ∷ []))
 
--- ---- a pending request
+  -- ---- a pending request
 
   pub set-pending : (r : Pending) → setPending (pointNumbers room q) (r .user) (r .first) (r .last) ≡ pointNumbers room (withPendingLists (some r) q)
   unfolding pointNumbers headNumbers setPending withPendingLists

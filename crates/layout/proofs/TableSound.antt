@@ -66,11 +66,12 @@ module _ (ed : Edition) (t : List ℤ) where
       let d : drop (stride ed) (drop (placeOf ed i) t) ≡ drop (placeOf ed (suc i)) t = drop-drop (stride ed) (placeOf ed i) t ∙ ap (λ n. drop n t) (next i) in
       let long : length (take (stride ed) (drop (placeOf ed i) t)) ≡ 48 + 4 * ed .records = simp (length-take, length-drop) (omega (arith, next i)) in
       let here = part-lays (take (stride ed) (drop (placeOf ed i) t)) (ed .records) long (f i (omega arith) (omega arith)) in
-      let r = points-lay k (suc i) (rw e at h) (λ j a b. f j (omega arith) (omega arith)) in
-      (alsowell (here .0) (subst (λ u. AllWell (ed .records) (pointsFrom ed k u)) (sym d) (r .0)),
-      ap₂ _++_ (here .1) (ap (λ u. pointsNumbers (ed .records) (pointsFrom ed k u)) d ∙ r .1 ∙ ap (take (stride ed * k)) (sym d))
-      ∙ sym (take-add (stride ed) (stride ed * k) (drop (placeOf ed i) t))
-      ∙ ap (λ n. take n (drop (placeOf ed i) t)) (sym m))
+      let r = points-lay k (suc i) (rw e at h) (λ j a b. f j (omega arith) (omega arith)) in (
+        alsowell (here .0) (subst (λ u. AllWell (ed .records) (pointsFrom ed k u)) (sym d) (r .0)),
+        ap₂ _++_ (here .1) (ap (λ u. pointsNumbers (ed .records) (pointsFrom ed k u)) d ∙ r .1 ∙ ap (take (stride ed * k)) (sym d))
+            ∙ sym (take-add (stride ed) (stride ed * k) (drop (placeOf ed i) t))
+            ∙ ap (λ n. take n (drop (placeOf ed i) t)) (sym m),
+      )
 
 -- What a sound table's tests say, one by one.
 record Tested (ed : Edition) (t : List ℤ) : Type 0 where

@@ -16,6 +16,7 @@ ghost use Rattle.table.specs.Lookup.{bodySound, indexOf, lookUp};
 
 // The numbers of a register, and its points.
 pub const TABLE: usize = 7688;
+
 pub const POINTS: usize = 32;
 
 // Where point i starts.

@@ -1,0 +1,2 @@
+-- The numbers that the row writers take, as a record.
+pub mod Rows

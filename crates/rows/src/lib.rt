@@ -1,0 +1,127 @@
+// Row writers: each writes one row of a point's part p, with the count that it changes, and nothing else. A `requires`
+// here is met by every caller: a part is long enough, and counts and numbers have been tested.
+ghost use mathlib.Core.Path.{_≡_};
+ghost use Prim.Native.Nat.{_+_, _*_, _<_, _≤_, _^_};
+ghost use lib.IntN.{pos, negsuc};
+ghost use lib.ListN.{length, set};
+ghost use Rattle.numbers.specs.Naturals.{energyOf};
+ghost use Rattle.layout.specs.Writes.{cleared, putRecord, appendRecord, cutRecords, appendRegistration, openSpan, closeSpan, setPending, clearPending, openPoint};
+ghost use Rattle.rows.specs.Rows.{recordOf};
+
+// An energy, raised by 1,000,000.
+pub fn put_energy(p: &mut [i64], i: usize, u: u64)
+    requires { ⌜ (i < length (now p)) × (u < 2 ^ 63) ⌝ }
+    ensures { λ _. ⌜ now (p .exit) ≡ set (now (p .entry)) i (energyOf u) ⌝ }
+{
+    p[i] = numbers::unbias(u);
+}
+
+// -1, where a span has no on day yet.
+pub fn put_no_day(p: &mut [i64], i: usize)
+    requires { ⌜ i < length (now p) ⌝ }
+    ensures { λ _. ⌜ now (p .exit) ≡ set (now (p .entry)) i (negsuc 0) ⌝ }
+{
+    p[i] = -1;
+}
+
+// Two numbers, at places i and i + 1.
+pub fn put_pair(p: &mut [i64], i: usize, x: u64, y: u64)
+    requires { ⌜ (i + 1 < length (now p)) × (x < 2 ^ 63) × (y < 2 ^ 63) ⌝ }
+    ensures { λ _. ⌜ now (p .exit) ≡ set (set (now (p .entry)) i (pos x)) (i + 1) (pos y) ⌝ }
+{
+    numbers::put(p, i, x);
+    numbers::put(p, i + 1, y);
+}
+
+// The n places from a on.
+pub fn clear(p: &mut [i64], a: usize, n: usize)
+    requires { ⌜ a + n ≤ length (now p) ⌝ }
+    ensures { λ _. ⌜ now (p .exit) ≡ cleared (now (p .entry)) a n ⌝ }
+{
+    let mut k: usize = 0;
+    while k < n {
+        numbers::put(p, a + k, 0);
+        k += 1;
+    }
+}
+
+// Record j: its days, its energy raised by 1,000,000, its quality.
+pub fn put_record(p: &mut [i64], j: usize, start: u64, end: u64, u: u64, quality: u64)
+    requires { ⌜ (52 + 4 * j ≤ length (now p)) × (start < 2 ^ 63) × (end < 2 ^ 63) × (u < 2 ^ 63) × (quality < 2 ^ 63) ⌝ }
+    ensures { λ _. ⌜ now (p .exit) ≡ putRecord (now (p .entry)) j (recordOf start end u quality) ⌝ }
+{
+    let at = 48 + 4 * j;
+    put_pair(p, at, start, end);
+    put_energy(p, at + 2, u);
+    numbers::put(p, at + 3, quality);
+}
+
+// One more record, after n.
+pub fn append_record(p: &mut [i64], n: usize, start: u64, end: u64, u: u64, quality: u64)
+    requires { ⌜ (52 + 4 * n ≤ length (now p)) × (start < 2 ^ 63) × (end < 2 ^ 63) × (u < 2 ^ 63) × (quality < 2 ^ 63) ⌝ }
+    ensures { λ _. ⌜ now (p .exit) ≡ appendRecord (now (p .entry)) n (recordOf start end u quality) ⌝ }
+{
+    put_record(p, n, start, end, u, quality);
+    numbers::put(p, 6, n as u64 + 1);
+}
+
+// Of n records the first j are left.
+pub fn cut_records(p: &mut [i64], j: usize, n: usize)
+    requires { ⌜ (j ≤ n) × (48 + 4 * n ≤ length (now p)) ⌝ }
+    ensures { λ _. ⌜ now (p .exit) ≡ cutRecords (now (p .entry)) j n ⌝ }
+{
+    clear(p, 48 + 4 * j, 4 * (n - j));
+    numbers::put(p, 6, j as u64);
+}
+
+// One more registration, after n.
+pub fn append_registration(p: &mut [i64], n: usize, day: u64, user: u64)
+    requires { ⌜ (n < 8) × (48 ≤ length (now p)) × (day < 2 ^ 63) × (user < 2 ^ 63) ⌝ }
+    ensures { λ _. ⌜ now (p .exit) ≡ appendRegistration (now (p .entry)) n day user ⌝ }
+{
+    put_pair(p, 16 + 2 * n, day, user);
+    numbers::put(p, 4, n as u64 + 1);
+}
+
+// One more off span, after n; its on day is -1 until it has one.
+pub fn open_span(p: &mut [i64], n: usize, off: u64)
+    requires { ⌜ (n < 8) × (48 ≤ length (now p)) × (off < 2 ^ 63) ⌝ }
+    ensures { λ _. ⌜ now (p .exit) ≡ openSpan (now (p .entry)) n off ⌝ }
+{
+    let at = 32 + 2 * n;
+    numbers::put(p, at, off);
+    put_no_day(p, at + 1);
+    numbers::put(p, 5, n as u64 + 1);
+}
+
+pub fn close_span(p: &mut [i64], k: usize, on: u64)
+    requires { ⌜ (k < 8) × (48 ≤ length (now p)) × (on < 2 ^ 63) ⌝ }
+    ensures { λ _. ⌜ now (p .exit) ≡ closeSpan (now (p .entry)) k on ⌝ }
+{
+    numbers::put(p, 32 + 2 * k + 1, on);
+}
+
+pub fn set_pending(p: &mut [i64], user: u64, first: u64, last: u64)
+    requires { ⌜ (48 ≤ length (now p)) × (user < 2 ^ 63) × (first < 2 ^ 63) × (last < 2 ^ 63) ⌝ }
+    ensures { λ _. ⌜ now (p .exit) ≡ setPending (now (p .entry)) user first last ⌝ }
+{
+    put_pair(p, 7, user, first);
+    numbers::put(p, 9, last);
+}
+
+pub fn clear_pending(p: &mut [i64])
+    requires { ⌜ 48 ≤ length (now p) ⌝ }
+    ensures { λ _. ⌜ now (p .exit) ≡ clearPending (now (p .entry)) ⌝ }
+{
+    set_pending(p, 0, 0, 0);
+}
+
+// A point's facts and its first registration, in a part that holds zeros.
+pub fn open_point(p: &mut [i64], mirn: u64, kind: u64, install: u64, base: u64, user: u64)
+    requires { ⌜ (48 ≤ length (now p)) × (mirn < 2 ^ 63) × (kind < 2 ^ 63) × (install < 2 ^ 63) × (base < 2 ^ 63) × (user < 2 ^ 63) ⌝ }
+    ensures { λ _. ⌜ now (p .exit) ≡ openPoint (now (p .entry)) (record { mirn = mirn; kind = kind; install = install; base = base }) user ⌝ }
+{
+    put_pair(p, 0, mirn, kind);
+    put_pair(p, 2, install, base);
+    append_registration(p, 0, install, user);
+}
