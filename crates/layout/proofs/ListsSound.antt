@@ -12,7 +12,7 @@ use lib.ListN.{length}
 use borrow.Author.Tests.{leb-true, eqb-true, not-true, le-leb, eq-eqb}
 use Rattle.numbers.specs.Search.{maybe, isSome}
 use Rattle.numbers.proofs.Search.{first-none}
-use Rattle.numbers.proofs.Bools.{both}
+use Rattle.numbers.proofs.Bools.{both, join}
 use Rattle.calendar.specs.Calendar.{within}
 use Rattle.daybook.specs.Book.{Entry, Pending, appendDay}
 use Rattle.daybook.specs.Notices.{fitsKind, offWithin}
@@ -24,7 +24,7 @@ use Rattle.daybook.proofs.Records.{dayAfter, day-after-nil, day-after-cons, day
 use Rattle.daybook.proofs.RecordSteps.{recs-append}
 use Rattle.daybook.proofs.Spans.{append-day-is, no-off}
 use Rattle.layout.specs.Sound.{each, withRecs, byAppendRule, recsSound, listsSound}
-use Rattle.layout.proofs.RowsSound.{join, facts-sound, facts-ok, regs-sound, regs-ok, spans-sound, spans-ok, pending-sound, pending-ok}
+use Rattle.layout.proofs.RowsSound.{facts-sound, facts-ok, regs-sound, regs-ok, spans-sound, spans-ok, pending-sound, pending-ok}
 
 -- ---- small steps
 

@@ -12,6 +12,7 @@ use borrow.Author.Tests.{eqb-true, le-leb, eq-eqb}
 use Rattle.numbers.specs.Naturals.{natOf}
 use Rattle.numbers.specs.Rows.{all}
 use Rattle.numbers.proofs.Rows.{all-at, all-of}
+use Rattle.numbers.proofs.Bools.{join}
 use Rattle.daybook.specs.Book.{Pending}
 use Rattle.daybook.proofs.Lists.{Lists}
 use Rattle.daybook.proofs.Well.{StartsOn, starts, PendingOk, nopending, pending, Well}
@@ -20,7 +21,6 @@ use Rattle.layout.specs.Sound.{listsSound, zeros, countsSound, unusedZer
 use Rattle.layout.proofs.Numbers.{length-regNumbers, length-offNumbers, length-recNumbers, few, length-point, in-regs, in-offs, in-recs}
 use Rattle.layout.proofs.Cells.{cell-regs, cell-offs, cell-recs, cell-user, cell-first, cell-last}
 use Rattle.layout.proofs.Parse.{point-alone}
-use Rattle.layout.proofs.RowsSound.{join}
 use Rattle.layout.proofs.ListsSound.{well-lists-sound}
 
 -- ---- places that are 0

@@ -10,16 +10,12 @@ use lib.Dec.{leb, ltb, eqb}
 use lib.ListN.{length}
 use borrow.Author.Tests.{leb-true, ltb-true, eqb-true, not-true, le-leb, lt-ltb, eq-eqb, ne-eqb}
 use Rattle.numbers.specs.Search.{maybe}
-use Rattle.numbers.proofs.Bools.{both}
+use Rattle.numbers.proofs.Bools.{both, join}
 use Rattle.daybook.specs.Book.{Pending, Facts, lastOf}
 use Rattle.daybook.proofs.Lists.{Lists}
 use Rattle.daybook.proofs.Steps.{latestOf}
 use Rattle.daybook.proofs.Well.{Regs, noreg, reg, StartsOn, starts, Spans, nospan, still, ended, PendingOk, nopending, pending, FactsOk}
 use Rattle.layout.specs.Sound.{each, neighbours, factsSound, startsOn, regsSound, offsSound, pendingSound}
-
--- two tests that pass
-pub join : {a b : Bool} → a ≡ true → b ≡ true → (a && b) ≡ true
-join e k = rw (e, k) refl
 
 -- ---- facts
 

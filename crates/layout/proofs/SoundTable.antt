@@ -11,6 +11,7 @@ use lib.IntN.{ℤ, pos}
 use borrow.Author.Tests.{le-leb}
 use Rattle.numbers.specs.Rows.{all}
 use Rattle.numbers.proofs.Rows.{all-of}
+use Rattle.numbers.proofs.Bools.{join}
 use Rattle.daybook.specs.Book.{Edition}
 use Rattle.daybook.proofs.Lists.{Lists, Register}
 use Rattle.daybook.proofs.Steps.{findLists}
@@ -18,7 +19,6 @@ use Rattle.daybook.proofs.Well.{Well, Points, nopoint, point, WellFormed}
 use Rattle.layout.specs.Layout.{tableLength, placeOf, Fits, partOf, pad, pointsNumbers, layout, numAt, pointsFrom, registerOf}
 use Rattle.layout.specs.Sound.{each, zeros, partSound, mirnsDiffer, sound}
 use Rattle.layout.proofs.Numbers.{pad-at}
-use Rattle.layout.proofs.RowsSound.{join}
 use Rattle.layout.proofs.PartSound.{zeros-of, lays-part}
 use Rattle.layout.proofs.PointParts.{all-few-of, upTo, up-to-length, layout-length, part-of-point}
 use Rattle.layout.proofs.Tables.{register-back}

@@ -7,3 +7,4 @@ pub mod Spans
 pub mod OffDays
 pub mod Records
 pub mod Pending
+pub mod Decides

@@ -13,13 +13,13 @@ use lib.Dec.{leb, ltb}
 use lib.IntN.{ℤ}
 use Rattle.numbers.specs.Search.{maybe}
 use Rattle.numbers.specs.Rows.{all}
-use Rattle.numbers.proofs.Bools.{neither}
+use Rattle.numbers.proofs.Bools.{neither, join}
 use Rattle.numbers.proofs.Rows.{all-at, all-of}
 use Rattle.daybook.proofs.Lists.{inSpan, offOn}
 use Rattle.daybook.proofs.Steps.{skip}
 use Rattle.layout.specs.Layout.{numAt, onOf}
 use Rattle.point.specs.Tests.{untilOf, offDay, onDay, spansOk, past, passed, firstOn, apartAt, noOff}
-use Rattle.point.proofs.Rows.{also, rowsAt, spanRow}
+use Rattle.point.proofs.Rows.{rowsAt, spanRow}
 use Rattle.point.proofs.Spans.{On, opened, closed, wrong, view, onNumberAt, Passing, First, first}
 
 module _ (p : List ℤ) where
@@ -158,10 +158,10 @@ module _ (p : List ℤ) where
 
           hit : (q : Bool) → ltb a (offDay p k) ≡ q → ⊥
           hit true v =
-              let i : (leb (offDay p k) (offDay p k) && ltb (offDay p k) (onDay p k)) ≡ true = also (le-leb (offDay p k) (offDay p k) (omega arith)) (lt-ltb _ _ (r .after)) in
+              let i : (leb (offDay p k) (offDay p k) && ltb (offDay p k) (onDay p k)) ≡ true = join (le-leb (offDay p k) (offDay p k) (omega arith)) (lt-ltb _ _ (r .after)) in
               true≢false (sym i ∙ notIn (offDay p k) (omega (arith, ltb-true a (offDay p k) v)) u)
           hit false v =
-              let i : (leb (offDay p k) a && ltb a (onDay p k)) ≡ true = also (le-leb _ _ (ltb-false a (offDay p k) v)) (lt-ltb _ _ before-on) in
+              let i : (leb (offDay p k) a && ltb a (onDay p k)) ≡ true = join (le-leb _ _ (ltb-false a (offDay p k) v)) (lt-ltb _ _ before-on) in
               true≢false (sym i ∙ notIn a (omega arith) l)
 
       here : (t : Bool) → ltb b (offDay p k) ≡ t → (t || leb (onDay p k) a) ≡ true

@@ -11,7 +11,7 @@ use lib.Dec.{eqb, leb}
 use lib.ListN.{length}
 use lib.IntN.{ℤ}
 use Rattle.numbers.specs.Rows.{all}
-use Rattle.numbers.proofs.Bools.{both}
+use Rattle.numbers.proofs.Bools.{both, join}
 use Rattle.numbers.proofs.Rows.{all-at}
 use Rattle.daybook.specs.Book.{Pending}
 use Rattle.daybook.proofs.Steps.{latestOf}
@@ -19,7 +19,7 @@ use Rattle.daybook.proofs.Well.{PendingOk, nopending, pending}
 use Rattle.layout.specs.Layout.{numAt, asked, pendingFrom}
 use Rattle.layout.specs.Sound.{zeros}
 use Rattle.point.specs.Tests.{pendingOk}
-use Rattle.point.proofs.Rows.{also, rowsAt, length-rows, regRow}
+use Rattle.point.proofs.Rows.{rowsAt, length-rows, regRow}
 use Rattle.point.proofs.Registrations.{latest-user}
 
 module _ (p : List ℤ) (n : ℕ) (some-regs : 1 ≤ n) where
@@ -54,7 +54,7 @@ module _ (p : List ℤ) (n : ℕ) (some-regs : 1 ≤ n) where
   pending-pass nopending s = rw (eq-eqb (numAt p 7) 0 (s .user))
   pending-pass (pending {q} a b d e f g) s =
       rw (ne-eqb (numAt p 7) 0 (λ (z : numAt p 7 ≡ 0). omega (arith, s .user)))
-      (also (also (also (also (le-leb (numAt p 7) 16 (omega (arith, s .user))) (ap not (ap₂ eqb (sym (latest-user p n some-regs)) (s .user) ∙ d)))
+      (join (join (join (join (le-leb (numAt p 7) 16 (omega (arith, s .user))) (ap not (ap₂ eqb (sym (latest-user p n some-regs)) (s .user) ∙ d)))
       (le-leb (numAt p 8) (numAt p 9) (omega (arith, s .first, s .last)))) (le-leb (numAt p 9) 39999 (omega (arith, s .last))))
       (le-leb n 7 (omega (arith, length-rows (regRow p) 0 n))))
 
@@ -62,5 +62,5 @@ module _ (p : List ℤ) (n : ℕ) (some-regs : 1 ≤ n) where
   pub pending-zero : {o : Option Pending} → PendingOk regs o → Places o → cond (eqb (numAt p 7) 0) (zeros p 7 10) true ≡ true
   unfolding zeros all
   pending-zero nopending s =
-      rw (eq-eqb (numAt p 7) 0 (s .user)) (also (eq-eqb (numAt p 9) 0 (s .last)) (also (eq-eqb (numAt p 8) 0 (s .first)) refl))
+      rw (eq-eqb (numAt p 7) 0 (s .user)) (join (eq-eqb (numAt p 9) 0 (s .last)) (join (eq-eqb (numAt p 8) 0 (s .first)) refl))
   pending-zero (pending {q} a b d e f g) s = rw (ne-eqb (numAt p 7) 0 (λ (z : numAt p 7 ≡ 0). omega (arith, s .user)))

@@ -8,13 +8,13 @@ use borrow.Author.Tests.{leb-true, leb-false, ltb-true, ltb-false, le-leb, lt-le
 use lib.Dec.{leb, ltb}
 use lib.IntN.{ℤ, pos, negsuc}
 use Rattle.numbers.specs.Naturals.{biasOf}
-use Rattle.numbers.proofs.Bools.{both}
+use Rattle.numbers.proofs.Bools.{both, join}
 use Rattle.calendar.specs.Calendar.{within}
 use Rattle.daybook.proofs.Apart.{fits-le}
 use Rattle.daybook.proofs.Well.{Recs, norec, rec}
 use Rattle.layout.specs.Layout.{numAt}
 use Rattle.point.specs.Tests.{rows, spansOk, firstOn, noOff, recStart, recEnd, recEnergy, recType, recAt, recLeaves, recsOk}
-use Rattle.point.proofs.Rows.{also, rowsAt, spanRow, recRow}
+use Rattle.point.proofs.Rows.{rowsAt, spanRow, recRow}
 use Rattle.point.proofs.OffDays.{skip-is-first, first-is-skip, no-off-days, days-no-off}
 
 -- a raised energy within its bounds
@@ -59,8 +59,8 @@ module _ (p : List ℤ) (m : ℕ) (spans : spansOk p m ≡ true) where
   recs-pass zero k from r l = refl
   recs-pass (suc n) k from (rec a b d e f g r) l =
       let order : recStart p k ≤ recEnd p k = fits-le (numAt p 1) (recStart p k) (recEnd p k) b in
-      also
-      (also (also (also (also (also (le-leb _ _ d) (energy-same (recRow p k .energy) ∙ e)) (le-leb _ _ f)) b)
+      join
+      (join (join (join (join (join (le-leb _ _ d) (energy-same (recRow p k .energy) ∙ e)) (le-leb _ _ f)) b)
       (eq-eqb _ _ (first-is-skip p m from (recStart p k) spans l a)))
       (days-no-off p m (recStart p k) (recEnd p k) spans order d g))
       (recs-pass n (suc k) (suc (recEnd p k)) r (omega arith))

@@ -9,13 +9,13 @@ use borrow.Author.Tests.{leb-true, eqb-true, eq-eqb, le-leb, not-true}
 use lib.Dec.{eqb}
 use lib.IntN.{ℤ}
 use Rattle.numbers.specs.Search.{maybe}
-use Rattle.numbers.proofs.Bools.{both}
+use Rattle.numbers.proofs.Bools.{both, join}
 use Rattle.daybook.specs.Book.{lastOf}
 use Rattle.daybook.proofs.Steps.{latestOf}
 use Rattle.daybook.proofs.Well.{Regs, noreg, reg, StartsOn, starts}
 use Rattle.layout.specs.Layout.{numAt}
 use Rattle.point.specs.Tests.{rows, regStart, regUser, regAt, regLeaves, regsOk}
-use Rattle.point.proofs.Rows.{also, rowsAt, regRow}
+use Rattle.point.proofs.Rows.{rowsAt, regRow}
 
 module _ (p : List ℤ) where
   regs-well : (n k u lo : ℕ) → rows (regAt p) (regLeaves p) (u, lo) k n ≡ true → Regs u lo (rowsAt (regRow p) k n)
@@ -34,7 +34,7 @@ module _ (p : List ℤ) where
   unfolding rows rowsAt
   regs-pass zero k u lo r = refl
   regs-pass (suc n) k u lo (reg a b d e f r) =
-      also (also (also (also (also (le-leb _ _ a) (le-leb _ _ b)) (le-leb _ _ d)) (le-leb _ _ e)) (ap not f))
+      join (join (join (join (join (le-leb _ _ a) (le-leb _ _ b)) (le-leb _ _ d)) (le-leb _ _ e)) (ap not f))
       (regs-pass n (suc k) (regUser p k) (suc (regStart p k)) r)
 
   starts-on : (n install : ℕ) → 1 ≤ n → regStart p 0 ≡ install → StartsOn install (rowsAt (regRow p) 0 n)
@@ -56,7 +56,7 @@ module _ (p : List ℤ) where
   pub registrations-pass : (n : ℕ) → Regs 0 (numAt p 2) (rowsAt (regRow p) 0 n) → StartsOn (numAt p 2) (rowsAt (regRow p) 0 n)
       → regsOk p n ≡ true
   unfolding regsOk
-  registrations-pass n r s = also (eq-eqb _ _ (starts-at n (numAt p 2) s .1)) (regs-pass n 0 0 (numAt p 2) r)
+  registrations-pass n r s = join (eq-eqb _ _ (starts-at n (numAt p 2) s .1)) (regs-pass n 0 0 (numAt p 2) r)
 
   -- the latest User stands at the last row
   last-row : (n k j : ℕ) → suc j ≡ k + suc n → lastOf (rowsAt (regRow p) k (suc n)) ≡ some (regRow p j)

@@ -13,10 +13,6 @@ use Rattle.daybook.specs.Book.{Entry}
 use Rattle.layout.specs.Layout.{onOf, regsFrom, offsFrom, recsFrom}
 use Rattle.point.specs.Tests.{regStart, regUser, offDay, recStart, recEnd, recType}
 
--- two tests that pass
-pub also : {a b : Bool} → a ≡ true → b ≡ true → (a && b) ≡ true
-also e f = ap₂ _&&_ e f
-
 -- f k, f (k + 1), .., n of them
 unfoldable pub rowsAt : {A : Type 0} → (ℕ → A) → ℕ → ℕ → List A
 rowsAt f k zero = []

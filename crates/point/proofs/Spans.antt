@@ -13,14 +13,14 @@ use lib.ListN.{getD}
 use lib.IntN.{ℤ, pos, negsuc}
 use Rattle.numbers.specs.Search.{maybe}
 use Rattle.numbers.specs.Rows.{all}
-use Rattle.numbers.proofs.Bools.{both, neither}
+use Rattle.numbers.proofs.Bools.{both, neither, join}
 use Rattle.numbers.proofs.Rows.{all-at, all-of}
 use Rattle.daybook.proofs.Lists.{inSpan, offOn}
 use Rattle.daybook.proofs.Steps.{skip}
 use Rattle.daybook.proofs.Well.{Spans, nospan, still, ended}
 use Rattle.layout.specs.Layout.{numAt, onOf}
 use Rattle.point.specs.Tests.{rows, untilOf, offDay, onDay, spanAt, spanLeaves, spansOk, past, passed, firstOn, apartAt, noOff}
-use Rattle.point.proofs.Rows.{also, rowsAt, spanRow}
+use Rattle.point.proofs.Rows.{rowsAt, spanRow}
 
 -- What an on day's number stands for.
 pub data On (x : ℤ) : Type 0 where
@@ -117,7 +117,7 @@ module _ (p : List ℤ) where
   spans-pass (suc n) k lo s = go (view (onNumberAt k)) (head s) (spans-pass n (suc k))
     where
       here : lo ≤ offDay p k → offDay p k ≤ 39999 → offDay p k < onDay p k → onDay p k ≤ 40001 → Passing (suc (onDay p k)) (suc k) n → Passing lo k (suc n)
-      here a b d e r = also (also (also (also (le-leb _ _ a) (le-leb _ _ b)) (lt-ltb _ _ d)) (le-leb _ _ e)) r
+      here a b d e r = join (join (join (join (le-leb _ _ a) (le-leb _ _ b)) (lt-ltb _ _ d)) (le-leb _ _ e)) r
 
       none-after : n ≡ 0 → Passing (suc (onDay p k)) (suc k) n
       none-after z = ap (rows (spanAt p) (spanLeaves p) (suc (onDay p k)) (suc k)) z

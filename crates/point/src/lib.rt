@@ -2,12 +2,12 @@
 // said by its length. Counts are tested first, so that every row that is read lies in the part; each number is then
 // read a bounded number of times.
 ghost use mathlib.Core.Path.{_≡_};
-ghost use Prim.Native.Nat.{_+_, _*_, _<_, _≤_, _^_};
+ghost use Prim.Native.Nat.{_+_, _*_, _%_, _<_, _≤_, _^_};
 ghost use lib.ListN.{length, getD};
 ghost use lib.IntN.{pos};
 ghost use Rattle.daybook.specs.Notices.{fitsKind};
-ghost use Rattle.layout.specs.Sound.{factsSound, countsSound, unusedZero, zeros};
-ghost use Rattle.point.specs.Tests.{factsAt, Counted, regsOk, untilOf, spansOk, past, firstOn, noOff, recAt, recsOk, pendingOk, rowsOk, testPart};
+ghost use Rattle.layout.specs.Sound.{factsSound, countsSound, unusedZero, partSound, zeros};
+ghost use Rattle.point.specs.Tests.{factsAt, Counted, regsOk, untilOf, spansOk, past, firstOn, noOff, recAt, recsOk, pendingOk, rowsOk};
 
 // The day before which an off span ends; -1, still off, as 40,001.
 pub fn until(x: i64) -> u64
@@ -242,10 +242,10 @@ fn rows_ok(p: &[i64]) -> bool
         & pending_ok(p, regs)
 }
 
-// Is this a sound point?
+// Is this a sound point? The tests above decide what document 01 says (proofs/Decides.antt).
 pub fn part_sound(p: &[i64]) -> bool
-    requires { ⌜ 48 ≤ length (now p) ⌝ }
-    ensures { λ r. ⌜ r ≡ testPart (now (p .entry)) ⌝ }
+    requires { ⌜ (48 ≤ length (now p)) × (length (now p) % 4 ≡ 0) ⌝ }
+    ensures { λ r. ⌜ r ≡ partSound (now (p .entry)) ⌝ }
 {
     if !counts_sound(p) {
         return false;

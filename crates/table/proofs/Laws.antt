@@ -18,7 +18,6 @@ use Rattle.daybook.specs.Notices.{isRange}
 use Rattle.layout.specs.Layout.{standard, placeOf, partOf, numAt, pointsFrom}
 use Rattle.layout.specs.Sound.{zeros, partSound, mirnsDiffer, sound}
 use Rattle.layout.proofs.Mirns.{laterDiffer}
-use Rattle.point.specs.Tests.{testPart}
 use Rattle.table.specs.Lookup.{bodySound, indexOf, lookUp}
 
 module _ (t : List ℤ) (i : ℕ) where
@@ -93,10 +92,6 @@ module _ (t : List ℤ) (i n : ℕ) where
   pub later-done : (j : ℕ) → all (differAt t i) j ≡ true → j ≡ n - suc i → true ≡ laterDiffer standard t n i
   unfolding laterDiffer
   later-done j q e = all-done (differAt t i) j (n - suc i) q e
-
--- TEMPORARY
-pub tested-is : (p : List ℤ) → length p ≡ 240 → testPart p ≡ partSound p
-tested-is p e = ?
 
 -- ---- the whole table
 

@@ -1,7 +1,7 @@
-use mathlib.Core.Path.{_≡_, sym, _∙_}
+use mathlib.Core.Path.{sym, _∙_}
 use borrow.Author.Tests.{not-true, not-false}
-use Rattle.point.specs.Tests.{testPart}
 use Rattle.point.proofs.Loops.{counted}
+use Rattle.point.proofs.Decides.{uncounted, tested}
 use borrow.Author.Needs.{needs}
 use Rattle.point.proofs.part_sound.Statement.{statement}
 use Rattle.point.proofs.part_sound.Tie as tie
@@ -10,8 +10,7 @@ counts-sound-requires : tie.Need-counts-sound-requires
 counts-sound-requires c κs = search needs
 
 returns : tie.Need-returns
-unfolding testPart
-returns c = rw (sym (c .before .counts-sound .ensures) ∙ not-true _ (c .if1 .taken))
+returns c = uncounted _ (sym (c .before .counts-sound .ensures) ∙ not-true _ (c .if1 .taken))
 
 facts-sound-requires : tie.Need-facts-sound-requires
 facts-sound-requires c κs = search needs
@@ -25,9 +24,13 @@ rows-ok-requires c κs =
     counted _ (search needs) (sym (c .before .before .before .counts-sound .ensures) ∙ not-false _ (c .before .before .if1 .left))
 
 returns-2 : tie.Need-returns-2
-unfolding testPart
 returns-2 c =
-    rw (c .rows-ok .ensures, c .before .unused-zero .ensures, c .before .before .facts-sound .ensures, sym (c .before .before .before .before .counts-sound .ensures) ∙ not-false _ (c .before .before .before .if1 .left))
+    let s = c .before .before .before .before .before in
+    tested (s .args .p .now) _ _ _ (s .pre .0) (s .pre .1)
+    (sym (c .before .before .before .before .counts-sound .ensures) ∙ not-false _ (c .before .before .before .if1 .left))
+    (c .before .before .facts-sound .ensures)
+    (c .before .unused-zero .ensures)
+    (c .rows-ok .ensures)
 
 pub part-sound-spec : {M : Type 1} → statement M
 part-sound-spec =

@@ -1,4 +1,4 @@
-use Prim.Native.Nat.{_≤_, _-_}
+use Prim.Native.Nat.{_≤_, _-_, _%_}
 use mathlib.Core.Path.{_≡_, sym, _∙_, ap}
 use mathlib.Core.Bool.{true}
 use native.Mathlib.Omega.{arith}
@@ -8,7 +8,6 @@ use Rattle.numbers.specs.Rows.{all}
 use Rattle.numbers.proofs.Rows.{all-none, all-more, all-fails, all-done}
 use Rattle.layout.specs.Layout.{standard, partOf}
 use Rattle.layout.specs.Sound.{partSound}
-use Rattle.table.proofs.Laws.{tested-is}
 use Rattle.table.proofs.parts_sound.Statement.{statement}
 use Rattle.table.proofs.parts_sound.Tie as tie
 use Rattle.table.proofs.parts_sound.Reads as reads
@@ -32,12 +31,12 @@ part-requires c κs = search needs
 
 -- src/lib.rt:84:13
 part-sound-requires : tie.Need-part-sound-requires Inv-loop μ-loop
-part-sound-requires c κs = search needs
+part-sound-requires c κs = let e = c .part .ensures .1 in (omega arith, ap (λ n. n % 4) e)
 
 -- src/lib.rt:85:13
 returns : tie.Need-returns Inv-loop μ-loop
 returns c =
-    sym (all-fails _ (c .before .before .before .before .loop .i) _ (search needs) (sym (c .before .part-sound .ensures ∙ tested-is _ (c .before .before .part .ensures .1) ∙ ap partSound (c .before .before .part .ensures .0)) ∙ not-true _ (c .if1 .taken)))
+    sym (all-fails _ (c .before .before .before .before .loop .i) _ (search needs) (sym (c .before .part-sound .ensures ∙ ap partSound (c .before .before .part .ensures .0)) ∙ not-true _ (c .if1 .taken)))
 
 -- src/lib.rt:87:9
 add-i : tie.Need-add-i Inv-loop μ-loop
@@ -50,7 +49,7 @@ loop-less c = search needs
 -- src/lib.rt:83:5
 loop-again : tie.Need-loop-again Inv-loop μ-loop
 loop-again c =
-    (search needs, all-more _ _ (c .before .before .before .before .loop .inv .1) (sym (c .before .part-sound .ensures ∙ tested-is _ (c .before .before .part .ensures .1) ∙ ap partSound (c .before .before .part .ensures .0)) ∙ not-false _ (c .if1 .left)))
+    (search needs, all-more _ _ (c .before .before .before .before .loop .inv .1) (sym (c .before .part-sound .ensures ∙ ap partSound (c .before .before .part .ensures .0)) ∙ not-false _ (c .if1 .left)))
 
 -- src/lib.rt:78:1
 returns-2 : tie.Need-returns-2 Inv-loop μ-loop
