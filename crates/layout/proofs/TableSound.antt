@@ -6,7 +6,7 @@ use mathlib.Core.List.{List, [], _∷_, _++_, append-assoc}
 use Prim.Native.Nat.{ℕ, zero, suc, _+_, _-_, _*_, _≤_, _<_, _^_}
 use native.Mathlib.Omega.{arith}
 use native.Mathlib.Nat.{mul-suc, mul-zero, mul-le-mul-left, add-mul}
-use lib.Dec.{leb, eqb}
+use lib.Dec.{leb, eqb, lit≤}
 use lib.ListN.{length, getD, take, drop, length-take, length-drop}
 use lib.Seq.{take-add, drop-drop, getD-drop, getD-take}
 use lib.IntN.{ℤ, pos}
@@ -19,13 +19,13 @@ use Rattle.daybook.specs.Notices.{isRange}
 use Rattle.daybook.proofs.Lists.{Lists, Register}
 use Rattle.daybook.proofs.Steps.{findLists}
 use Rattle.daybook.proofs.Well.{Well, Points, nopoint, point, WellFormed}
-use Rattle.layout.specs.Layout.{tableLength, stride, placeOf, Fits, partOf, pad, pointNumbers, pointsNumbers, layout, numAt, pointFrom, pointsFrom, registerOf}
+use Rattle.layout.specs.Layout.{tableLength, standard, stride, placeOf, Fits, partOf, pad, pointNumbers, pointsNumbers, layout, numAt, pointFrom, pointsFrom, registerOf, tableBook}
 use Rattle.layout.specs.Sound.{each, zeros, partSound, mirnsDiffer, sound}
 use Rattle.layout.proofs.Numbers.{pad-take, few, length-point}
 use Rattle.layout.proofs.RowsLaid.{clean}
 use Rattle.layout.proofs.PartSound.{zeros-at}
 use Rattle.layout.proofs.PartLays.{part-lays}
-use Rattle.layout.proofs.Tables.{register-back}
+use Rattle.layout.proofs.Tables.{one-layout}
 
 -- ---- MIRNs that differ
 
@@ -166,3 +166,14 @@ sound-lays ed fits t e = (well, whole)
         ∙ ap (λ u. pad tableLength (u ++ take (stride ed * n) (drop 8 t))) (pad-take 8 3 t (omega arith) (omega (arith, s .long)) (λ i a b. zeros-at t 3 8 (s .spare) i a b))
         ∙ ap (pad tableLength) (sym (take-add 8 (stride ed * n) t))
         ∙ pad-take tableLength (placeOf ed n) t ends (s .long) (λ i a b. zeros-at t (placeOf ed n) tableLength (s .rest) i a b)
+
+pub standard-fits : Fits standard
+standard-fits = lit≤ tt
+
+-- one book, one table: sound tables of one edition with equal books hold the same numbers
+pub one-table : (ed : Edition) → Fits ed → (t u : List ℤ) → sound ed t ≡ true → sound ed u ≡ true → tableBook ed t ≡ tableBook ed u → take tableLength t ≡ take tableLength u
+unfolding tableBook
+one-table ed f t u a b e =
+    let x = sound-lays ed f t a in
+    let y = sound-lays ed f u b in
+    sym (x .1) ∙ one-layout ed (x .0) (y .0) e ∙ y .1

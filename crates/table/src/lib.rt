@@ -123,9 +123,9 @@ pub fn index_of(t: &[i64], mirn: u64) -> usize
     requires { ⌜ (7688 ≤ length (now t)) × (numAt (now t) 0 ≤ 32) ⌝ }
     ensures { λ r. ⌜ (r ≡ maybe 32 (λ i. i) (indexOf standard (now (t .entry)) mirn)) × (r ≤ 32) ⌝ }
 {
-    let n = numbers::get(t, 0) as usize;
+    let used = numbers::get(t, 0) as usize;
     let mut i: usize = 0;
-    while i < n {
+    while i < used {
         if numbers::get(t, 8 + 240 * i) == mirn {
             return i;
         }
