@@ -9,7 +9,7 @@ use native.Mathlib.Omega.{arith}
 use native.Mathlib.Nat.{mul-suc, mul-le-mul-left, zero-add, suc-add, le-add-right}
 use borrow.Author.Tests.{ltb-true, ltb-false}
 use lib.Dec.{ltb}
-use lib.ListN.{length, take, drop, length-append, length-drop}
+use lib.ListN.{length, take, drop, length-append, length-drop, take-append-drop}
 use lib.Seq.{length-take-le, take-at, drop-at, take-append-le, take-take, take-nil, drop-append-add, drop-drop}
 use lib.IntN.{ℤ}
 use Rattle.daybook.specs.Book.{Edition}
@@ -104,3 +104,15 @@ module _ (ed : Edition) (t : List ℤ) (i : ℕ) (p : List ℤ) (e : length p �
   -- the header: how many points, the ranges
   pub with-part-header : take 8 (withPart ed t i p) ≡ take 8 t
   with-part-header = with-part-front 8 (le-add-right 8 (stride ed * i))
+
+  -- the numbers past the register
+  pub with-part-rest : Fits ed → i < ed .points → drop tableLength (withPart ed t i p) ≡ drop tableLength t
+  with-part-rest f l = with-part-past tableLength (part-ends ed i f l)
+
+-- a part put back as it was
+pub with-part-own : (ed : Edition) (t : List ℤ) (i : ℕ) → withPart ed t i (partOf ed t i) ≡ t
+unfolding withPart partOf
+with-part-own ed t i =
+    ap (λ l. take (placeOf ed i) t ++ (take (stride ed) (drop (placeOf ed i) t) ++ l)) (sym (drop-drop (stride ed) (placeOf ed i) t))
+    ∙ ap (λ l. take (placeOf ed i) t ++ l) (take-append-drop (stride ed) (drop (placeOf ed i) t))
+    ∙ take-append-drop (placeOf ed i) t

@@ -2,10 +2,10 @@
 -- with the changed point. Assumes nothing.
 use mathlib.Core.Path.{_≡_, refl, sym, _∙_, ap, ap₂, subst}
 use mathlib.Core.List.{List, [], _∷_, _++_, append-assoc}
-use Prim.Native.Nat.{ℕ, suc, _+_, _-_, _*_, _≤_, _<_}
+use Prim.Native.Nat.{ℕ, suc, _+_, _-_, _*_, _≤_}
 use native.Mathlib.Omega.{arith}
 use native.Mathlib.Nat.{mul-suc, mul-zero, mul-le-mul-left}
-use lib.ListN.{length, take, drop, length-append}
+use lib.ListN.{length, take, drop, length-append, take-append-drop}
 use lib.Seq.{take-at, drop-at}
 use lib.IntN.{ℤ, pos}
 use Rattle.daybook.specs.Book.{Edition}
@@ -93,6 +93,10 @@ module _ (ed : Edition) (R : Register) where
     where
       room : (x n m s : ℕ) → x ≡ 8 + s * n → 8 + s * m ≤ tableLength → s * n ≤ s * m → x ≤ tableLength
       room x n m s a b c = omega arith
+
+-- a table that begins with the register
+pub table-split : (ed : Edition) (R : Register) (t : List ℤ) → take tableLength t ≡ layout ed R → t ≡ layout ed R ++ drop tableLength t
+table-split ed R t e = sym (take-append-drop tableLength t) ∙ ap (λ l. l ++ drop tableLength t) e
 
 -- ---- the part of point q, which stands after the points a
 
