@@ -7,3 +7,7 @@ pub mod Spans
 pub mod OffDays
 pub mod Records
 pub mod Pending
+pub mod Tested
+pub mod Laid
+pub mod Passes
+pub mod Decides

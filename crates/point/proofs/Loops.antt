@@ -1,12 +1,11 @@
 -- What the loops of this crate and their callers need of the tests. Assumes nothing.
-use mathlib.Core.Path.{_≡_, refl, sym, ap, _∙_}
-use mathlib.Core.Bool.{Bool, true, false, _&&_}
+use mathlib.Core.Path.{_≡_, sym, ap, _∙_}
+use mathlib.Core.Bool.{Bool, true, false}
 use mathlib.Core.List.{List}
-use Prim.Native.Nat.{ℕ, zero, suc, _+_, _-_, _*_, _/_, _≤_, _<_}
+use Prim.Native.Nat.{ℕ, suc, _+_, _-_, _/_, _≤_, _<_}
 use native.Mathlib.Omega.{arith}
 use native.Mathlib.Numerals.{add-one}
 use borrow.Author.Tests.{leb-true, eq-eqb, ne-eqb}
-use lib.Dec.{eqb}
 use lib.ListN.{length}
 use lib.IntN.{ℤ}
 use Rattle.numbers.proofs.Bools.{both}
@@ -44,9 +43,6 @@ module _ (p : List ℤ) (d k n : ℕ) where
 -- ---- zeros
 
 module _ (p : List ℤ) (a : ℕ) where
-  zero-at : ℕ → Bool
-  zero-at k = eqb (numAt p (a + k)) 0
-
   pub zeros-none : zeros p a a ≡ true
   unfolding zeros
   zeros-none = let m : a - a ≡ 0 = omega arith in rw m (all-none _)

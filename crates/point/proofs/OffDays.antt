@@ -12,7 +12,6 @@ use borrow.Author.Tests.{leb-true, leb-false, ltb-true, ltb-false, le-leb, lt-le
 use lib.Dec.{leb, ltb}
 use lib.IntN.{ℤ}
 use Rattle.numbers.specs.Search.{maybe}
-use Rattle.numbers.specs.Rows.{all}
 use Rattle.numbers.proofs.Bools.{neither}
 use Rattle.numbers.proofs.Rows.{all-at, all-of}
 use Rattle.daybook.proofs.Lists.{inSpan, offOn}
