@@ -11,3 +11,4 @@ pub mod Tested
 pub mod Laid
 pub mod Passes
 pub mod Decides
+pub mod Readers

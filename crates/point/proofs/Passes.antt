@@ -146,7 +146,7 @@ module _ (room : ℕ) (q : Lists) (w : Well room q) where
       ∙ ap (regsFrom (length (q .regs))) (from16 ∙ append-assoc A _ _)
       ∙ regs-back (q .regs) _
 
-  offs-here : rowsAt (spanRow p) 0 (length (q .offs)) ≡ q .offs
+  pub offs-here : rowsAt (spanRow p) 0 (length (q .offs)) ≡ q .offs
   unfolding pad
   offs-here =
       sym (offs-read p (length (q .offs)) 0)
@@ -221,7 +221,7 @@ module _ (room : ℕ) (q : Lists) (w : Well room q) where
       also (also (also (also spare after-regs) after-spans) after-recs)
       (pending-zero p (length (q .regs)) some-regs pending-here places)
 
-  spans-pass : spansOk p (length (q .offs)) ≡ true
+  pub spans-pass : spansOk p (length (q .offs)) ≡ true
   unfolding pointNumbers headNumbers
   spans-pass = spans-tests p (length (q .offs)) (subst (λ l. Spans (q .facts .install) l) (sym offs-here) (w .offsOk))
 
