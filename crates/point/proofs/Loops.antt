@@ -17,9 +17,9 @@ use Rattle.point.specs.Tests.{rows, Counted, offDay, onDay, past, passed
 -- ---- rows, by a loop with the invariant that what is left to test decides the whole
 
 module _ {S : Type 0} (test : S → ℕ → Bool) (next : S → ℕ → S) (s : S) (k n : ℕ) where
-  pub rows-pass : k < n → test s k ≡ true → rows test next s k (n - k) ≡ rows test next (next s k) (k + 1) (n - (k + 1))
+  pub rows-pass : (s′ : S) → k < n → test s k ≡ true → s′ ≡ next s k → rows test next s k (n - k) ≡ rows test next s′ (k + 1) (n - (k + 1))
   unfolding rows
-  rows-pass l e = let m : n - k ≡ suc (n - (k + 1)) = omega arith in rw (m, e, add-one k)
+  rows-pass s′ l e q = let m : n - k ≡ suc (n - (k + 1)) = omega arith in rw (m, e, add-one k, q)
 
   pub rows-fail : k < n → test s k ≡ false → rows test next s k (n - k) ≡ false
   unfolding rows
