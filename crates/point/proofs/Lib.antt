@@ -8,3 +8,4 @@ pub mod OffDays
 pub mod Records
 pub mod Pending
 pub mod Decides
+pub mod Readers

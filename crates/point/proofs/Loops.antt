@@ -1,12 +1,11 @@
 -- What the loops of this crate and their callers need of the tests. Assumes nothing.
-use mathlib.Core.Path.{_≡_, refl, sym, ap, _∙_}
-use mathlib.Core.Bool.{Bool, true, false, _&&_}
+use mathlib.Core.Path.{_≡_, sym, ap, _∙_}
+use mathlib.Core.Bool.{Bool, true, false}
 use mathlib.Core.List.{List}
-use Prim.Native.Nat.{ℕ, zero, suc, _+_, _-_, _*_, _/_, _≤_, _<_}
+use Prim.Native.Nat.{ℕ, suc, _+_, _-_, _/_, _≤_, _<_}
 use native.Mathlib.Omega.{arith}
 use native.Mathlib.Numerals.{add-one}
 use borrow.Author.Tests.{leb-true, eq-eqb, ne-eqb}
-use lib.Dec.{eqb}
 use lib.ListN.{length}
 use lib.IntN.{ℤ}
 use Rattle.numbers.proofs.Bools.{both}
@@ -18,9 +17,9 @@ use Rattle.point.specs.Tests.{rows, Counted, offDay, onDay, past, passed
 -- ---- rows, by a loop with the invariant that what is left to test decides the whole
 
 module _ {S : Type 0} (test : S → ℕ → Bool) (next : S → ℕ → S) (s : S) (k n : ℕ) where
-  pub rows-pass : k < n → test s k ≡ true → rows test next s k (n - k) ≡ rows test next (next s k) (k + 1) (n - (k + 1))
+  pub rows-pass : (s′ : S) → k < n → test s k ≡ true → s′ ≡ next s k → rows test next s k (n - k) ≡ rows test next s′ (k + 1) (n - (k + 1))
   unfolding rows
-  rows-pass l e = let m : n - k ≡ suc (n - (k + 1)) = omega arith in rw (m, e, add-one k)
+  rows-pass s′ l e q = let m : n - k ≡ suc (n - (k + 1)) = omega arith in rw (m, e, add-one k, q)
 
   pub rows-fail : k < n → test s k ≡ false → rows test next s k (n - k) ≡ false
   unfolding rows
@@ -44,9 +43,6 @@ module _ (p : List ℤ) (d k n : ℕ) where
 -- ---- zeros
 
 module _ (p : List ℤ) (a : ℕ) where
-  zero-at : ℕ → Bool
-  zero-at k = eqb (numAt p (a + k)) 0
-
   pub zeros-none : zeros p a a ≡ true
   unfolding zeros
   zeros-none = let m : a - a ≡ 0 = omega arith in rw m (all-none _)

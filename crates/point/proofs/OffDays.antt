@@ -12,7 +12,6 @@ use borrow.Author.Tests.{leb-true, leb-false, ltb-true, ltb-false, le-leb, lt-le
 use lib.Dec.{leb, ltb}
 use lib.IntN.{ℤ}
 use Rattle.numbers.specs.Search.{maybe}
-use Rattle.numbers.specs.Rows.{all}
 use Rattle.numbers.proofs.Bools.{neither, join}
 use Rattle.numbers.proofs.Rows.{all-at, all-of}
 use Rattle.daybook.proofs.Lists.{inSpan, offOn}
@@ -21,6 +20,14 @@ use Rattle.layout.specs.Layout.{numAt, onOf}
 use Rattle.point.specs.Tests.{untilOf, offDay, onDay, spansOk, past, passed, firstOn, apartAt, noOff}
 use Rattle.point.proofs.Rows.{rowsAt, spanRow}
 use Rattle.point.proofs.Spans.{On, opened, closed, wrong, view, onNumberAt, Passing, First, first}
+
+-- The days end with 40,000.
+unfoldable pub dayIf : ℕ → Option ℕ
+dayIf d = cond (ltb d 40001) (some d) none
+
+day-is : (d : ℕ) → d ≤ 40000 → dayIf d ≡ some d
+unfolding dayIf
+day-is d h = rw (lt-ltb d 40001 (omega arith))
 
 module _ (p : List ℤ) where
   -- ---- the first day that is in no span
@@ -42,14 +49,6 @@ module _ (p : List ℤ) where
       let r : First p lo k n = first p lo k n h in
       ap (λ x. passed p x (suc k) n) (past-under (offDay p k) (onDay p k) d (omega arith))
       ∙ passed-under n (suc k) (suc (onDay p k)) d (r .others) (omega arith)
-
-  -- The days end with 40,000.
-  dayIf : ℕ → Option ℕ
-  dayIf d = cond (ltb d 40001) (some d) none
-
-  day-is : (d : ℕ) → d ≤ 40000 → dayIf d ≡ some d
-  unfolding dayIf
-  day-is d h = rw (lt-ltb d 40001 (omega arith))
 
   skip-passed : (n k lo d : ℕ) → Passing p lo k n → d ≤ 40000 → skip (rowsAt (spanRow p) k n) d ≡ dayIf (passed p d k n)
   unfolding skip passed rowsAt dayIf
@@ -94,13 +93,16 @@ module _ (p : List ℤ) where
       go false false a b (opened e w) ih = absurd (omega (arith, ltb-false d (onDay p k) b))
       go false t a b (wrong e v w) ih = absurd (omega (arith, r .until))
 
-  pub skip-is-first : (m d k : ℕ) → spansOk p m ≡ true → d ≤ 40000 → k ≤ 40000 → k ≡ firstOn p m d → skip (rowsAt (spanRow p) 0 m) d ≡ some k
+  pub skip-first : (m d : ℕ) → spansOk p m ≡ true → d ≤ 40000 → skip (rowsAt (spanRow p) 0 m) d ≡ dayIf (firstOn p m d)
   unfolding firstOn spansOk
-  skip-is-first m d k h l u e = skip-passed m 0 (numAt p 2) d h l ∙ ap dayIf (sym e) ∙ day-is k u
+  skip-first m d h l = skip-passed m 0 (numAt p 2) d h l
+
+  pub skip-is-first : (m d k : ℕ) → spansOk p m ≡ true → d ≤ 40000 → k ≤ 40000 → k ≡ firstOn p m d → skip (rowsAt (spanRow p) 0 m) d ≡ some k
+  skip-is-first m d k h l u e = skip-first m d h l ∙ ap dayIf (sym e) ∙ day-is k u
 
   pub first-is-skip : (m d k : ℕ) → spansOk p m ≡ true → d ≤ 40000 → skip (rowsAt (spanRow p) 0 m) d ≡ some k → k ≡ firstOn p m d
-  unfolding firstOn spansOk dayIf
-  first-is-skip m d k h l e = go (passed p d 0 m) (ltb (passed p d 0 m) 40001) (sym (skip-passed m 0 (numAt p 2) d h l) ∙ e)
+  unfolding dayIf
+  first-is-skip m d k h l e = go (firstOn p m d) (ltb (firstOn p m d) 40001) (sym (skip-first m d h l) ∙ e)
     where
       go : (x : ℕ) (t : Bool) → cond t (some x) none ≡ some k → k ≡ x
       go x true q = sym (Option·some-injective x k q)

@@ -1,20 +1,17 @@
 -- A pending request, or three zeros: what passes the tests is well-formed, and what is well-formed passes.
 -- Assumes nothing.
-use mathlib.Core.Path.{_≡_, refl, sym, ap, ap₂, subst, _∙_}
-use mathlib.Core.Bool.{Bool, true, false, not, _&&_, _||_, cond}
-use mathlib.Core.Option.{Option, none, some}
+use mathlib.Core.Path.{_≡_, refl, sym, ap, ap₂, _∙_}
+use mathlib.Core.Bool.{true, not, _&&_, _||_, cond}
+use mathlib.Core.Option.{Option}
 use mathlib.Core.List.{List}
-use Prim.Native.Nat.{ℕ, zero, suc, _+_, _*_, _≤_, _<_, _^_}
+use Prim.Native.Nat.{ℕ, zero, suc, _+_, _*_, _≤_}
 use native.Mathlib.Omega.{arith}
-use borrow.Author.Tests.{leb-true, le-leb, eqb-true, eq-eqb, ne-eqb, not-true}
+use borrow.Author.Tests.{leb-true, le-leb, eq-eqb, ne-eqb, not-true}
 use lib.Dec.{eqb, leb}
-use lib.ListN.{length}
 use lib.IntN.{ℤ}
 use Rattle.numbers.specs.Rows.{all}
 use Rattle.numbers.proofs.Bools.{both, join}
-use Rattle.numbers.proofs.Rows.{all-at}
 use Rattle.daybook.specs.Book.{Pending}
-use Rattle.daybook.proofs.Steps.{latestOf}
 use Rattle.daybook.proofs.Well.{PendingOk, nopending, pending}
 use Rattle.layout.specs.Layout.{numAt, asked, pendingFrom}
 use Rattle.layout.specs.Sound.{zeros}

@@ -1,10 +1,10 @@
 -- Records: rows that pass the tests are well-formed beside the off spans, and well-formed rows pass. Assumes nothing.
-use mathlib.Core.Path.{_≡_, refl, sym, ap, _∙_}
+use mathlib.Core.Path.{_≡_, refl, sym, _∙_}
 use mathlib.Core.Bool.{Bool, true, false, and-true}
 use mathlib.Core.List.{List}
 use Prim.Native.Nat.{ℕ, zero, suc, _+_, _-_, _≤_, _<_, _^_}
 use native.Mathlib.Omega.{arith}
-use borrow.Author.Tests.{leb-true, leb-false, ltb-true, ltb-false, le-leb, lt-leb, lt-ltb, le-ltb, eqb-true, eq-eqb}
+use borrow.Author.Tests.{leb-true, ltb-true, ltb-false, le-leb, lt-leb, eqb-true, eq-eqb}
 use lib.Dec.{leb, ltb}
 use lib.IntN.{ℤ, pos, negsuc}
 use Rattle.numbers.specs.Naturals.{biasOf}
@@ -13,7 +13,7 @@ use Rattle.calendar.specs.Calendar.{within}
 use Rattle.daybook.proofs.Apart.{fits-le}
 use Rattle.daybook.proofs.Well.{Recs, norec, rec}
 use Rattle.layout.specs.Layout.{numAt}
-use Rattle.point.specs.Tests.{rows, spansOk, firstOn, noOff, recStart, recEnd, recEnergy, recType, recAt, recLeaves, recsOk}
+use Rattle.point.specs.Tests.{rows, spansOk, recStart, recEnd, recAt, recLeaves, recsOk}
 use Rattle.point.proofs.Rows.{rowsAt, spanRow, recRow}
 use Rattle.point.proofs.OffDays.{skip-is-first, first-is-skip, no-off-days, days-no-off}
 

@@ -3,7 +3,7 @@ use mathlib.Core.Path.{_≡_, refl, ap, ap₂, _∙_}
 use mathlib.Core.Bool.{Bool, true, _&&_}
 use mathlib.Core.Option.{Option}
 use mathlib.Core.List.{List, [], _∷_, _++_}
-use Prim.Native.Nat.{ℕ, zero, suc, _+_, _*_}
+use Prim.Native.Nat.{ℕ, zero, suc, _+_, _*_, _<_}
 use native.Mathlib.Omega.{arith}
 use lib.ListN.{length, getD, drop}
 use lib.Seq.{getD-drop, drop-drop}
@@ -32,6 +32,13 @@ rows-join f zero n k j e =
 rows-join f (suc m) n k j e =
     let q : suc (m + n) ≡ suc m + n = omega arith in
     ap (λ l. f k ∷ l) (rows-join f m n (suc k) j (omega arith)) ∙ ap (rowsAt f k) q
+
+pub getD-rows : {A : Type 0} (f : ℕ → A) (n k i : ℕ) (d : A) → i < n → getD (rowsAt f k n) i d ≡ f (k + i)
+unfolding rowsAt
+getD-rows f zero k i d h = absurd (omega arith)
+getD-rows f (suc n) k zero d h = let e : k ≡ k + 0 = omega arith in ap f e
+getD-rows f (suc n) k (suc i) d h =
+    let e : suc k + i ≡ k + suc i = omega arith in getD-rows f n (suc k) i d (omega arith) ∙ ap f e
 
 abbrev pub regRow : List ℤ → ℕ → ℕ × ℕ
 regRow p k = (regStart p k, regUser p k)

@@ -1,25 +1,18 @@
 -- Off spans: rows that pass the tests are well-formed, and well-formed rows pass. Assumes nothing.
-use mathlib.Core.Path.{_≡_, refl, sym, ap, ap₂, subst, _∙_}
-use mathlib.Core.Bool.{Bool, true, false, _&&_, _||_, cond, and-true, and-false, true≢false}
+use mathlib.Core.Path.{_≡_, refl, sym, ap, subst, _∙_}
+use mathlib.Core.Bool.{Bool, true, false}
 use mathlib.Core.Option.{Option, none, some, Option·none-ne-some, Option·some-injective}
 use mathlib.Core.List.{List, [], _∷_}
 use Prim.Native.Nat.{ℕ, zero, suc, _+_, _*_, _≤_, _<_, _^_}
 use native.Mathlib.Omega.{arith}
-use native.Mathlib.Nat.{eq-or-lt-of-le}
-use mathlib.Core.Logic.{⊎-elim}
-use borrow.Author.Tests.{leb-true, leb-false, ltb-true, ltb-false, le-leb, lt-leb, lt-ltb, le-ltb}
-use lib.Dec.{leb, ltb}
+use borrow.Author.Tests.{leb-true, ltb-true, ltb-false, le-leb, lt-ltb}
+use lib.Dec.{ltb}
 use lib.ListN.{getD}
 use lib.IntN.{ℤ, pos, negsuc}
-use Rattle.numbers.specs.Search.{maybe}
-use Rattle.numbers.specs.Rows.{all}
-use Rattle.numbers.proofs.Bools.{both, neither, join}
-use Rattle.numbers.proofs.Rows.{all-at, all-of}
-use Rattle.daybook.proofs.Lists.{inSpan, offOn}
-use Rattle.daybook.proofs.Steps.{skip}
+use Rattle.numbers.proofs.Bools.{both, join}
 use Rattle.daybook.proofs.Well.{Spans, nospan, still, ended}
 use Rattle.layout.specs.Layout.{numAt, onOf}
-use Rattle.point.specs.Tests.{rows, untilOf, offDay, onDay, spanAt, spanLeaves, spansOk, past, passed, firstOn, apartAt, noOff}
+use Rattle.point.specs.Tests.{rows, untilOf, offDay, onDay, spanAt, spanLeaves, spansOk}
 use Rattle.point.proofs.Rows.{rowsAt, spanRow}
 
 -- What an on day's number stands for.

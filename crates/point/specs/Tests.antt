@@ -1,6 +1,6 @@
 -- What the code tests of one point's part, place by place. A part that passes is the layout of well-formed lists, and the
 -- layout of such lists passes (proofs/Decides.antt).
-use mathlib.Core.Bool.{Bool, true, false, not, _&&_, _||_, cond}
+use mathlib.Core.Bool.{Bool, true, not, _&&_, _||_, cond}
 use mathlib.Core.List.{List}
 use Prim.Native.Nat.{ℕ, zero, suc, _+_, _*_, _≤_, _^_}
 use lib.Dec.{leb, ltb, eqb}

@@ -1,6 +1,6 @@
 // Soundness of one point's part of the register table. A part of any length is tested: how many records it holds is
-// said by its length. Counts are tested first, so that every row that is read lies in the part; each number is then
-// read a bounded number of times.
+// said by its length. Counts are tested first, so that every row that is read lies in the part. Rows are read in order,
+// each once or twice; the spans, of which there are at most 8, are read twice more for each record.
 ghost use mathlib.Core.Path.{_≡_};
 ghost use Prim.Native.Nat.{_+_, _*_, _%_, _<_, _≤_, _^_};
 ghost use lib.ListN.{length, getD};
@@ -30,6 +30,7 @@ pub fn get_until(p: &[i64], i: usize) -> u64
     until(p[i])
 }
 
+// Are the places a to b - 1 all 0?
 pub fn zeros_in(p: &[i64], a: usize, b: usize) -> bool
     requires { ⌜ b ≤ length (now p) ⌝ }
     ensures { λ r. ⌜ r ≡ zeros (now (p .entry)) a b ⌝ }
@@ -83,9 +84,9 @@ fn unused_zero(p: &[i64]) -> bool
     zero
 }
 
-// Each of n registrations starts after the one before it, with another User.
+// The first of n registrations starts on the install day, each other one after the one before it with another User.
 fn registrations_ok(p: &[i64], n: usize) -> bool
-    requires { ⌜ (16 + 2 * n ≤ 32) × (48 ≤ length (now p)) ⌝ }
+    requires { ⌜ (n ≤ 8) × (48 ≤ length (now p)) ⌝ }
     ensures { λ r. ⌜ r ≡ regsOk (now (p .entry)) n ⌝ }
 {
     let install = numbers::get(p, 2);
@@ -111,7 +112,7 @@ fn registrations_ok(p: &[i64], n: usize) -> bool
 
 // Each of n spans begins after the one before it has ended, and only the last is still off.
 fn spans_ok(p: &[i64], n: usize) -> bool
-    requires { ⌜ (32 + 2 * n ≤ 48) × (48 ≤ length (now p)) ⌝ }
+    requires { ⌜ (n ≤ 8) × (48 ≤ length (now p)) ⌝ }
     ensures { λ r. ⌜ r ≡ spansOk (now (p .entry)) n ⌝ }
 {
     let mut lo = numbers::get(p, 2);
@@ -129,6 +130,7 @@ fn spans_ok(p: &[i64], n: usize) -> bool
     true
 }
 
+// The span's on day for a day in it.
 fn past_span(off: u64, on: u64, d: u64) -> u64
     ensures { λ r. ⌜ r ≡ past off on d ⌝ }
 {

@@ -1,5 +1,5 @@
-use mathlib.Core.Path.{_≡_, refl, sym, _∙_}
-use Prim.Native.Nat.{_≤_, _-_}
+use mathlib.Core.Path.{_≡_, sym, ap, _∙_}
+use Prim.Native.Nat.{suc, _≤_, _-_}
 use native.Mathlib.Omega.{arith}
 use native.Mathlib.Numerals.{add-one}
 use borrow.Author.Tests.{not-true, not-false}
@@ -56,7 +56,7 @@ loop-less c = search needs
 loop-again : tie.Need-loop-again Inv-loop μ-loop
 loop-again c =
     let l = c .before .before .before .before .loop in
-    (omega arith, rw (add-one (c .get2 .result), c .get2 .ensures .0) (sym (rows-pass _ _ _ (l .k) _ (omega arith) (sym (c .before .before .record-ok .ensures) ∙ not-false _ (c .before .if1 .left))) ∙ l .inv .1))
+    (omega arith, sym (rows-pass _ _ _ (l .k) _ _ (omega arith) (sym (c .before .before .record-ok .ensures) ∙ not-false _ (c .before .if1 .left)) (add-one (c .get2 .result) ∙ ap suc (c .get2 .ensures .0))) ∙ l .inv .1)
 
 returns-2 : tie.Need-returns-2 Inv-loop μ-loop
 returns-2 c = sym (rows-end _ _ _ (c .before .loop .k) _ (omega arith)) ∙ c .before .loop .inv .1

@@ -1,6 +1,6 @@
 use native.Mathlib.Numerals.{add-one}
-use mathlib.Core.Path.{_≡_, refl, sym, _∙_}
-use Prim.Native.Nat.{_≤_, _-_}
+use mathlib.Core.Path.{_≡_, sym, ap, ap₂, _∙_}
+use Prim.Native.Nat.{ℕ, suc, _≤_, _-_}
 use native.Mathlib.Omega.{arith}
 use borrow.Author.Tests.{not-true, not-false, eq-eqb, ne-eqb}
 use Rattle.point.specs.Tests.{rows, regOk, regAt, regLeaves, regsOk}
@@ -64,7 +64,9 @@ loop-less c = search needs
 loop-again : tie.Need-loop-again Inv-loop μ-loop
 loop-again c =
     let l = c .before .before .before .before .loop in
-    (omega arith, rw (add-one (c .before .before .get3 .result), c .before .get4 .ensures .0, c .before .before .get3 .ensures .0) (sym (rows-pass _ _ _ (l .k) _ (omega arith) (rw (c .before .get4 .ensures .0, c .before .before .get3 .ensures .0) at (not-false (regOk (l .latest, l .lo) (c .before .before .get3 .result) (c .before .get4 .result)) (c .if2 .left)))) ∙ l .inv .1))
+    let start = c .before .before .get3 in
+    let user = c .before .get4 in
+    (omega arith, sym (rows-pass _ _ _ (l .k) _ _ (omega arith) (rw (user .ensures .0, start .ensures .0) at (not-false (regOk (l .latest, l .lo) (start .result) (user .result)) (c .if2 .left))) (ap₂ (λ (u s : ℕ). (u, s)) (user .ensures .0) (add-one (start .result) ∙ ap suc (start .ensures .0)))) ∙ l .inv .1)
 
 returns-3 : tie.Need-returns-3 Inv-loop μ-loop
 returns-3 c = sym (rows-end _ _ _ (c .before .loop .k) _ (omega arith)) ∙ c .before .loop .inv .1

@@ -1,6 +1,6 @@
 use native.Mathlib.Numerals.{add-one}
-use mathlib.Core.Path.{_≡_, refl, sym, _∙_}
-use Prim.Native.Nat.{_≤_, _-_}
+use mathlib.Core.Path.{_≡_, sym, ap, _∙_}
+use Prim.Native.Nat.{suc, _≤_, _-_}
 use native.Mathlib.Omega.{arith}
 use borrow.Author.Tests.{not-true, not-false}
 use Rattle.point.specs.Tests.{rows, spanOk, spanAt, spanLeaves, spansOk}
@@ -56,7 +56,8 @@ loop-less c = search needs
 loop-again : tie.Need-loop-again Inv-loop μ-loop
 loop-again c =
     let l = c .before .before .before .before .loop in
-    (omega arith, rw (add-one (c .before .get-until .result), c .before .get-until .ensures .0) (sym (rows-pass _ _ _ (l .k) _ (omega arith) (rw (c .before .get-until .ensures .0, c .before .before .get2 .ensures .0) at (not-false (spanOk (l .lo) (c .before .before .get2 .result) (c .before .get-until .result)) (c .if1 .left)))) ∙ l .inv .1))
+    let on = c .before .get-until in
+    (omega arith, sym (rows-pass _ _ _ (l .k) _ _ (omega arith) (rw (on .ensures .0, c .before .before .get2 .ensures .0) at (not-false (spanOk (l .lo) (c .before .before .get2 .result) (on .result)) (c .if1 .left))) (add-one (on .result) ∙ ap suc (on .ensures .0))) ∙ l .inv .1)
 
 returns-2 : tie.Need-returns-2 Inv-loop μ-loop
 returns-2 c = sym (rows-end _ _ _ (c .before .loop .k) _ (omega arith)) ∙ c .before .loop .inv .1
