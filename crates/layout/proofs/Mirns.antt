@@ -23,12 +23,12 @@ laterDiffer ed t n i = all (λ j. not (eqb (numAt t (placeOf ed i)) (numAt t (pl
 
 module _ (ed : Edition) (t : List ℤ) where
   -- the first number of a part
-  first-number : (a : ℕ) → numAt (take (stride ed) (drop (placeOf ed a) t)) 0 ≡ numAt t (placeOf ed a)
+  pub first-number : (a : ℕ) → numAt (take (stride ed) (drop (placeOf ed a) t)) 0 ≡ numAt t (placeOf ed a)
   first-number a =
       let z : placeOf ed a + 0 ≡ placeOf ed a = omega arith in
       ap natOf (getD-take (stride ed) (drop (placeOf ed a) t) 0 (pos 0) (omega arith) ∙ getD-drop (placeOf ed a) t 0 (pos 0) ∙ ap (λ i. getD t i (pos 0)) z)
 
-  next : (a : ℕ) → drop (stride ed) (drop (placeOf ed a) t) ≡ drop (placeOf ed (suc a)) t
+  pub next : (a : ℕ) → drop (stride ed) (drop (placeOf ed a) t) ≡ drop (placeOf ed (suc a)) t
   next a =
       let e : placeOf ed a + stride ed ≡ placeOf ed (suc a) = omega (arith, mul-suc (stride ed) a) in
       drop-drop (stride ed) (placeOf ed a) t ∙ ap (λ n. drop n t) e

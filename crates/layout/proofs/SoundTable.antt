@@ -42,15 +42,15 @@ differ (point {q = q} {qs = qs} w n r) = join (others q qs n) (differ r)
 
 -- ---- point i of a list
 
-record Nth (room i : ℕ) (qs : List Lists) : Type 0 where
-  before : List Lists
-  q : Lists
-  after : List Lists
-  is : qs ≡ before ++ q ∷ after
-  at : length before ≡ i
-  well : Well room q
+pub record Nth (room i : ℕ) (qs : List Lists) : Type 0 where
+  pub before : List Lists
+  pub q : Lists
+  pub after : List Lists
+  pub is : qs ≡ before ++ q ∷ after
+  pub at : length before ≡ i
+  pub well : Well room q
 
-nth : {room : ℕ} {qs : List Lists} → Points room qs → (i : ℕ) → i < length qs → Nth room i qs
+pub nth : {room : ℕ} {qs : List Lists} → Points room qs → (i : ℕ) → i < length qs → Nth room i qs
 nth nopoint i h = absurd (omega arith)
 nth (point {q = q} {qs = qs} w n r) zero h = record { before = []; q = q; after = qs; is = refl; at = refl; well = w }
 nth (point {q = q} {qs = qs} w n r) (suc i) h =

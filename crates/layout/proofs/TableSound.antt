@@ -105,7 +105,7 @@ tested ed t e =
       rest = a .1;
     }
 
-length-points : (ed : Edition) (n : ℕ) (t : List ℤ) → length (pointsFrom ed n t) ≡ n
+pub length-points : (ed : Edition) (n : ℕ) (t : List ℤ) → length (pointsFrom ed n t) ≡ n
 unfolding pointsFrom
 length-points ed zero t = refl
 length-points ed (suc n) t = ap suc (length-points ed n (drop (stride ed) t))

@@ -3,3 +3,4 @@
 pub mod Layout
 pub mod Sound
 pub mod Writes
+pub mod Calls
