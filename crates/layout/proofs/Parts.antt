@@ -88,7 +88,7 @@ module _ (ed : Edition) (t : List ℤ) (i : ℕ) (p : List ℤ) (e : length p �
   unfolding withPart partOf
   with-part-same = patched-same (placeOf ed i) (stride ed) t p e h
 
-  pub with-part-other : (j : ℕ) → j ≢ i → partOf ed (withPart ed t i p) j ≡ partOf ed t j
+  with-part-other : (j : ℕ) → j ≢ i → partOf ed (withPart ed t i p) j ≡ partOf ed t j
   unfolding partOf
   with-part-other j k = go (ltb j i) refl
     where
@@ -101,13 +101,11 @@ module _ (ed : Edition) (t : List ℤ) (i : ℕ) (p : List ℤ) (e : length p �
           let m : i ≤ j = ltb-false j i l in
           ap (take (stride ed)) (with-part-past (placeOf ed j) (next-place ed i j (omega arith)))
 
-  -- the header: how many points, the ranges
-  pub with-part-header : take 8 (withPart ed t i p) ≡ take 8 t
-  with-part-header = with-part-front 8 (le-add-right 8 (stride ed * i))
-
-  -- the numbers past the register
-  pub with-part-rest : Fits ed → i < ed .points → drop tableLength (withPart ed t i p) ≡ drop tableLength t
-  with-part-rest f l = with-part-past tableLength (part-ends ed i f l)
+  -- the frame: the header, every other point and the numbers past the register are as they were
+  pub with-part-frame : Fits ed → i < ed .points
+      → (take 8 (withPart ed t i p) ≡ take 8 t) × ((j : ℕ) → j ≢ i → partOf ed (withPart ed t i p) j ≡ partOf ed t j) × (drop tableLength (withPart ed t i p) ≡ drop tableLength t)
+  with-part-frame f l =
+      (with-part-front 8 (le-add-right 8 (stride ed * i)), with-part-other, with-part-past tableLength (part-ends ed i f l))
 
 -- a part put back as it was
 pub with-part-own : (ed : Edition) (t : List ℤ) (i : ℕ) → withPart ed t i (partOf ed t i) ≡ t
