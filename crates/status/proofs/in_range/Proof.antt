@@ -1,0 +1,25 @@
+use borrow.Author.Needs.{needs}
+use Rattle.status.proofs.in_range.Statement.{statement}
+use Rattle.status.proofs.in_range.Tie as tie
+use Rattle.status.proofs.in_range.Reads as reads
+use Rattle.status.proofs.in_range.Lts as lts
+use Rattle.numbers.proofs.natural.Reads as natural-reads
+
+-- src/lib.rt:26:9
+natural-requires : tie.Need-natural-requires
+natural-requires c κs = search needs
+
+-- src/lib.rt:28:12
+natural-requires-2 : tie.Need-natural-requires-2
+natural-requires-2 c κs = search needs
+
+-- src/lib.rt:29:12
+natural-requires-3 : tie.Need-natural-requires-3
+natural-requires-3 c κs = search needs
+
+-- src/lib.rt:20:1
+returns : tie.Need-returns
+returns c = ?
+
+pub in-range-spec : {M : Type 1} → statement M
+in-range-spec = tie.close (tie.spec natural-requires natural-requires-2 natural-requires-3 returns)

@@ -1,0 +1,2 @@
+-- The call that says from which day a point is off, or on again.
+pub mod Status
