@@ -5,14 +5,16 @@ use mathlib.Core.Option.{Option, none, some}
 use mathlib.Core.List.{List, [], _∷_, _++_}
 use Prim.Native.Nat.{ℕ, zero, suc, _+_, _-_, _*_, _≤_, _<_, _^_}
 use native.Mathlib.Omega.{arith}
-use borrow.Author.Tests.{eq-eqb, ne-eqb}
-use lib.Dec.{eqb}
+use borrow.Author.Tests.{le-leb}
+use lib.Dec.{leb}
 use lib.ListN.{length, take, drop}
 use lib.IntN.{ℤ, pos}
 use Rattle.numbers.specs.Naturals.{natOf}
 use Rattle.numbers.specs.Search.{maybe}
 use Rattle.numbers.proofs.Bools.{both}
+use Rattle.numbers.proofs.Search.{from-bound}
 use Rattle.calendar.specs.Calendar.{isDay}
+use Rattle.calendar.proofs.Dates.{within-natural, day-natural}
 use Rattle.daybook.specs.declared.StatusNotice.{StatusNotice}
 use Rattle.daybook.specs.Notices.{Row, least, Numbers, isMirn, isFlag, statusEarly, statusRows, status}
 use Rattle.daybook.proofs.Lists.{Lists, Register, bookOf}
@@ -22,18 +24,28 @@ use Rattle.daybook.proofs.Bounds.{within-bounds}
 use Rattle.daybook.proofs.StatusStep.{status-clear, status-step, status-keeps}
 use Rattle.daybook.proofs.Switch.{offs-after-few}
 use Rattle.daybook.proofs.Well.{Well, WellFormed}
-use Rattle.layout.specs.Layout.{standard, partOf, withPart, pointNumbers, pointFrom, registerOf}
-use Rattle.layout.specs.Sound.{sound}
-use Rattle.layout.proofs.Numbers.{Few}
+use Rattle.layout.specs.Layout.{standard, partOf, withPart, numAt, pointNumbers, pointFrom, registerOf}
+use Rattle.layout.specs.Sound.{partSound, sound}
+use Rattle.layout.proofs.Numbers.{Few, few, length-point}
+use Rattle.layout.proofs.PartSound.{lays-part}
 use Rattle.layout.proofs.Parts.{with-part-own}
 use Rattle.layout.proofs.TableSound.{sound-lays, standard-fits}
 use Rattle.table.specs.Lookup.{indexOf}
+use Rattle.table.proofs.Laws.{mirnAt, sound-long}
 use Rattle.table.proofs.Found.{Found, found, missing}
 use Rattle.table.proofs.Calls.{call-unsound, row, call-refused, call-entered}
 use Rattle.status.specs.Status.{statusCall}
 
 abbrev pub inRange : StatusNotice → Bool
 inRange n = isMirn (n .mirn) && isDay (n .day) && isFlag (n .on)
+
+-- the code's tests of the naturals that it reads
+pub range-tests : (n : StatusNotice) (m d o : ℕ) → m ≡ natOf (n .mirn) → d ≡ natOf (n .day) → o ≡ natOf (n .on)
+    → ((leb 1 m && leb m 9999999999) && leb d 39999 && leb o 1) ≡ inRange n
+range-tests n m d o a b c =
+    ap₂ _&&_
+    (ap₂ _&&_ (ap (λ m. leb 1 m && leb m 9999999999) a ∙ within-natural 1 9999999999 (n .mirn) (omega arith)) (ap (λ d. leb d 39999) b ∙ day-natural (n .day)))
+    (ap (λ o. leb o 1) c ∙ ap (λ t. t && leb (natOf (n .on)) 1) (sym (le-leb 0 (natOf (n .on)) (omega arith))) ∙ within-natural 0 1 (n .on) (omega arith))
 
 -- what row 2 lets through
 pub range-bounds : (n : StatusNotice) → inRange n ≡ true → (natOf (n .day) ≤ 39999) × (natOf (n .on) ≤ 1)
@@ -54,6 +66,32 @@ rows n q = rowsOf (natOf (n .day)) (natOf (n .on)) q
 
 abbrev effect : StatusNotice → Lists → Numbers × Lists
 effect n q = ([], effectOf (natOf (n .day)) (natOf (n .on)) q)
+
+-- ---- the search by MIRN
+
+module _ (t : List ℤ) (s : sound standard t ≡ true) (m i : ℕ) (e : i ≡ maybe 32 (λ k. k) (indexOf standard t m)) where
+  pub index-none : i ≡ 32 → indexOf standard t m ≡ none
+  unfolding indexOf
+  index-none z = go (indexOf standard t m) (λ k q. from-bound (mirnAt t m) 0 (numAt t 0) k q .1) (sym z ∙ e)
+    where
+      go : (o : Option ℕ) → ((k : ℕ) → o ≡ some k → k < 0 + numAt t 0) → 32 ≡ maybe 32 (λ k. k) o → o ≡ none
+      go none f h = refl
+      go (some k) f h = absurd (omega (arith, f k refl, sound-long t s .1))
+
+  pub point-found : (i ≡ 32 → ⊥) → Found standard t m i
+  point-found n = found standard standard-fits t s m i (go (indexOf standard t m) e)
+    where
+      go : (o : Option ℕ) → i ≡ maybe 32 (λ k. k) o → o ≡ some i
+      go none h = absurd (n h)
+      go (some k) h = ap some (sym h)
+
+  -- the part that is lent is sound
+  pub lent-sound : (i ≡ 32 → ⊥) → (partSound (partOf standard t i) ≡ true) × (length (partOf standard t i) ≡ 240)
+  lent-sound n =
+      let f : Found standard t m i = point-found n in
+      (ap partSound (sym (f .laid)) ∙ lays-part (f .well), ap length (sym (f .laid)) ∙ length-point (few (f .well)))
+
+-- ---- each way that the code ends
 
 module _ (t : List ℤ) (n : StatusNotice) where
   pub unsound-is : sound standard t ≡ false → statusCall t n ≡ (pos 1 ∷ [], t)

@@ -49,12 +49,12 @@ on-by day (off, some on) u e f =
 
 -- ---- the last rows
 
-module _ {room : ℕ} {q : Lists} (w : Well room q) (p : List ℤ) (e : p ≡ pointNumbers room q) where
-  spans-count : numAt p 5 ≡ length (q .offs)
-  spans-count = ap (λ p. numAt p 5) e ∙ cell-offs room q
+module _ {room : ℕ} {q : Lists} (w : Well room q) {p : List ℤ} (e : pointNumbers room q ≡ p) where
+  pub spans-count : numAt p 5 ≡ length (q .offs)
+  spans-count = ap (λ p. numAt p 5) (sym e) ∙ cell-offs room q
 
   recs-count : numAt p 6 ≡ length (q .recs)
-  recs-count = ap (λ p. numAt p 6) e ∙ cell-recs room q
+  recs-count = ap (λ p. numAt p 6) (sym e) ∙ cell-recs room q
 
   module _ (day n : ℕ) (c : n ≡ numAt p 5) where
     pub off-unswitched : n ≡ 0 → false ≡ cannotOff day (lastOf (q .offs))
@@ -78,7 +78,7 @@ module _ {room : ℕ} {q : Lists} (w : Well room q) (p : List ℤ) (e : p ≡ po
 
       last-until : untilOf (getD p (32 + 2 * (n - 1) + 1) (pos 0)) ≡ maybe 40001 (λ d. d) (lastSpan .1)
       last-until =
-          ap (λ p. untilOf (getD p (32 + 2 * (n - 1) + 1) (pos 0))) e
+          ap (λ p. untilOf (getD p (32 + 2 * (n - 1) + 1) (pos 0))) (sym e)
           ∙ ap untilOf (cell-on (few w) (n - 1) row-low) ∙ until-on (lastSpan .1) span-day
 
       pub off-switched : (u : ℕ) → u ≡ untilOf (getD p (32 + 2 * (n - 1) + 1) (pos 0)) → day ≤ 39999
@@ -88,7 +88,7 @@ module _ {room : ℕ} {q : Lists} (w : Well room q) (p : List ℤ) (e : p ≡ po
       pub on-switched : (u s : ℕ) → u ≡ untilOf (getD p (32 + 2 * (n - 1) + 1) (pos 0)) → s ≡ numAt p (32 + 2 * (n - 1))
           → (not (eqb u 40001) || leb day s) ≡ cannotOn day (lastOf (q .offs))
       on-switched u s r v =
-          ap (λ s. not (eqb u 40001) || leb day s) (v ∙ ap (λ p. numAt p (32 + 2 * (n - 1))) e ∙ cell-off (few w) (n - 1) row-low)
+          ap (λ s. not (eqb u 40001) || leb day s) (v ∙ ap (λ p. numAt p (32 + 2 * (n - 1))) (sym e) ∙ cell-off (few w) (n - 1) row-low)
           ∙ on-by day lastSpan u (r ∙ last-until) span-day ∙ ap (cannotOn day) (sym last-span)
 
   module _ (day n : ℕ) (c : n ≡ numAt p 6) where
@@ -101,27 +101,28 @@ module _ {room : ℕ} {q : Lists} (w : Well room q) (p : List ℤ) (e : p ≡ po
     pub filled-to : (n ≡ 0 → ⊥) → (d : ℕ) → d ≡ numAt p (48 + 4 * (n - 1) + 1) → leb day d ≡ maybe false (leb day) (lastEnd (q .recs))
     unfolding lastEnd
     filled-to some-rec d r =
-        ap (leb day) (r ∙ ap (λ p. numAt p (48 + 4 * (n - 1) + 1)) e ∙ cell-rec-end (few w) (n - 1))
+        ap (leb day) (r ∙ ap (λ p. numAt p (48 + 4 * (n - 1) + 1)) (sym e) ∙ cell-rec-end (few w) (n - 1))
         ∙ ap (λ (o : Option Entry). maybe false (leb day) (maybe none (λ x. some (x .end)) o))
         (sym (last-at noRec (q .recs) (n - 1) (omega (arith, recs-count, some-rec))))
 
   pub part-install : numAt p 2 ≡ q .facts .install
-  part-install = ap (λ p. numAt p 2) e ∙ cell-install room q
+  part-install = ap (λ p. numAt p 2) (sym e) ∙ cell-install room q
 
   -- ---- what is written
 
-  pub open-is : (day n : ℕ) → n ≡ numAt p 5 → n < 8 → openSpan p n day ≡ pointNumbers room (withOffs (offsAfter day 0 (q .offs)) q)
+  pub open-is : (day n on : ℕ) → n ≡ numAt p 5 → n < 8 → on ≡ 0 → openSpan p n day ≡ pointNumbers room (withOffs (offsAfter day on (q .offs)) q)
   unfolding offsAfter
-  open-is day n c h =
-      ap₂ (λ p n. openSpan p n day) e (c ∙ spans-count)
-      ∙ open-span room q (few w) day (omega (arith, spans-count))
+  open-is day n on c h z =
+      rw (eq-eqb on 0 z)
+      (ap₂ (λ p n. openSpan p n day) (sym e) (c ∙ spans-count)
+      ∙ open-span room q (few w) day (omega (arith, spans-count)))
 
   pub close-is : (day n on : ℕ) → n ≡ numAt p 5 → 1 ≤ n → 1 ≤ on → closeSpan p (n - 1) day ≡ pointNumbers room (withOffs (offsAfter day on (q .offs)) q)
   unfolding offsAfter
   close-is day n on c h k =
       let m : length (q .offs) ≡ suc (n - 1) = omega (arith, spans-count) in
       let x : ℕ × Option ℕ = getD (q .offs) (n - 1) noOff in
-      ap₂ (λ p n. closeSpan p n day) e (sym (length-take-le (n - 1) (q .offs) (omega arith)))
+      ap₂ (λ p n. closeSpan p n day) (sym e) (sym (length-take-le (n - 1) (q .offs) (omega arith)))
       ∙ close-span room q (few w) (take (n - 1) (q .offs)) (x .0) (x .1) day (split-last noOff (q .offs) (n - 1) m)
       ∙ rw (ne-eqb on 0 (λ (z : on ≡ 0). omega arith)) (ap (λ l. pointNumbers room (withOffs l q)) (sym (closed-last day (q .offs) (n - 1) m)))
 

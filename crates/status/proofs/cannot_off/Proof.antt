@@ -1,42 +1,50 @@
+use Rattle.layout.proofs.PartLays.{part-lays}
+use Rattle.status.proofs.Part.{off-unswitched, off-switched, spans-few}
 use borrow.Author.Needs.{needs}
 use Rattle.status.proofs.cannot_off.Statement.{statement}
 use Rattle.status.proofs.cannot_off.Tie as tie
-use Rattle.status.proofs.cannot_off.Reads as reads
-use Rattle.status.proofs.cannot_off.Lts as lts
-use Rattle.numbers.proofs.get.Reads as get-reads
-use Rattle.point.proofs.get_until.Reads as get-until-reads
 
--- src/lib.rt:37:13
 get-requires : tie.Need-get-requires
 get-requires c κs = search needs
 
--- src/lib.rt:39:9
 returns : tie.Need-returns
-returns c = ?
+returns c =
+    let s = c .before .before in
+    let l = part-lays (s .args .p .now) 48 (s .pre .1) (s .pre .0) in
+    off-unswitched (l .0) (l .1) (s .args .day) _ (c .before .get .ensures .0) (c .if1 .taken)
 
--- src/lib.rt:41:42
 sub-get-until : tie.Need-sub-get-until
 sub-get-until c = search needs
 
--- src/lib.rt:41:37
 mul-get-until : tie.Need-mul-get-until
 mul-get-until c = search needs
 
--- src/lib.rt:41:32
 add-get-until : tie.Need-add-get-until
-add-get-until c = ?
+add-get-until c =
+    let s = c .before .before in
+    let l = part-lays (s .args .p .now) 48 (s .pre .1) (s .pre .0) in
+    let h = spans-few (l .0) (l .1) in
+    search needs
 
--- src/lib.rt:41:32
 add-get-until-2 : tie.Need-add-get-until-2
-add-get-until-2 c = ?
+add-get-until-2 c =
+    let s = c .before .before in
+    let l = part-lays (s .args .p .now) 48 (s .pre .1) (s .pre .0) in
+    let h = spans-few (l .0) (l .1) in
+    search needs
 
--- src/lib.rt:41:12
 get-until-requires : tie.Need-get-until-requires
-get-until-requires c κs = ?
+get-until-requires c κs =
+    let s = c .before .before in
+    let l = part-lays (s .args .p .now) 48 (s .pre .1) (s .pre .0) in
+    let h = spans-few (l .0) (l .1) in
+    search needs
 
--- src/lib.rt:33:1
 returns-2 : tie.Need-returns-2
-returns-2 c = ?
+returns-2 c =
+    let s = c .before .before .before in
+    let l = part-lays (s .args .p .now) 48 (s .pre .1) (s .pre .0) in
+    off-switched (l .0) (l .1) (s .args .day) _ (c .before .before .get .ensures .0) (c .before .if1 .left) _ (c .get-until .ensures .0) (s .pre .2)
 
 pub cannot-off-spec : {M : Type 1} → statement M
 cannot-off-spec =

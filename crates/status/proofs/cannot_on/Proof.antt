@@ -1,46 +1,57 @@
+use Rattle.layout.proofs.PartLays.{part-lays}
+use Rattle.status.proofs.Part.{on-unswitched, on-switched, spans-few}
 use borrow.Author.Needs.{needs}
 use Rattle.status.proofs.cannot_on.Statement.{statement}
 use Rattle.status.proofs.cannot_on.Tie as tie
-use Rattle.status.proofs.cannot_on.Reads as reads
-use Rattle.status.proofs.cannot_on.Lts as lts
-use Rattle.numbers.proofs.get.Reads as get-reads
-use Rattle.point.proofs.get_until.Reads as get-until-reads
 
--- src/lib.rt:49:13
 get-requires : tie.Need-get-requires
 get-requires c κs = search needs
 
--- src/lib.rt:51:9
 returns : tie.Need-returns
-returns c = ?
+returns c =
+    let s = c .before .before in
+    let l = part-lays (s .args .p .now) 48 (s .pre .1) (s .pre .0) in
+    on-unswitched (l .0) (l .1) (s .args .day) _ (c .before .get .ensures .0) (c .if1 .taken)
 
--- src/lib.rt:53:24
 sub-at : tie.Need-sub-at
 sub-at c = search needs
 
--- src/lib.rt:53:19
 mul-at : tie.Need-mul-at
 mul-at c = search needs
 
--- src/lib.rt:53:14
 add-at : tie.Need-add-at
-add-at c = ?
+add-at c =
+    let s = c .before .before in
+    let l = part-lays (s .args .p .now) 48 (s .pre .1) (s .pre .0) in
+    let h = spans-few (l .0) (l .1) in
+    search needs
 
--- src/lib.rt:54:26
 add-get-until : tie.Need-add-get-until
-add-get-until c = ?
+add-get-until c =
+    let s = c .before .before in
+    let l = part-lays (s .args .p .now) 48 (s .pre .1) (s .pre .0) in
+    let h = spans-few (l .0) (l .1) in
+    search needs
 
--- src/lib.rt:54:6
 get-until-requires : tie.Need-get-until-requires
-get-until-requires c κs = ?
+get-until-requires c κs =
+    let s = c .before .before in
+    let l = part-lays (s .args .p .now) 48 (s .pre .1) (s .pre .0) in
+    let h = spans-few (l .0) (l .1) in
+    search needs
 
--- src/lib.rt:54:54
 get-requires-2 : tie.Need-get-requires-2
-get-requires-2 c κs = ?
+get-requires-2 c κs =
+    let s = c .before .before .before in
+    let l = part-lays (s .args .p .now) 48 (s .pre .1) (s .pre .0) in
+    let h = spans-few (l .0) (l .1) in
+    search needs
 
--- src/lib.rt:45:1
 returns-2 : tie.Need-returns-2
-returns-2 c = ?
+returns-2 c =
+    let s = c .before .before .before .before in
+    let l = part-lays (s .args .p .now) 48 (s .pre .1) (s .pre .0) in
+    on-switched (l .0) (l .1) (s .args .day) _ (c .before .before .before .get .ensures .0) (c .before .before .if1 .left) _ _ (c .before .get-until .ensures .0) (c .get2 .ensures .0)
 
 pub cannot-on-spec : {M : Type 1} → statement M
 cannot-on-spec =

@@ -1,36 +1,31 @@
+use mathlib.Core.Path.{_∙_}
+use borrow.Author.Tests.{eq-eqb, ne-eqb}
+use Rattle.layout.proofs.PartLays.{part-lays}
+use Rattle.status.proofs.Part.{part-install}
 use borrow.Author.Needs.{needs}
 use Rattle.status.proofs.cannot_switch.Statement.{statement}
 use Rattle.status.proofs.cannot_switch.Tie as tie
-use Rattle.status.proofs.cannot_switch.Reads as reads
-use Rattle.status.proofs.cannot_switch.Lts as lts
-use Rattle.numbers.proofs.get.Reads as get-reads
-use Rattle.status.proofs.cannot_off.Reads as cannot-off-reads
-use Rattle.status.proofs.cannot_on.Reads as cannot-on-reads
-use Rattle.status.proofs.filled_from.Reads as filled-from-reads
 
--- src/lib.rt:75:9
 cannot-on-requires : tie.Need-cannot-on-requires
 cannot-on-requires c κs = search needs
 
--- src/lib.rt:75:9
 returns : tie.Need-returns
-returns c = ?
+returns c = rw (eq-eqb _ 1 (c .before .if1 .taken)) (c .cannot-on .ensures)
 
--- src/lib.rt:77:5
 cannot-off-requires : tie.Need-cannot-off-requires
 cannot-off-requires c κs = search needs
 
--- src/lib.rt:77:26
 filled-from-requires : tie.Need-filled-from-requires
 filled-from-requires c κs = search needs
 
--- src/lib.rt:77:55
 get-requires : tie.Need-get-requires
 get-requires c κs = search needs
 
--- src/lib.rt:70:1
 returns-2 : tie.Need-returns-2
-returns-2 c = ?
+returns-2 c =
+    let s = c .before .before .before .before in
+    let l = part-lays (s .args .p .now) 48 (s .pre .1) (s .pre .0) in
+    rw (ne-eqb _ 1 (c .before .before .before .if1 .left), c .before .before .cannot-off .ensures, c .before .filled-from .ensures, c .get .ensures .0 ∙ part-install (l .0) (l .1))
 
 pub cannot-switch-spec : {M : Type 1} → statement M
 cannot-switch-spec =
