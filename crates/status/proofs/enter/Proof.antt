@@ -1,3 +1,4 @@
+use mathlib.Core.Path.{refl}
 use borrow.Author.Tests.{eq-eqb, ne-eqb}
 use borrow.Author.Needs.{needs}
 use Rattle.status.proofs.enter.Statement.{statement}
@@ -13,13 +14,14 @@ same-length : tie.Need-same-length
 same-length c = search needs
 
 returns : tie.Need-returns
-returns c = ?
+returns c =
+    (c .before .before .before .before .refusal .ensures, rw (eq-eqb _ 0 (c .before .before .before .if1 .taken)) (c .before .switch .ensures))
 
 same-length-2 : tie.Need-same-length-2
 same-length-2 c = search needs
 
 returns-2 : tie.Need-returns-2
-returns-2 c = ?
+returns-2 c = (c .before .refusal .ensures, rw (ne-eqb _ 0 (c .if1 .left)) refl)
 
 pub enter-spec : {M : Type 1} → statement M
 enter-spec =
