@@ -51,8 +51,8 @@ range-tests n m d o a b c =
 -- what row 2 lets through
 pub range-bounds : (n : StatusNotice) → inRange n ≡ true → (natOf (n .day) ≤ 39999) × (natOf (n .on) ≤ 1)
 range-bounds n e =
-    let a = both _ _ e in
-    let b = both _ _ (a .0) in
+    let a = both (isMirn (n .mirn) && isDay (n .day)) (isFlag (n .on)) e in
+    let b = both (isMirn (n .mirn)) (isDay (n .day)) (a .0) in
     (within-bounds 0 39999 (n .day) (b .1) .1, within-bounds 0 1 (n .on) (a .1) .1)
 
 -- The rows and the effect on a point's lists, by the notice's numbers.
@@ -140,12 +140,13 @@ module _ (t : List ℤ) (n : StatusNotice) where
 
     module _ (i : inRange n ≡ true) (k : ℕ) (at : k ≡ maybe 32 (λ k. k) (indexOf standard t (natOf (n .mirn)))) where
       pub missing-ends : k ≡ 32 → Ends t n (pos 4 ∷ []) t
-      unfolding statusEarly least
+      unfolding statusEarly above
       missing-ends e =
           ends t n
           (refused-is 3
           (least-skip 2 _ _ (ap not i)
-          ∙ ap (λ o. least (maybe ((4, true) ∷ []) (rows n) o)) (missing standard standard-fits t s (natOf (n .mirn)) (index-none t s (natOf (n .mirn)) k at e))))
+          ∙ ap (λ o. least (maybe ((4, true) ∷ []) (rows n) o)) (missing standard standard-fits t s (natOf (n .mirn)) (index-none t s (natOf (n .mirn)) k at e))
+          ∙ least-first 4 true [] refl refl))
 
       module _ (there : k ≡ 32 → ⊥) where
         abbrev q : Lists

@@ -135,9 +135,9 @@ pub fn status(t: &mut [i64], n: StatusNotice) -> NoticeAnswer
     }
     let a = 8 + 240 * i;
     let b = a + 240;
-    let row = enter(&mut t[a..b], numbers::natural(day), numbers::natural(on));
-    if row == 0 {
+    let refused = enter(&mut t[a..b], numbers::natural(day), numbers::natural(on));
+    if refused == 0 {
         return NoticeAnswer::Entered;
     }
-    NoticeAnswer::Refused(row)
+    NoticeAnswer::Refused(refused)
 }

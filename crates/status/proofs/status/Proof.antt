@@ -1,5 +1,6 @@
 use mathlib.Core.Path.{_≡_, sym, ap, _∙_}
 use mathlib.Core.Bool.{true}
+use Prim.Native.Nat.{_≤_}
 use native.Mathlib.Omega.{arith}
 use mir.Syntax.{w64}
 use mir.ValLaws.{toZ-ofZ}
@@ -103,11 +104,13 @@ natural-requires-3 c κs = search needs
 
 enter-requires : tie.Need-enter-requires
 enter-requires c κs =
-    let t = c .before .before .before .before .before .before .before .before .before .before .before .before .before .before .before .args .t .now in
+    let s = c .before .before .before .before .before .before .before .before .before .before .before .before .before .before .before in
     let i = index-is (c .before .before .before .before) in
-    let p = lent-sound t (sound-is (c .before .before .before .before .before .before .before .before .before .before .before .before)) _ _ i (c .before .before .before .if3 .left) in
-    let b = range-bounds _ (range-is (c .before .before .before .before .before .before .before .before .before .before)) in
-    (ap partSound (part-is t _) ∙ p .0, ap length (part-is t _) ∙ p .1, omega (arith, day-is (c .before)), omega (arith, on-is c))
+    let p = lent-sound (s .args .t .now) (sound-is (c .before .before .before .before .before .before .before .before .before .before .before .before)) _ _ i (c .before .before .before .if3 .left) in
+    let b = range-bounds (s .args .n) (range-is (c .before .before .before .before .before .before .before .before .before .before)) in
+    let d : c .before .natural2 .result ≤ 39999 = omega (arith, day-is (c .before), b .0) in
+    let o : c .natural3 .result ≤ 1 = omega (arith, on-is c, b .1) in
+    (ap partSound (part-is (s .args .t .now) _) ∙ p .0, ap length (part-is (s .args .t .now) _) ∙ p .1, d, o)
 
 same-length-4 : tie.Need-same-length-4
 same-length-4 c = search needs
