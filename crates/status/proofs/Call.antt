@@ -35,6 +35,7 @@ use Rattle.table.specs.Lookup.{indexOf}
 use Rattle.table.proofs.Laws.{mirnAt, part-is, sound-long}
 use Rattle.table.proofs.Found.{Found, found, missing}
 use Rattle.table.proofs.Calls.{call-unsound, row, call-refused, call-entered}
+use Rattle.status.specs.Part.{rowsOf, switchedLists}
 use Rattle.status.specs.Status.{statusCall}
 
 abbrev pub inRange : StatusNotice → Bool
@@ -55,18 +56,12 @@ range-bounds n e =
     let b = both (isMirn (n .mirn)) (isDay (n .day)) (a .0) in
     (within-bounds 0 39999 (n .day) (b .1) .1, within-bounds 0 1 (n .on) (a .1) .1)
 
--- The rows and the effect on a point's lists, by the notice's numbers.
-abbrev pub rowsOf : ℕ → ℕ → Lists → List Row
-rowsOf day on q = statusRows day on (q .facts .install) (lastEnd (q .recs)) (q .offs)
-
-abbrev pub effectOf : ℕ → ℕ → Lists → Lists
-effectOf day on q = withOffs (offsAfter day on (q .offs)) q
-
+-- The rows and the effect on a point's lists.
 abbrev rows : StatusNotice → Lists → List Row
 rows n q = rowsOf (natOf (n .day)) (natOf (n .on)) q
 
 abbrev effect : StatusNotice → Lists → Numbers × Lists
-effect n q = ([], effectOf (natOf (n .day)) (natOf (n .on)) q)
+effect n q = ([], switchedLists (natOf (n .day)) (natOf (n .on)) q)
 
 -- ---- the search by MIRN
 
@@ -182,7 +177,7 @@ module _ (t : List ℤ) (n : StatusNotice) where
         -- what the work on the part gave: the row, and the part that it left
         module _ (r day on : ℕ) (p : List ℤ) (d : day ≡ natOf (n .day)) (o : on ≡ natOf (n .on))
             (given : r ≡ least (rowsOf day on (pointFrom (lent t k))))
-            (left : p ≡ cond (eqb r 0) (pointNumbers 48 (effectOf day on (pointFrom (lent t k)))) (lent t k)) where
+            (left : p ≡ cond (eqb r 0) (pointNumbers 48 (switchedLists day on (pointFrom (lent t k)))) (lent t k)) where
           given-is : least (rows n q) ≡ r
           given-is = sym (given ∙ ap (λ p. least (rowsOf day on (pointFrom p))) (part-is t k) ∙ ap₂ (λ day on. least (rowsOf day on q)) d o)
 
@@ -191,7 +186,7 @@ module _ (t : List ℤ) (n : StatusNotice) where
               ends t n
               (entered-there (given-is ∙ z)
               ∙ ap (λ u. (pos 0 ∷ [], u))
-              (sym (back-is t k p ∙ ap (withPart standard t k) (left ∙ rw (eq-eqb r 0 z) (ap (λ p. pointNumbers 48 (effectOf day on (pointFrom p))) (part-is t k) ∙ ap₂ (λ day on. pointNumbers 48 (effectOf day on q)) d o)))))
+              (sym (back-is t k p ∙ ap (withPart standard t k) (left ∙ rw (eq-eqb r 0 z) (ap (λ p. pointNumbers 48 (switchedLists day on (pointFrom p))) (part-is t k) ∙ ap₂ (λ day on. pointNumbers 48 (switchedLists day on q)) d o)))))
 
           pub refused-ends : (r ≡ 0 → ⊥) → Ends t n (pos r ∷ []) (handedBack t k p)
           refused-ends z =

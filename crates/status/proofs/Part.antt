@@ -26,6 +26,7 @@ use Rattle.layout.proofs.Cells.{noOff, noRec, cell-install, cell-offs, cell-rec
 use Rattle.layout.proofs.PartLays.{part-lays}
 use Rattle.layout.proofs.RowWrites.{open-span, close-span}
 use Rattle.point.specs.Tests.{untilOf}
+use Rattle.status.specs.Part.{filledFrom, cannotSwitch, rowsOf, switchedLists}
 use Rattle.status.proofs.LastRow.{last-none, last-at, split-last, closed-last, on-day}
 
 -- ---- one span
@@ -92,13 +93,13 @@ module _ {room : ℕ} {q : Lists} (w : Well room q) {p : List ℤ} (e : pointNum
           ∙ on-by day lastSpan u (r ∙ last-until) span-day ∙ ap (cannotOn day) (sym last-span)
 
   module _ (day n : ℕ) (c : n ≡ numAt p 6) where
-    pub unfilled : n ≡ 0 → false ≡ maybe false (leb day) (lastEnd (q .recs))
+    pub unfilled : n ≡ 0 → false ≡ filledFrom day q
     unfolding lastEnd
     unfilled z =
         ap (λ (o : Option Entry). maybe false (leb day) (maybe none (λ x. some (x .end)) o))
         (sym (last-none noRec (q .recs) (omega (arith, recs-count))))
 
-    pub filled-to : (n ≡ 0 → ⊥) → (d : ℕ) → d ≡ numAt p (48 + 4 * (n - 1) + 1) → leb day d ≡ maybe false (leb day) (lastEnd (q .recs))
+    pub filled-to : (n ≡ 0 → ⊥) → (d : ℕ) → d ≡ numAt p (48 + 4 * (n - 1) + 1) → leb day d ≡ filledFrom day q
     unfolding lastEnd
     filled-to some-rec d r =
         ap (leb day) (r ∙ ap (λ p. numAt p (48 + 4 * (n - 1) + 1)) (sym e) ∙ cell-rec-end (few w) (n - 1))
@@ -110,14 +111,14 @@ module _ {room : ℕ} {q : Lists} (w : Well room q) {p : List ℤ} (e : pointNum
 
   -- ---- what is written
 
-  pub open-is : (day n on : ℕ) → n ≡ numAt p 5 → n < 8 → on ≡ 0 → openSpan p n day ≡ pointNumbers room (withOffs (offsAfter day on (q .offs)) q)
+  pub open-is : (day n on : ℕ) → n ≡ numAt p 5 → n < 8 → on ≡ 0 → openSpan p n day ≡ pointNumbers room (switchedLists day on q)
   unfolding offsAfter
   open-is day n on c h z =
       rw (eq-eqb on 0 z)
       (ap₂ (λ p n. openSpan p n day) (sym e) (c ∙ spans-count)
       ∙ open-span room q (few w) day (omega (arith, spans-count)))
 
-  pub close-is : (day n on : ℕ) → n ≡ numAt p 5 → 1 ≤ n → 1 ≤ on → closeSpan p (n - 1) day ≡ pointNumbers room (withOffs (offsAfter day on (q .offs)) q)
+  pub close-is : (day n on : ℕ) → n ≡ numAt p 5 → 1 ≤ n → 1 ≤ on → closeSpan p (n - 1) day ≡ pointNumbers room (switchedLists day on q)
   unfolding offsAfter
   close-is day n on c h k =
       let m : length (q .offs) ≡ suc (n - 1) = omega (arith, spans-count) in
@@ -136,33 +137,33 @@ module _ {room : ℕ} {q : Lists} (w : Well room q) {p : List ℤ} (e : pointNum
 
 -- ---- the rows
 
-module _ (day on install : ℕ) (o : Option ℕ) (l : List (ℕ × Option ℕ)) (b : Bool)
-    (fourteen : b ≡ cond (eqb on 1) (cannotOn day (lastOf l)) (cannotOff day (lastOf l) || maybe false (leb day) o || ltb day install)) where
-  pub row-fourteen : b ≡ true → 14 ≡ least (statusRows day on install o l)
-  unfolding statusRows above
-  row-fourteen h = sym (least-first 14 _ ((16, eqb on 0 && leb 8 (length l)) ∷ []) refl (sym fourteen ∙ h))
+module _ (day on : ℕ) (q : Lists) (b : Bool) (fourteen : b ≡ cannotSwitch day on q) where
+  abbrev full : Bool
+  full = eqb on 0 && leb 8 (length (q .offs))
 
-  pub row-sixteen : b ≡ false → (eqb on 0 && leb 8 (length l)) ≡ true → 16 ≡ least (statusRows day on install o l)
+  pub row-fourteen : b ≡ true → 14 ≡ least (rowsOf day on q)
   unfolding statusRows above
-  row-sixteen h k =
-      sym (least-skip 14 _ ((16, eqb on 0 && leb 8 (length l)) ∷ []) (sym fourteen ∙ h) ∙ least-first 16 _ [] refl k)
+  row-fourteen h = sym (least-first 14 _ ((16, full) ∷ []) refl (sym fourteen ∙ h))
 
-  pub row-none : b ≡ false → (eqb on 0 && leb 8 (length l)) ≡ false → 0 ≡ least (statusRows day on install o l)
+  pub row-sixteen : b ≡ false → full ≡ true → 16 ≡ least (rowsOf day on q)
+  unfolding statusRows above
+  row-sixteen h k = sym (least-skip 14 _ ((16, full) ∷ []) (sym fourteen ∙ h) ∙ least-first 16 _ [] refl k)
+
+  pub row-none : b ≡ false → full ≡ false → 0 ≡ least (rowsOf day on q)
   unfolding statusRows least
-  row-none h k =
-      sym (least-skip 14 _ ((16, eqb on 0 && leb 8 (length l)) ∷ []) (sym fourteen ∙ h) ∙ least-skip 16 _ [] k)
+  row-none h k = sym (least-skip 14 _ ((16, full) ∷ []) (sym fourteen ∙ h) ∙ least-skip 16 _ [] k)
 
 -- where no row applies, there is room for a span that opens, and a span to close
-module _ (day on install : ℕ) (o : Option ℕ) (l : List (ℕ × Option ℕ)) (z : least (statusRows day on install o l) ≡ 0) where
-  pub room-to-open : on ≡ 0 → length l < 8
+module _ (day on : ℕ) (q : Lists) (z : least (rowsOf day on q) ≡ 0) where
+  pub room-to-open : on ≡ 0 → length (q .offs) < 8
   unfolding statusRows
   room-to-open e =
       let t = least-none 15 _ [] (least-none 13 _ _ z .1) .0 in
-      leb-false 8 (length l) (rw (eq-eqb on 0 e) at t)
+      leb-false 8 (length (q .offs)) (rw (eq-eqb on 0 e) at t)
 
-  pub span-to-close : on ≡ 1 → 1 ≤ length l
+  pub span-to-close : on ≡ 1 → 1 ≤ length (q .offs)
   unfolding statusRows lastOf
-  span-to-close e = go l (rw (eq-eqb on 1 e) at (least-none 13 _ _ z .0))
+  span-to-close e = go (q .offs) (rw (eq-eqb on 1 e) at (least-none 13 _ _ z .0))
     where
       go : (l : List (ℕ × Option ℕ)) → cannotOn day (lastOf l) ≡ false → 1 ≤ length l
       go [] h = let k : _≡_ {A = ℕ} 0 1 = cc in absurd (omega arith)

@@ -2,18 +2,17 @@
 // before it work on that point's part alone, which the table's soundness makes the layout of well-formed lists.
 use daybook::{NoticeAnswer, StatusNotice};
 ghost use mathlib.Core.Path.{_≡_};
-ghost use mathlib.Core.Bool.{true, false, _&&_, _||_, cond};
+ghost use mathlib.Core.Bool.{true, _&&_, cond};
 ghost use Prim.Native.Nat.{_≤_};
-ghost use lib.Dec.{leb, ltb, eqb};
+ghost use lib.Dec.{eqb};
 ghost use lib.ListN.{length};
-ghost use Rattle.numbers.specs.Search.{maybe};
 ghost use Rattle.calendar.specs.Calendar.{isDay};
 ghost use Rattle.daybook.specs.Book.{lastOf};
-ghost use Rattle.daybook.specs.Notices.{least, isMirn, isFlag, cannotOff, cannotOn, statusRows};
+ghost use Rattle.daybook.specs.Notices.{least, isMirn, isFlag, cannotOff, cannotOn};
 ghost use Rattle.daybook.specs.Calls.{noticeNumbers};
-ghost use Rattle.daybook.proofs.Steps.{lastEnd, offsAfter, withOffs};
 ghost use Rattle.layout.specs.Layout.{pointNumbers, pointFrom};
 ghost use Rattle.layout.specs.Sound.{partSound};
+ghost use Rattle.status.specs.Part.{filledFrom, cannotSwitch, rowsOf, switchedLists};
 ghost use Rattle.status.specs.Status.{statusCall};
 
 // Row 2.
@@ -54,10 +53,10 @@ fn cannot_on(p: &[i64], day: u64) -> bool
     (point::get_until(p, at + 1) != 40001) | (day <= numbers::get(p, at))
 }
 
-// Is a day from this one on filled?
+// Is this day or a later one filled?
 fn filled_from(p: &[i64], day: u64) -> bool
     requires { ⌜ (partSound (now p) ≡ true) × (length (now p) ≡ 240) ⌝ }
-    ensures { λ r. ⌜ r ≡ maybe false (leb day) (lastEnd (pointFrom (now (p .entry)) .recs)) ⌝ }
+    ensures { λ r. ⌜ r ≡ filledFrom day (pointFrom (now (p .entry))) ⌝ }
 {
     let n = numbers::get(p, 6) as usize;
     if n == 0 {
@@ -69,7 +68,7 @@ fn filled_from(p: &[i64], day: u64) -> bool
 // Row 14.
 fn cannot_switch(p: &[i64], day: u64, on: u64) -> bool
     requires { ⌜ (partSound (now p) ≡ true) × (length (now p) ≡ 240) × (day ≤ 39999) ⌝ }
-    ensures { λ r. ⌜ r ≡ cond (eqb on 1) (cannotOn day (lastOf (pointFrom (now (p .entry)) .offs))) (cannotOff day (lastOf (pointFrom (now (p .entry)) .offs)) || maybe false (leb day) (lastEnd (pointFrom (now (p .entry)) .recs)) || ltb day (pointFrom (now (p .entry)) .facts .install)) ⌝ }
+    ensures { λ r. ⌜ r ≡ cannotSwitch day on (pointFrom (now (p .entry))) ⌝ }
 {
     if on == 1 {
         return cannot_on(p, day);
@@ -80,7 +79,7 @@ fn cannot_switch(p: &[i64], day: u64, on: u64) -> bool
 // The row that sends the notice back, 0 if none does.
 fn refusal(p: &[i64], day: u64, on: u64) -> u64
     requires { ⌜ (partSound (now p) ≡ true) × (length (now p) ≡ 240) × (day ≤ 39999) ⌝ }
-    ensures { λ r. ⌜ r ≡ least (statusRows day on (pointFrom (now (p .entry)) .facts .install) (lastEnd (pointFrom (now (p .entry)) .recs)) (pointFrom (now (p .entry)) .offs)) ⌝ }
+    ensures { λ r. ⌜ r ≡ least (rowsOf day on (pointFrom (now (p .entry)))) ⌝ }
 {
     if cannot_switch(p, day, on) {
         return 14;
@@ -93,8 +92,8 @@ fn refusal(p: &[i64], day: u64, on: u64) -> u64
 
 // One more span, or the on day of the last.
 fn switch(p: &mut [i64], day: u64, on: u64)
-    requires { ⌜ (partSound (now p) ≡ true) × (length (now p) ≡ 240) × (day ≤ 39999) × (on ≤ 1) × (least (statusRows day on (pointFrom (now p) .facts .install) (lastEnd (pointFrom (now p) .recs)) (pointFrom (now p) .offs)) ≡ 0) ⌝ }
-    ensures { λ _. ⌜ now (p .exit) ≡ pointNumbers 48 (withOffs (offsAfter day on (pointFrom (now (p .entry)) .offs)) (pointFrom (now (p .entry)))) ⌝ }
+    requires { ⌜ (partSound (now p) ≡ true) × (length (now p) ≡ 240) × (day ≤ 39999) × (on ≤ 1) × (least (rowsOf day on (pointFrom (now p))) ≡ 0) ⌝ }
+    ensures { λ _. ⌜ now (p .exit) ≡ pointNumbers 48 (switchedLists day on (pointFrom (now (p .entry)))) ⌝ }
 {
     let n = numbers::get(p, 5) as usize;
     if on == 0 {
@@ -107,7 +106,7 @@ fn switch(p: &mut [i64], day: u64, on: u64)
 // A notice on its point's part, which a refusal leaves as found.
 fn enter(p: &mut [i64], day: u64, on: u64) -> u64
     requires { ⌜ (partSound (now p) ≡ true) × (length (now p) ≡ 240) × (day ≤ 39999) × (on ≤ 1) ⌝ }
-    ensures { λ r. ⌜ (r ≡ least (statusRows day on (pointFrom (now (p .entry)) .facts .install) (lastEnd (pointFrom (now (p .entry)) .recs)) (pointFrom (now (p .entry)) .offs))) × (now (p .exit) ≡ cond (eqb r 0) (pointNumbers 48 (withOffs (offsAfter day on (pointFrom (now (p .entry)) .offs)) (pointFrom (now (p .entry))))) (now (p .entry))) ⌝ }
+    ensures { λ r. ⌜ (r ≡ least (rowsOf day on (pointFrom (now (p .entry))))) × (now (p .exit) ≡ cond (eqb r 0) (pointNumbers 48 (switchedLists day on (pointFrom (now (p .entry))))) (now (p .entry))) ⌝ }
 {
     let row = refusal(p, day, on);
     if row == 0 {
