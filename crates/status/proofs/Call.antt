@@ -3,7 +3,7 @@ use mathlib.Core.Path.{_≡_, refl, sym, _∙_, ap, ap₂}
 use mathlib.Core.Bool.{Bool, true, false, not, _&&_, cond}
 use mathlib.Core.Option.{Option, none, some}
 use mathlib.Core.List.{List, [], _∷_, _++_}
-use Prim.Native.Nat.{ℕ, zero, suc, _+_, _-_, _*_, _≤_, _<_, _^_}
+use Prim.Native.Nat.{ℕ, suc, _+_, _-_, _*_, _≤_, _<_}
 use native.Mathlib.Omega.{arith}
 use borrow.Author.Tests.{le-leb, eq-eqb, ne-eqb}
 use lib.Dec.{leb, eqb}
@@ -18,13 +18,13 @@ use Rattle.calendar.specs.Calendar.{isDay}
 use Rattle.calendar.proofs.Dates.{within-natural, day-natural}
 use Rattle.daybook.specs.declared.StatusNotice.{StatusNotice}
 use Rattle.daybook.specs.Notices.{Row, least, Numbers, isMirn, isFlag, statusEarly, statusRows, status}
-use Rattle.daybook.proofs.Lists.{Lists, Register, bookOf}
-use Rattle.daybook.proofs.Steps.{lastEnd, offsAfter, withOffs, findLists, onLists, statusLists}
+use Rattle.daybook.proofs.Lists.{Lists}
+use Rattle.daybook.proofs.Steps.{lastEnd, withOffs, findLists, statusLists}
 use Rattle.daybook.proofs.Rows.{above, least-first, least-skip}
 use Rattle.daybook.proofs.Bounds.{within-bounds}
 use Rattle.daybook.proofs.StatusStep.{status-clear, status-step, status-keeps}
 use Rattle.daybook.proofs.Switch.{offs-after-few}
-use Rattle.daybook.proofs.Well.{Well, WellFormed}
+use Rattle.daybook.proofs.Well.{WellFormed}
 use Rattle.layout.specs.Layout.{standard, partOf, withPart, numAt, pointNumbers, pointFrom, registerOf}
 use Rattle.layout.specs.Sound.{partSound, sound}
 use Rattle.layout.proofs.Numbers.{Few, few, length-point}

@@ -1,13 +1,13 @@
 -- What the functions that work on a point's part read from it and leave in it, on the lists that it is the layout of.
 -- Assumes nothing.
-use mathlib.Core.Path.{_≡_, refl, sym, _∙_, ap, ap₂, subst}
-use mathlib.Core.Bool.{Bool, true, false, not, _&&_, _||_, cond}
+use mathlib.Core.Path.{_≡_, refl, sym, _∙_, ap, ap₂}
+use mathlib.Core.Bool.{Bool, true, false, not, _&&_, _||_}
 use mathlib.Core.Option.{Option, none, some}
-use mathlib.Core.List.{List, [], _∷_, _++_}
-use Prim.Native.Nat.{ℕ, zero, suc, _+_, _-_, _*_, _≤_, _<_, _^_}
+use mathlib.Core.List.{List, [], _∷_}
+use Prim.Native.Nat.{ℕ, suc, _+_, _-_, _*_, _≤_, _<_}
 use native.Mathlib.Omega.{arith}
-use borrow.Author.Tests.{le-leb, lt-leb, lt-ltb, eq-eqb, ne-eqb, leb-false}
-use lib.Dec.{leb, ltb, eqb}
+use borrow.Author.Tests.{le-leb, lt-ltb, eq-eqb, ne-eqb, leb-false}
+use lib.Dec.{leb, eqb}
 use lib.ListN.{length, getD, take}
 use lib.Seq.{length-take-le}
 use lib.IntN.{ℤ, pos}
@@ -15,15 +15,13 @@ use Rattle.numbers.specs.Search.{maybe}
 use Rattle.daybook.specs.Book.{Entry, lastOf}
 use Rattle.daybook.specs.Notices.{least, cannotOff, cannotOn, statusRows}
 use Rattle.daybook.proofs.Lists.{Lists}
-use Rattle.daybook.proofs.Steps.{lastEnd, closed, offsAfter, withOffs}
+use Rattle.daybook.proofs.Steps.{lastEnd, offsAfter, withOffs}
 use Rattle.daybook.proofs.Rows.{above, least-first, least-skip, least-none}
 use Rattle.daybook.proofs.Well.{Well}
-use Rattle.layout.specs.Layout.{onNumber, pointNumbers, numAt, pointFrom}
-use Rattle.layout.specs.Sound.{partSound}
+use Rattle.layout.specs.Layout.{onNumber, pointNumbers, numAt}
 use Rattle.layout.specs.Writes.{openSpan, closeSpan}
-use Rattle.layout.proofs.Numbers.{Few, few}
+use Rattle.layout.proofs.Numbers.{few}
 use Rattle.layout.proofs.Cells.{noOff, noRec, cell-install, cell-offs, cell-recs, cell-off, cell-on, cell-rec-end}
-use Rattle.layout.proofs.PartLays.{part-lays}
 use Rattle.layout.proofs.RowWrites.{open-span, close-span}
 use Rattle.point.specs.Tests.{untilOf}
 use Rattle.status.specs.Part.{filledFrom, cannotSwitch, rowsOf, switchedLists}

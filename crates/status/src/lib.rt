@@ -1,6 +1,7 @@
 // status: from its day on a point is off (de-energised), or on again. The public call finds the point; the functions
 // before it work on that point's part alone, which the table's soundness makes the layout of well-formed lists.
-use daybook::{NoticeAnswer, StatusNotice};
+use daybook::NoticeAnswer;
+use daybook::StatusNotice;
 ghost use mathlib.Core.Path.{_≡_};
 ghost use mathlib.Core.Bool.{true, _&&_, cond};
 ghost use Prim.Native.Nat.{_≤_};
@@ -23,9 +24,7 @@ fn in_range(n: StatusNotice) -> bool
     let day = n.day;
     let on = n.on;
     let m = numbers::natural(mirn);
-    ((1 <= m) & (m <= 9999999999))
-        & (numbers::natural(day) <= 39999)
-        & (numbers::natural(on) <= 1)
+    ((1 <= m) & (m <= 9999999999)) & (numbers::natural(day) <= 39999) & (numbers::natural(on) <= 1)
 }
 
 // By the last span: off while off, or at or before the last on day.
