@@ -1,0 +1,3 @@
+pub mod OpenNumbers
+pub mod OpenCall
+pub mod FreshCall

@@ -1,0 +1,70 @@
+-- The numbers of an opening, as the code reads them. Assumes nothing.
+use mathlib.Core.Path.{_≡_, refl, ap, ap₂, _∙_}
+use mathlib.Core.Bool.{Bool, true, false, _&&_, cond}
+use Prim.Native.Nat.{ℕ, zero, suc, _+_, _-_, _^_, _≤_, _<_}
+use native.Mathlib.Omega.{arith}
+use lib.Dec.{leb, ltb}
+use lib.IntN.{ℤ, pos, negsuc}
+use lib.Signed.{ltZ, leZ}
+use borrow.Author.Tests.{le-leb, lt-leb, leb-true, leb-false, ltb-true, ltb-false}
+use Rattle.numbers.specs.Naturals.{natOf, biasOf}
+use Rattle.calendar.specs.Calendar.{within, isDay}
+use Rattle.calendar.proofs.Dates.{within-natural, day-natural}
+use Rattle.daybook.specs.declared.Opening.{Opening}
+use Rattle.daybook.specs.Notices.{isMirn, isFlag, isUser, factsOf}
+
+flag-natural : (z : ℤ) → leb (natOf z) 1 ≡ isFlag z
+flag-natural (pos n) = rw (le-leb 0 n (omega arith))
+flag-natural (negsuc n) = refl
+
+-- a number from -1 to hi, raised by 1,000,000
+pub from-minus-one : (hi : ℕ) (z : ℤ) (u : ℕ) → hi ≤ 1000000 → u ≡ biasOf z → (leb 999999 u && leb u (hi + 1000000)) ≡ within (negsuc 0) (pos hi) z
+from-minus-one hi (pos n) u small e = go (leb n 1000000) refl e
+  where
+    go : (b : Bool) → leb n 1000000 ≡ b → u ≡ cond b (n + 1000000) (2 ^ 63) → (leb 999999 u && leb u (hi + 1000000)) ≡ leb n hi
+    go true h e = same (leb n hi) refl
+      where
+        same : (b : Bool) → leb n hi ≡ b → (leb 999999 u && leb u (hi + 1000000)) ≡ b
+        same true k = rw (le-leb 999999 u (omega arith), le-leb u (hi + 1000000) (omega (arith, leb-true n hi k))) refl
+        same false k = rw (le-leb 999999 u (omega arith), lt-leb u (hi + 1000000) (omega (arith, leb-false n hi k))) refl
+    go false h e =
+        let l : 1000000 < n = leb-false n 1000000 h in
+        rw (lt-leb n hi (omega arith), le-leb 999999 u (omega arith), lt-leb u (hi + 1000000) (omega arith)) refl
+from-minus-one hi (negsuc n) u small e = go n (ltb n 1000000) refl e
+  where
+    go : (n : ℕ) (b : Bool) → ltb n 1000000 ≡ b → u ≡ cond b (999999 - n) (2 ^ 63) → (leb 999999 u && leb u (hi + 1000000)) ≡ within (negsuc 0) (pos hi) (negsuc n)
+    go zero true h e = rw (le-leb 999999 u (omega arith), le-leb u (hi + 1000000) (omega arith)) refl
+    go zero false h e = let z : _≡_ {A = ℕ} 0 1 = cc in absurd (omega arith)
+    go (suc n) true h e = rw (lt-leb 999999 u (omega (arith, ltb-true (suc n) 1000000 h)), lt-leb (suc n) 0 (omega arith)) refl
+    go (suc n) false h e = rw (le-leb 999999 u (omega arith), lt-leb u (hi + 1000000) (omega arith), lt-leb (suc n) 0 (omega arith)) refl
+
+-- row 2
+pub in-range-is : (n : Opening) {mirn kind user install base : ℕ} → mirn ≡ natOf (n .mirn) → kind ≡ natOf (n .kind) → user ≡ natOf (n .user) → install ≡ natOf (n .install) → base ≡ biasOf (n .base)
+    → (leb 1 mirn && leb mirn 9999999999 && leb kind 1 && (leb 1 user && leb user 16) && leb install 39999 && (leb 999999 base && leb base 1010000))
+    ≡ (isMirn (n .mirn) && isFlag (n .kind) && isUser (n .user) && isDay (n .install) && within (negsuc 0) (pos 10000) (n .base))
+in-range-is n m k u i b =
+    ap₂ _&&_
+    (ap₂ _&&_
+    (ap₂ _&&_
+    (ap₂ _&&_ (ap (λ x. leb 1 x && leb x 9999999999) m ∙ within-natural 1 9999999999 (n .mirn) (omega arith)) (ap (λ x. leb x 1) k ∙ flag-natural (n .kind)))
+    (ap (λ x. leb 1 x && leb x 16) u ∙ within-natural 1 16 (n .user) (omega arith)))
+    (ap (λ x. leb x 39999) i ∙ day-natural (n .install)))
+    (from-minus-one 10000 (n .base) _ (omega arith) b)
+
+-- ---- the base load
+
+pub base-below : (n : Opening) → ltZ (n .base) (pos 0) ≡ true → 1000 ≡ factsOf n .base
+unfolding factsOf
+base-below n e = go (n .base) e
+  where
+    go : (z : ℤ) → ltZ z (pos 0) ≡ true → 1000 ≡ cond (leZ (pos 0) z) (natOf z) 1000
+    go (pos b) e = absurd (omega (arith, ltb-true b 0 e))
+    go (negsuc b) e = refl
+
+pub base-itself : (n : Opening) → ltZ (n .base) (pos 0) ≡ false → natOf (n .base) ≡ factsOf n .base
+unfolding factsOf
+base-itself n e = go (n .base) e
+  where
+    go : (z : ℤ) → ltZ z (pos 0) ≡ false → natOf z ≡ cond (leZ (pos 0) z) (natOf z) 1000
+    go (pos b) e = rw (le-leb 0 b (omega arith))
+    go (negsuc b) e = let z : _≡_ {A = ℕ} 0 1 = cc in absurd (omega arith)
