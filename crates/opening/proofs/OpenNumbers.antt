@@ -1,17 +1,33 @@
 -- The numbers of an opening, as the code reads them. Assumes nothing.
 use mathlib.Core.Path.{_≡_, refl, ap, ap₂, _∙_}
 use mathlib.Core.Bool.{Bool, true, false, _&&_, cond}
-use Prim.Native.Nat.{ℕ, zero, suc, _+_, _-_, _^_, _≤_, _<_}
+use mathlib.Core.List.{List, _++_}
+use Prim.Native.Nat.{ℕ, zero, suc, _+_, _-_, _*_, _^_, _≤_, _<_}
 use native.Mathlib.Omega.{arith}
 use lib.Dec.{leb, ltb}
 use lib.IntN.{ℤ, pos, negsuc}
+use lib.ListN.{take, drop, set}
 use lib.Signed.{ltZ, leZ}
+use mir.Val.{SFits}
+use mir.ValLaws.{toZ-ofZ}
+use mir.Syntax.{w64}
 use borrow.Author.Tests.{le-leb, lt-leb, leb-true, leb-false, ltb-true, ltb-false}
 use Rattle.numbers.specs.Naturals.{natOf, biasOf}
+use Rattle.numbers.proofs.Naturals.{rd}
 use Rattle.calendar.specs.Calendar.{within, isDay}
 use Rattle.calendar.proofs.Dates.{within-natural, day-natural}
 use Rattle.daybook.specs.declared.Opening.{Opening}
 use Rattle.daybook.specs.Notices.{isMirn, isFlag, isUser, factsOf}
+use Rattle.layout.specs.Layout.{standard, withPart}
+use Rattle.layout.specs.Writes.{openPoint, appendPoint}
+use Rattle.table.proofs.Laws.{part-is, part-put}
+
+module _ (z : ℤ) (f : SFits w64 z) where
+  pub natural-read : natOf (rd z) ≡ natOf z
+  natural-read = ap natOf (toZ-ofZ w64 z f)
+
+  pub bias-read : biasOf (rd z) ≡ biasOf z
+  bias-read = ap biasOf (toZ-ofZ w64 z f)
 
 flag-natural : (z : ℤ) → leb (natOf z) 1 ≡ isFlag z
 flag-natural (pos n) = rw (le-leb 0 n (omega arith))
@@ -53,18 +69,30 @@ in-range-is n m k u i b =
 
 -- ---- the base load
 
-pub base-below : (n : Opening) → ltZ (n .base) (pos 0) ≡ true → 1000 ≡ factsOf n .base
-unfolding factsOf
-base-below n e = go (n .base) e
-  where
-    go : (z : ℤ) → ltZ z (pos 0) ≡ true → 1000 ≡ cond (leZ (pos 0) z) (natOf z) 1000
-    go (pos b) e = absurd (omega (arith, ltb-true b 0 e))
-    go (negsuc b) e = refl
+module _ (n : Opening) (f : SFits w64 (n .base)) where
+  pub base-below : ltZ (rd (n .base)) (pos 0) ≡ true → 1000 ≡ factsOf n .base
+  unfolding factsOf
+  base-below e = go (n .base) (rw (toZ-ofZ w64 (n .base) f) at e)
+    where
+      go : (z : ℤ) → ltZ z (pos 0) ≡ true → 1000 ≡ cond (leZ (pos 0) z) (natOf z) 1000
+      go (pos b) e = absurd (omega (arith, ltb-true b 0 e))
+      go (negsuc b) e = refl
 
-pub base-itself : (n : Opening) → ltZ (n .base) (pos 0) ≡ false → natOf (n .base) ≡ factsOf n .base
-unfolding factsOf
-base-itself n e = go (n .base) e
-  where
-    go : (z : ℤ) → ltZ z (pos 0) ≡ false → natOf z ≡ cond (leZ (pos 0) z) (natOf z) 1000
-    go (pos b) e = rw (le-leb 0 b (omega arith))
-    go (negsuc b) e = let z : _≡_ {A = ℕ} 0 1 = cc in absurd (omega arith)
+  pub base-itself : ltZ (rd (n .base)) (pos 0) ≡ false → natOf (rd (n .base)) ≡ factsOf n .base
+  unfolding factsOf
+  base-itself e = ap natOf (toZ-ofZ w64 (n .base) f) ∙ go (n .base) (rw (toZ-ofZ w64 (n .base) f) at e)
+    where
+      go : (z : ℤ) → ltZ z (pos 0) ≡ false → natOf z ≡ cond (leZ (pos 0) z) (natOf z) 1000
+      go (pos b) e = rw (le-leb 0 b (omega arith))
+      go (negsuc b) e = let z : _≡_ {A = ℕ} 0 1 = cc in absurd (omega arith)
+
+-- ---- the new point's part, lent and put back, and the count
+
+pub append-is : (t : List ℤ) (i : ℕ) (n : Opening) {p : List ℤ} {mirn kind user install base : ℕ} → mirn ≡ natOf (n .mirn) → kind ≡ natOf (n .kind) → user ≡ natOf (n .user) → install ≡ natOf (n .install) → base ≡ factsOf n .base
+    → p ≡ openPoint (take (8 + 240 * i + 240 - (8 + 240 * i)) (drop (8 + 240 * i) t)) (record { mirn = mirn; kind = kind; install = install; base = base }) user
+    → set (take (8 + 240 * i) t ++ (p ++ drop (8 + 240 * i + 240 - (8 + 240 * i)) (drop (8 + 240 * i) t))) 0 (pos (i + 1)) ≡ appendPoint standard t i (factsOf n) (natOf (n .user))
+unfolding appendPoint factsOf
+append-is t i n {p} {mirn} {kind} {user} {install} {base} m k u d b e =
+    ap (λ l. set l 0 (pos (i + 1)))
+    (part-put t i p
+    ∙ ap (withPart standard t i) (e ∙ ap (λ l. openPoint l (record { mirn = mirn; kind = kind; install = install; base = base }) user) (part-is t i) ∙ rw (m, k, u, d, b)))

@@ -2,11 +2,12 @@
 use mathlib.Core.Path.{_≡_, refl, sym, ap, _∙_}
 use mathlib.Core.Bool.{Bool, true, false, not, _&&_, cond, false≢true}
 use mathlib.Core.Option.{Option, none, some}
-use mathlib.Core.List.{List, []}
+use mathlib.Core.List.{List, [], _++_}
 use Prim.Native.Nat.{ℕ, zero, suc, _+_, _-_, _*_, _≤_, _<_, _^_}
 use native.Mathlib.Omega.{arith}
 use lib.Dec.{leb, ltb, eqb}
 use lib.ListN.{getD, length, take, drop, length-take, length-drop}
+use lib.Seq.{drop-drop}
 use lib.IntN.{ℤ, pos, negsuc}
 use borrow.Author.Tests.{le-leb, lt-leb, eq-eqb, ne-eqb, leb-true, leb-false, ltb-true, ltb-false}
 use Rattle.numbers.specs.Naturals.{natOf, biasOf}
@@ -15,7 +16,7 @@ use Rattle.numbers.specs.Search.{maybe, firstFrom}
 use Rattle.numbers.proofs.Rows.{all-more, all-fails, all-done}
 use Rattle.numbers.proofs.Search.{from-none, from-hit, from-miss, from-bound}
 use Rattle.daybook.specs.Notices.{isRange}
-use Rattle.layout.specs.Layout.{standard, placeOf, partOf, numAt, pointsFrom}
+use Rattle.layout.specs.Layout.{standard, placeOf, partOf, withPart, numAt, pointsFrom}
 use Rattle.layout.specs.Sound.{zeros, partSound, mirnsDiffer, sound}
 use Rattle.layout.proofs.Mirns.{laterDiffer}
 use Rattle.table.specs.Lookup.{bodySound, indexOf, lookUp}
@@ -27,6 +28,14 @@ module _ (t : List ℤ) (i : ℕ) where
 
   pub part-long : placeOf standard i + 240 ≤ length t → length (take (8 + 240 * i + 240 - (8 + 240 * i)) (drop (8 + 240 * i) t)) ≡ 240
   part-long h = simp (length-take, length-drop) (omega arith)
+
+  -- what a lent part leaves of the table
+  pub part-put : (p : List ℤ) → take (8 + 240 * i) t ++ (p ++ drop (8 + 240 * i + 240 - (8 + 240 * i)) (drop (8 + 240 * i) t)) ≡ withPart standard t i p
+  unfolding withPart
+  part-put p =
+      let e : 8 + 240 * i + 240 - (8 + 240 * i) ≡ 240 = omega arith in
+      ap (λ k. take (8 + 240 * i) t ++ (p ++ drop k (drop (8 + 240 * i) t))) e
+      ∙ ap (λ l. take (8 + 240 * i) t ++ (p ++ l)) (drop-drop 240 (8 + 240 * i) t)
 
 -- a range, raised by 1,000,000
 pub range-is : (z : ℤ) (u : ℕ) → u ≡ biasOf z → (leb 999999 u && leb u 2000000) ≡ isRange z
