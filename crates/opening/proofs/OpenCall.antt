@@ -35,6 +35,10 @@ use Rattle.table.proofs.Found.{found, missing}
 use Rattle.table.proofs.Calls.{call-unsound}
 use Rattle.opening.specs.Opening.{openCall}
 
+-- the two equations of a call's contract
+pub gives : {w : Numbers × List ℤ} {a : Numbers} {u : List ℤ} → w ≡ (a, u) → (a ≡ w .0) × (u ≡ w .1)
+gives e = (ap (λ w. w .0) (sym e), ap (λ w. w .1) (sym e))
+
 -- are all numbers of an opening in range?
 abbrev pub ranged : Opening → Bool
 ranged n = isMirn (n .mirn) && isFlag (n .kind) && isUser (n .user) && isDay (n .install) && within (negsuc 0) (pos 10000) (n .base)

@@ -1,78 +1,116 @@
-use borrow.Author.Needs.{needs}
+use mathlib.Core.Path.{_≡_, sym, _∙_, ap}
+use mathlib.Core.Bool.{true}
+use native.Mathlib.Omega.{arith}
+use borrow.Author.Needs.{needs, sfits-of}
+use borrow.Author.Tests.{not-true, not-false}
+use Rattle.numbers.specs.Naturals.{natOf}
+use Rattle.numbers.specs.Search.{maybe}
+use Rattle.daybook.specs.Notices.{factsOf}
+use Rattle.daybook.proofs.OpenStep.{facts-ok}
+use Rattle.layout.specs.Layout.{standard}
+use Rattle.layout.specs.Sound.{sound}
+use Rattle.layout.specs.Writes.{appendPoint}
+use Rattle.table.specs.Lookup.{indexOf}
+use Rattle.table.proofs.Laws.{sound-long}
+use Rattle.opening.proofs.OpenNumbers.{natural-read}
+use Rattle.opening.proofs.OpenCall.{gives, ranged, open-unsound, open-out, open-known, open-full, open-entered, clear}
 use Rattle.opening.proofs.open.Statement.{statement}
 use Rattle.opening.proofs.open.Tie as tie
-use Rattle.opening.proofs.open.Reads as reads
-use Rattle.opening.proofs.open.Lts as lts
-use Rattle.numbers.proofs.get.Reads as get-reads
-use Rattle.numbers.proofs.natural.Reads as natural-reads
-use Rattle.opening.proofs.append_point.Reads as append-point-reads
-use Rattle.opening.proofs.in_range.Reads as in-range-reads
-use Rattle.table.proofs.index_of.Reads as index-of-reads
-use Rattle.table.proofs.sound.Reads as sound-reads
 
--- src/lib.rt:75:9
 sound-requires : tie.Need-sound-requires
 sound-requires c κs = search needs
 
--- src/lib.rt:76:9
 same-length : tie.Need-same-length
 same-length c = search needs
 
--- src/lib.rt:76:9
 returns : tie.Need-returns
-returns c = ?
+returns c =
+    let s = c .before .before .before .args in
+    gives (open-unsound (s .t .now) (s .n) (sym (c .before .sound .ensures) ∙ not-true _ (c .if1 .taken)))
 
--- src/lib.rt:78:9
 in-range-requires : tie.Need-in-range-requires
 in-range-requires c κs = search needs
 
--- src/lib.rt:79:9
 same-length-2 : tie.Need-same-length-2
 same-length-2 c = search needs
 
--- src/lib.rt:79:9
-returns-2 : tie.Need-returns-2
-returns-2 c = ?
+-- ---- what is known after each test
 
--- src/lib.rt:82:9
+is-sound : (c : tie.After-in-range) → sound standard (c .before .before .before .before .args .t .now) ≡ true
+is-sound c = sym (c .before .before .sound .ensures) ∙ not-false _ (c .before .if1 .left)
+
+returns-2 : tie.Need-returns-2
+returns-2 c =
+    let s = c .before .before .before .before .before .args in
+    gives (open-out (s .t .now) (s .n) (is-sound (c .before)) (sym (c .before .in-range .ensures) ∙ not-true _ (c .if2 .taken)))
+
 natural-requires : tie.Need-natural-requires
 natural-requires c κs = search needs
 
--- src/lib.rt:83:8
-index-of-requires : tie.Need-index-of-requires
-index-of-requires c κs = ?
+is-ranged : (c : tie.After-natural) → ranged (c .before .before .before .before .before .before .before .args .n) ≡ true
+is-ranged c = sym (c .before .before .before .in-range .ensures) ∙ not-false _ (c .before .before .if2 .left)
 
--- src/lib.rt:84:9
+index-of-requires : tie.Need-index-of-requires
+index-of-requires c κs =
+    let r = c .before .before .before .before in
+    sound-long (r .before .before .before .before .args .t .now) (is-sound r)
+
+index-is : (c : tie.After-index-of) → c .index-of .result
+    ≡ maybe 32 (λ k. k) (indexOf standard (c .before .before .before .before .before .before .before .before .before .args .t .now) (natOf (c .before .before .before .before .before .before .before .before .before .args .n .mirn)))
+index-is c =
+    let m = c .before .before in
+    let s = m .before .before .before .before .before .before .before .args in
+    c .index-of .ensures .0
+    ∙ ap (λ k. maybe 32 (λ i. i) (indexOf standard (s .t .now) k)) (m .natural .ensures .0 ∙ natural-read (s .n .mirn) (sfits-of (m .before .struct-told .given .0 .1)))
+
 same-length-3 : tie.Need-same-length-3
 same-length-3 c = search needs
 
--- src/lib.rt:84:9
 returns-3 : tie.Need-returns-3
-returns-3 c = ?
+returns-3 c =
+    let m = c .before .before .before in
+    let r = m .before .before .before in
+    let s = r .before .before .before .before .args in
+    gives (open-known (s .t .now) (s .n) (is-sound r) (is-ranged m) _ (index-is (c .before)) (c .if3 .taken))
 
--- src/lib.rt:86:17
 get-requires : tie.Need-get-requires
-get-requires c κs = ?
+get-requires c κs =
+    let r = c .before .before .before .before .before .before .before in
+    omega (arith, sound-long (r .before .before .before .before .args .t .now) (is-sound r))
 
--- src/lib.rt:88:9
 same-length-4 : tie.Need-same-length-4
 same-length-4 c = search needs
 
--- src/lib.rt:88:9
 returns-4 : tie.Need-returns-4
-returns-4 c = ?
+returns-4 c =
+    let i = c .before .before .before .before in
+    let m = i .before .before in
+    let r = m .before .before .before in
+    let s = r .before .before .before .before .args in
+    gives (open-full (s .t .now) (s .n) (is-sound r) (is-ranged m) _ (index-is i) (c .before .before .before .if3 .left) (omega (arith, c .before .get .ensures .0)))
 
--- src/lib.rt:90:5
 append-point-requires : tie.Need-append-point-requires
-append-point-requires c κs = ?
+append-point-requires c κs =
+    let g = c .before .before in
+    let i = g .before .before .before in
+    let m = i .before .before in
+    let r = m .before .before .before in
+    let s = r .before .before .before .before .args in
+    let k = clear (s .t .now) (s .n) (is-sound r) (is-ranged m) _ (index-is i) (g .before .before .if3 .left) (omega (arith, g .get .ensures .0)) in
+    (omega arith, sound-long (s .t .now) (is-sound r) .0, omega (arith, k .mirnHigh), omega (arith, k .kindOk), omega (arith, k .userHigh), omega (arith, k .installOk), omega (arith, facts-ok k .baseOk))
 
--- src/lib.rt:72:1
 same-length-5 : tie.Need-same-length-5
 same-length-5 c = search needs
 
--- src/lib.rt:72:1
 returns-5 : tie.Need-returns-5
-returns-5 c = ?
+returns-5 c =
+    let g = c .before .before .before .before in
+    let i = g .before .before .before in
+    let m = i .before .before in
+    let r = m .before .before .before in
+    let s = r .before .before .before .before .args in
+    let e = gives (open-entered (s .t .now) (s .n) (is-sound r) (is-ranged m) _ (index-is i) (g .before .before .if3 .left) (omega (arith, g .get .ensures .0))) in
+    (e .0, c .before .append-point .ensures ∙ ap (λ k. appendPoint standard (s .t .now) k (factsOf (s .n)) (natOf (s .n .user))) (g .get .ensures .0) ∙ e .1)
 
 pub open-spec : {M : Type 1} → statement M
 open-spec =
