@@ -1,5 +1,5 @@
 -- The numbers of an opening, as the code reads them. Assumes nothing.
-use mathlib.Core.Path.{_≡_, refl, ap, ap₂, _∙_}
+use mathlib.Core.Path.{_≡_, refl, sym, ap, ap₂, subst, _∙_}
 use mathlib.Core.Bool.{Bool, true, false, _&&_, cond}
 use mathlib.Core.List.{List, _++_}
 use Prim.Native.Nat.{ℕ, zero, suc, _+_, _-_, _*_, _^_, _≤_, _<_}
@@ -12,15 +12,16 @@ use mir.Val.{SFits}
 use mir.ValLaws.{toZ-ofZ}
 use mir.Syntax.{w64}
 use borrow.Author.Tests.{le-leb, lt-leb, leb-true, leb-false, ltb-true, ltb-false}
-use Rattle.numbers.specs.Naturals.{natOf, biasOf}
-use Rattle.numbers.proofs.Naturals.{rd}
+use Rattle.numbers.specs.Naturals.{natOf, biasOf, energyOf}
+use Rattle.numbers.proofs.Naturals.{rd, bias-is}
+use Rattle.numbers.proofs.Bools.{both}
 use Rattle.calendar.specs.Calendar.{within, isDay}
 use Rattle.calendar.proofs.Dates.{within-natural, day-natural}
 use Rattle.daybook.specs.declared.Opening.{Opening}
 use Rattle.daybook.specs.Notices.{isMirn, isFlag, isUser, factsOf}
 use Rattle.layout.specs.Layout.{standard, withPart}
 use Rattle.layout.specs.Writes.{openPoint, appendPoint}
-use Rattle.table.proofs.Laws.{part-is, part-put}
+use Rattle.table.proofs.Laws.{part-is, part-put, within-raised}
 
 module _ (z : ℤ) (f : SFits w64 z) where
   pub natural-read : natOf (rd z) ≡ natOf z
@@ -29,30 +30,15 @@ module _ (z : ℤ) (f : SFits w64 z) where
   pub bias-read : biasOf (rd z) ≡ biasOf z
   bias-read = ap biasOf (toZ-ofZ w64 z f)
 
+pub bias-back : (z : ℤ) {u : ℕ} → u ≡ biasOf z → u ≤ 2000000 → energyOf u ≡ z
+bias-back z e h = ap energyOf e ∙ bias-is z (subst (λ k. k ≤ 2000000) e h)
+
+pub raised-small : {r : Bool} (u : ℕ) → r ≡ (leb 999999 u && leb u 2000000) → r ≡ true → u ≤ 2000000
+raised-small u e h = leb-true u 2000000 (both (leb 999999 u) (leb u 2000000) (sym e ∙ h) .1)
+
 flag-natural : (z : ℤ) → leb (natOf z) 1 ≡ isFlag z
 flag-natural (pos n) = rw (le-leb 0 n (omega arith))
 flag-natural (negsuc n) = refl
-
--- a number from -1 to hi, raised by 1,000,000
-pub from-minus-one : (hi : ℕ) (z : ℤ) (u : ℕ) → hi ≤ 1000000 → u ≡ biasOf z → (leb 999999 u && leb u (hi + 1000000)) ≡ within (negsuc 0) (pos hi) z
-from-minus-one hi (pos n) u small e = go (leb n 1000000) refl e
-  where
-    go : (b : Bool) → leb n 1000000 ≡ b → u ≡ cond b (n + 1000000) (2 ^ 63) → (leb 999999 u && leb u (hi + 1000000)) ≡ leb n hi
-    go true h e = same (leb n hi) refl
-      where
-        same : (b : Bool) → leb n hi ≡ b → (leb 999999 u && leb u (hi + 1000000)) ≡ b
-        same true k = rw (le-leb 999999 u (omega arith), le-leb u (hi + 1000000) (omega (arith, leb-true n hi k))) refl
-        same false k = rw (le-leb 999999 u (omega arith), lt-leb u (hi + 1000000) (omega (arith, leb-false n hi k))) refl
-    go false h e =
-        let l : 1000000 < n = leb-false n 1000000 h in
-        rw (lt-leb n hi (omega arith), le-leb 999999 u (omega arith), lt-leb u (hi + 1000000) (omega arith)) refl
-from-minus-one hi (negsuc n) u small e = go n (ltb n 1000000) refl e
-  where
-    go : (n : ℕ) (b : Bool) → ltb n 1000000 ≡ b → u ≡ cond b (999999 - n) (2 ^ 63) → (leb 999999 u && leb u (hi + 1000000)) ≡ within (negsuc 0) (pos hi) (negsuc n)
-    go zero true h e = rw (le-leb 999999 u (omega arith), le-leb u (hi + 1000000) (omega arith)) refl
-    go zero false h e = let z : _≡_ {A = ℕ} 0 1 = cc in absurd (omega arith)
-    go (suc n) true h e = rw (lt-leb 999999 u (omega (arith, ltb-true (suc n) 1000000 h)), lt-leb (suc n) 0 (omega arith)) refl
-    go (suc n) false h e = rw (le-leb 999999 u (omega arith), lt-leb u (hi + 1000000) (omega arith), lt-leb (suc n) 0 (omega arith)) refl
 
 -- row 2
 pub in-range-is : (n : Opening) {mirn kind user install base : ℕ} → mirn ≡ natOf (n .mirn) → kind ≡ natOf (n .kind) → user ≡ natOf (n .user) → install ≡ natOf (n .install) → base ≡ biasOf (n .base)
@@ -65,7 +51,7 @@ in-range-is n m k u i b =
     (ap₂ _&&_ (ap (λ x. leb 1 x && leb x 9999999999) m ∙ within-natural 1 9999999999 (n .mirn) (omega arith)) (ap (λ x. leb x 1) k ∙ flag-natural (n .kind)))
     (ap (λ x. leb 1 x && leb x 16) u ∙ within-natural 1 16 (n .user) (omega arith)))
     (ap (λ x. leb x 39999) i ∙ day-natural (n .install)))
-    (from-minus-one 10000 (n .base) _ (omega arith) b)
+    (within-raised 10000 (n .base) _ (omega arith) b)
 
 -- ---- the base load
 

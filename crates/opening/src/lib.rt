@@ -11,10 +11,46 @@ ghost use Rattle.daybook.specs.Notices.{isMirn, isFlag, isUser, factsOf};
 ghost use Rattle.daybook.specs.Calls.{noticeNumbers};
 ghost use Rattle.layout.specs.Layout.{standard};
 ghost use Rattle.layout.specs.Writes.{cleared, appendPoint};
-ghost use Rattle.opening.specs.Opening.{openCall};
+ghost use Rattle.opening.specs.Opening.{freshCall, openCall};
 
 use daybook::NoticeAnswer;
 use daybook::Opening;
+use daybook::Ranges;
+
+// A validation range, -1 to 1,000,000, raised by 1,000,000.
+fn is_range(u: u64) -> bool
+    ensures { λ r. ⌜ r ≡ (leb 999999 u && leb u 2000000) ⌝ }
+{
+    (999999 <= u) & (u <= 2000000)
+}
+
+// No points, and the two ranges, each raised by 1,000,000.
+fn empty(t: &mut [i64], nondaily: u64, daily: u64)
+    requires { ⌜ (7688 ≤ length (now t)) × (nondaily < 2 ^ 63) × (daily < 2 ^ 63) ⌝ }
+    ensures { λ _. ⌜ now (t .exit) ≡ set (set (cleared (now (t .entry)) 0 7688) 1 (energyOf nondaily)) 2 (energyOf daily) ⌝ }
+{
+    rows::clear(t, 0, 7688);
+    rows::put_energy(t, 1, nondaily);
+    rows::put_energy(t, 2, daily);
+}
+
+// A register with no points, whatever numbers the table holds.
+pub fn fresh(t: &mut [i64], n: Ranges) -> NoticeAnswer
+    ensures { λ r. ⌜ (noticeNumbers r ≡ freshCall (now (t .entry)) n .0) × (now (t .exit) ≡ freshCall (now (t .entry)) n .1) ⌝ }
+{
+    if t.len() < 7688 {
+        return NoticeAnswer::Refused(1);
+    }
+    let x = n.nondaily;
+    let y = n.daily;
+    let nondaily = numbers::bias(x);
+    let daily = numbers::bias(y);
+    if !(is_range(nondaily) & is_range(daily)) {
+        return NoticeAnswer::Refused(2);
+    }
+    empty(t, nondaily, daily);
+    NoticeAnswer::Entered
+}
 
 // Row 2 of an opening: are all its numbers in range?
 fn in_range(n: Opening) -> bool
