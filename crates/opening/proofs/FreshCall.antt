@@ -20,7 +20,7 @@ use Rattle.layout.specs.Layout.{tableLength, standard, pad, pointsNumbers, layo
 use Rattle.layout.specs.Writes.{cleared}
 use Rattle.layout.specs.Calls.{refused, leaves}
 use Rattle.layout.proofs.Blocks.{zerosOf, cleared-mid}
-use Rattle.layout.proofs.Tables.{written-is}
+use Rattle.table.proofs.Calls.{laidOver, leaves-is}
 use Rattle.opening.specs.Opening.{freshCall}
 
 abbrev pub noPoints : ℤ → ℤ → Register
@@ -56,9 +56,6 @@ module _ (t : List ℤ) (n : Ranges) where
         ∙ ap (λ r. leaves standard t (decide r 0 (bookOf R) w)) (least-first 2 _ [] refl (ap not e))
         ∙ ap (leaves standard t) (decide-refused 0 (bookOf R) w 1)
 
-    abbrev table : Numbers × Register → Numbers × List ℤ
-    table w = (w .0, cond (refused (w .0)) t (layout standard (w .1) ++ drop tableLength t))
-
     passed : (isRange (n .nondaily) && isRange (n .daily)) ≡ true → least (freshRows n) ≡ 0
     unfolding freshRows least
     passed e = least-skip 2 _ [] (ap not e)
@@ -72,6 +69,6 @@ module _ (t : List ℤ) (n : Ranges) where
     pub fresh-entered : (isRange (n .nondaily) && isRange (n .daily)) ≡ true → freshCall t n ≡ (pos 0 ∷ [], set (set (cleared t 0 tableLength) 1 (n .nondaily)) 2 (n .daily))
     fresh-entered e =
         taken ∙ ap (leaves standard t) (fresh-step n R)
-        ∙ ap (λ u. (freshLists n R .0, cond (refused (freshLists n R .0)) t u)) (written-is standard (fresh-makes standard n R (passed e)) t)
-        ∙ ap table (emptied (passed e))
+        ∙ leaves-is standard t (freshLists n R) (fresh-makes standard n R (passed e))
+        ∙ ap (laidOver standard t) (emptied (passed e))
         ∙ ap (λ u. (pos 0 ∷ [], u)) (sym (laid t (n .nondaily) (n .daily) h))

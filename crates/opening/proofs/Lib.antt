@@ -1,3 +1,3 @@
-pub mod OpenNumbers
+pub mod CallNumbers
 pub mod OpenCall
 pub mod FreshCall

@@ -32,12 +32,8 @@ use Rattle.layout.proofs.NewPoint.{freshPoint, append-point}
 use Rattle.table.specs.Lookup.{indexOf}
 use Rattle.table.proofs.Laws.{sound-long}
 use Rattle.table.proofs.Found.{found, missing}
-use Rattle.table.proofs.Calls.{call-unsound}
+use Rattle.table.proofs.Calls.{call-unsound, laidOver, leaves-is, left-alone}
 use Rattle.opening.specs.Opening.{openCall}
-
--- the two equations of a call's contract
-pub gives : {w : Numbers × List ℤ} {a : Numbers} {u : List ℤ} → w ≡ (a, u) → (a ≡ w .0) × (u ≡ w .1)
-gives e = (ap (λ w. w .0) (sym e), ap (λ w. w .1) (sym e))
 
 -- are all numbers of an opening in range?
 abbrev pub ranged : Opening → Bool
@@ -60,22 +56,20 @@ module _ (t : List ℤ) (n : Opening) (s : sound standard t ≡ true) where
   well : WellFormed standard R
   well = sound-lays standard standard-fits t s .0
 
-  abbrev table : Numbers × Register → Numbers × List ℤ
-  table w = (w .0, cond (refused (w .0)) t (layout standard (w .1) ++ drop tableLength t))
+  -- what the lists' step gives where row r sends the call back, 0 for none
+  abbrev after : ℕ → Numbers × Register
+  after r =
+      decide r 0 R ([], record { nondaily = R .nondaily; daily = R .daily; points = R .points ++ (openedLists n ∷ []) })
 
-  whole : openCall t n ≡ table (openingLists standard n R)
-  unfolding openCall onTable tableBook
+  whole : openCall t n ≡ laidOver standard t (after row)
+  unfolding openCall onTable tableBook openingLists
   whole =
       rw s
       (ap (leaves standard t) (open-step standard n R)
-      ∙ ap (λ u. (openingLists standard n R .0, cond (refused (openingLists standard n R .0)) t u)) (written-is standard (open-keeps standard n well) t))
+      ∙ leaves-is standard t (openingLists standard n R) (open-keeps standard n well))
 
   sent-back : (r : ℕ) → row ≡ suc r → openCall t n ≡ (pos (suc r) ∷ [], t)
-  unfolding openingLists
-  sent-back r e =
-      let w : Numbers × Register = ([], record { nondaily = R .nondaily; daily = R .daily; points = R .points ++ (openedLists n ∷ []) }) in
-      whole ∙ ap (λ k. table (decide k 0 R w)) e ∙ ap table (decide-refused 0 R w r)
-      ∙ ap (λ b. (pos (suc r) ∷ [], cond (not b) t (layout standard R ++ drop tableLength t))) (eqb·suc-zero r)
+  sent-back r e = whole ∙ ap (λ k. laidOver standard t (after k)) e ∙ ap (laidOver standard t) (decide-refused 0 R _ r) ∙ left-alone standard t r [] R
 
   count : length (R .points) ≡ numAt t 0
   unfolding registerOf
@@ -85,12 +79,11 @@ module _ (t : List ℤ) (n : Opening) (s : sound standard t ≡ true) where
   unfolding openedLists freshPoint factsOf
   opened-is = refl
 
-  entered : row ≡ 0 → length (R .points) < 32 → openCall t n ≡ (pos 0 ∷ [], appendPoint standard t (numAt t 0) (factsOf n) (natOf (n .user)))
-  unfolding openingLists withPoints
-  entered e h =
+  taken : row ≡ 0 → length (R .points) < 32 → openCall t n ≡ (pos 0 ∷ [], appendPoint standard t (numAt t 0) (factsOf n) (natOf (n .user)))
+  unfolding withPoints
+  taken e h =
       let rest : List ℤ = drop tableLength t in
-      let w : Numbers × Register = ([], record { nondaily = R .nondaily; daily = R .daily; points = R .points ++ (openedLists n ∷ []) }) in
-      whole ∙ ap (λ k. table (decide k 0 R w)) e ∙ ap table (decide-taken 0 R w)
+      whole ∙ ap (λ k. laidOver standard t (after k)) e ∙ ap (laidOver standard t) (decide-taken 0 R _)
       ∙ ap (λ q. (pos 0 ∷ [], layout standard (withPoints (R .points ++ (q ∷ [])) R) ++ rest)) opened-is
       ∙ ap (λ u. (pos 0 ∷ [], u))
       (sym (ap₂ (λ u k. appendPoint standard u k (factsOf n) (natOf (n .user))) (table-split standard R t (sym (sound-lays standard standard-fits t s .1))) (sym count)
@@ -140,7 +133,7 @@ module _ (t : List ℤ) (n : Opening) (s : sound standard t ≡ true) where
     nothing d h = after-two d ∙ least-skip 16 _ [] (lt-leb 32 (length (R .points)) (omega (arith, count)))
 
     pub open-entered : i ≡ 32 → numAt t 0 < 32 → openCall t n ≡ (pos 0 ∷ [], appendPoint standard t (numAt t 0) (factsOf n) (natOf (n .user)))
-    open-entered d h = entered (nothing d h) (omega (arith, count))
+    open-entered d h = taken (nothing d h) (omega (arith, count))
 
   -- ---- what the writing needs
 

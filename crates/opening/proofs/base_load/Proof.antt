@@ -1,6 +1,6 @@
 use mathlib.Core.Path.{_∙_}
 use borrow.Author.Needs.{needs, sfits-of}
-use Rattle.opening.proofs.OpenNumbers.{base-below, base-itself}
+use Rattle.opening.proofs.CallNumbers.{base-below, base-itself}
 use Rattle.opening.proofs.base_load.Statement.{statement}
 use Rattle.opening.proofs.base_load.Tie as tie
 

@@ -10,8 +10,8 @@ use Rattle.numbers.proofs.Bools.{both}
 use Rattle.daybook.specs.Notices.{isRange}
 use Rattle.layout.specs.Writes.{cleared}
 use Rattle.table.proofs.Laws.{range-is}
-use Rattle.opening.proofs.OpenNumbers.{bias-read, bias-back, raised-small}
-use Rattle.opening.proofs.OpenCall.{gives}
+use Rattle.table.proofs.Calls.{gives}
+use Rattle.opening.proofs.CallNumbers.{bias-read, bias-back, raised-small}
 use Rattle.opening.proofs.FreshCall.{fresh-short, fresh-out, fresh-entered}
 use Rattle.opening.proofs.fresh.Statement.{statement}
 use Rattle.opening.proofs.fresh.Tie as tie

@@ -12,8 +12,9 @@ use Rattle.layout.specs.Sound.{sound}
 use Rattle.layout.specs.Writes.{appendPoint}
 use Rattle.table.specs.Lookup.{indexOf}
 use Rattle.table.proofs.Laws.{sound-long}
-use Rattle.opening.proofs.OpenNumbers.{natural-read}
-use Rattle.opening.proofs.OpenCall.{gives, ranged, open-unsound, open-out, open-known, open-full, open-entered, clear}
+use Rattle.table.proofs.Calls.{gives}
+use Rattle.opening.proofs.CallNumbers.{natural-read}
+use Rattle.opening.proofs.OpenCall.{ranged, open-unsound, open-out, open-known, open-full, open-entered, clear}
 use Rattle.opening.proofs.open.Statement.{statement}
 use Rattle.opening.proofs.open.Tie as tie
 
