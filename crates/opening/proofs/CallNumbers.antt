@@ -1,17 +1,17 @@
--- The numbers of an opening, as the code reads them. Assumes nothing.
+-- The numbers of a fresh and of an opening, as the code reads and writes them. Assumes nothing.
 use mathlib.Core.Path.{_≡_, refl, sym, ap, ap₂, subst, _∙_}
 use mathlib.Core.Bool.{Bool, true, false, _&&_, cond}
 use mathlib.Core.List.{List, _++_}
-use Prim.Native.Nat.{ℕ, zero, suc, _+_, _-_, _*_, _^_, _≤_, _<_}
+use Prim.Native.Nat.{ℕ, _+_, _-_, _*_, _≤_}
 use native.Mathlib.Omega.{arith}
-use lib.Dec.{leb, ltb}
+use lib.Dec.{leb}
 use lib.IntN.{ℤ, pos, negsuc}
 use lib.ListN.{take, drop, set}
 use lib.Signed.{ltZ, leZ}
 use mir.Val.{SFits}
 use mir.ValLaws.{toZ-ofZ}
 use mir.Syntax.{w64}
-use borrow.Author.Tests.{le-leb, lt-leb, leb-true, leb-false, ltb-true, ltb-false}
+use borrow.Author.Tests.{le-leb, leb-true, ltb-true}
 use Rattle.numbers.specs.Naturals.{natOf, biasOf, energyOf}
 use Rattle.numbers.proofs.Naturals.{rd, bias-is}
 use Rattle.numbers.proofs.Bools.{both}
@@ -23,6 +23,7 @@ use Rattle.layout.specs.Layout.{standard, withPart}
 use Rattle.layout.specs.Writes.{openPoint, appendPoint}
 use Rattle.table.proofs.Laws.{part-is, part-put, within-raised}
 
+-- a field that is copied is read as it is
 module _ (z : ℤ) (f : SFits w64 z) where
   pub natural-read : natOf (rd z) ≡ natOf z
   natural-read = ap natOf (toZ-ofZ w64 z f)
@@ -30,6 +31,7 @@ module _ (z : ℤ) (f : SFits w64 z) where
   pub bias-read : biasOf (rd z) ≡ biasOf z
   bias-read = ap biasOf (toZ-ofZ w64 z f)
 
+-- a range is written back as it was read
 pub bias-back : (z : ℤ) {u : ℕ} → u ≡ biasOf z → u ≤ 2000000 → energyOf u ≡ z
 bias-back z e h = ap energyOf e ∙ bias-is z (subst (λ k. k ≤ 2000000) e h)
 
@@ -40,7 +42,7 @@ flag-natural : (z : ℤ) → leb (natOf z) 1 ≡ isFlag z
 flag-natural (pos n) = rw (le-leb 0 n (omega arith))
 flag-natural (negsuc n) = refl
 
--- row 2
+-- row 2 of an opening
 pub in-range-is : (n : Opening) {mirn kind user install base : ℕ} → mirn ≡ natOf (n .mirn) → kind ≡ natOf (n .kind) → user ≡ natOf (n .user) → install ≡ natOf (n .install) → base ≡ biasOf (n .base)
     → (leb 1 mirn && leb mirn 9999999999 && leb kind 1 && (leb 1 user && leb user 16) && leb install 39999 && (leb 999999 base && leb base 1010000))
     ≡ (isMirn (n .mirn) && isFlag (n .kind) && isUser (n .user) && isDay (n .install) && within (negsuc 0) (pos 10000) (n .base))

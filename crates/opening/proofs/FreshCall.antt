@@ -1,10 +1,8 @@
 -- fresh on a lent table: a register with no points, whatever stood there. Assumes nothing.
 use mathlib.Core.Path.{_≡_, refl, sym, _∙_, ap}
-use mathlib.Core.Bool.{true, false, not, _&&_, cond}
+use mathlib.Core.Bool.{true, false, not, _&&_}
 use mathlib.Core.List.{List, [], _∷_, _++_}
-use Prim.Native.Nat.{ℕ, _+_, _-_, _^_, _≤_, _<_}
-use native.Mathlib.Omega.{arith}
-use lib.Dec.{leb}
+use Prim.Native.Nat.{_≤_, _<_}
 use lib.ListN.{length, take, drop, set, replicate-append-replicate, take-append-drop}
 use lib.Seq.{length-take-le}
 use lib.IntN.{ℤ, pos}
@@ -18,8 +16,8 @@ use Rattle.daybook.proofs.Rows.{above, least-first, least-skip, decide-taken, d
 use Rattle.daybook.proofs.OpenStep.{fresh-step, fresh-makes}
 use Rattle.layout.specs.Layout.{tableLength, standard, pad, pointsNumbers, layout, registerOf, tableBook}
 use Rattle.layout.specs.Writes.{cleared}
-use Rattle.layout.specs.Calls.{refused, leaves}
-use Rattle.layout.proofs.Blocks.{zerosOf, cleared-mid}
+use Rattle.layout.specs.Calls.{leaves}
+use Rattle.layout.proofs.Blocks.{cleared-mid}
 use Rattle.table.proofs.Calls.{laidOver, leaves-is}
 use Rattle.opening.specs.Opening.{freshCall}
 

@@ -1,11 +1,11 @@
 -- open on a lent table: sent back it leaves the table, entered it writes one more point. Assumes nothing.
 use mathlib.Core.Path.{_≡_, refl, sym, _∙_, ap, ap₂}
-use mathlib.Core.Bool.{Bool, true, false, not, _&&_, cond}
+use mathlib.Core.Bool.{Bool, true, false, not, _&&_}
 use mathlib.Core.Option.{Option, none, some}
 use mathlib.Core.List.{List, [], _∷_, _++_}
-use Prim.Native.Nat.{ℕ, zero, suc, _+_, _≤_, _<_}
+use Prim.Native.Nat.{ℕ, suc, _≤_, _<_}
 use native.Mathlib.Omega.{arith}
-use lib.Dec.{leb, eqb, eqb·suc-zero}
+use lib.Dec.{leb, eqb}
 use lib.ListN.{length, drop}
 use lib.IntN.{ℤ, pos, negsuc}
 use borrow.Author.Tests.{le-leb, lt-leb}
@@ -14,9 +14,8 @@ use Rattle.numbers.specs.Search.{maybe, isSome}
 use Rattle.numbers.proofs.Search.{from-bound}
 use Rattle.calendar.specs.Calendar.{within, isDay}
 use Rattle.daybook.specs.declared.Opening.{Opening}
-use Rattle.daybook.specs.Book.{Book}
 use Rattle.daybook.specs.Notices.{least, Numbers, decide, isMirn, isFlag, isUser, factsOf, openingRows, opening}
-use Rattle.daybook.proofs.Lists.{Lists, Register, bookOf}
+use Rattle.daybook.proofs.Lists.{Register}
 use Rattle.daybook.proofs.Steps.{findLists, openedLists, openingLists}
 use Rattle.daybook.proofs.Rows.{above, least-first, least-skip, decide-taken, decide-refused}
 use Rattle.daybook.proofs.Well.{WellFormed}
@@ -24,8 +23,7 @@ use Rattle.daybook.proofs.OpenStep.{OpenClear, open-clear, open-step, open-keep
 use Rattle.layout.specs.Layout.{tableLength, standard, placeOf, layout, numAt, registerOf, tableBook}
 use Rattle.layout.specs.Sound.{sound}
 use Rattle.layout.specs.Writes.{appendPoint}
-use Rattle.layout.specs.Calls.{refused, leaves, onTable}
-use Rattle.layout.proofs.Tables.{written-is}
+use Rattle.layout.specs.Calls.{leaves, onTable}
 use Rattle.layout.proofs.PointParts.{all-few-of, withPoints, table-split}
 use Rattle.layout.proofs.TableSound.{length-points, sound-lays, standard-fits}
 use Rattle.layout.proofs.NewPoint.{freshPoint, append-point}
@@ -113,6 +111,7 @@ module _ (t : List ℤ) (n : Opening) (s : sound standard t ≡ true) where
   unfolding openingRows above
   open-out e = sent-back 1 (least-first 2 (not (ranged n)) _ refl (ap not e))
 
+  -- past row 2, with i what the search found
   module _ (r : ranged n ≡ true) (i : ℕ) (is : i ≡ maybe 32 (λ k. k) (indexOf standard t (natOf (n .mirn)))) where
     pub open-known : (i ≡ 32 → ⊥) → openCall t n ≡ (pos 5 ∷ [], t)
     unfolding openingRows above
@@ -135,7 +134,6 @@ module _ (t : List ℤ) (n : Opening) (s : sound standard t ≡ true) where
     pub open-entered : i ≡ 32 → numAt t 0 < 32 → openCall t n ≡ (pos 0 ∷ [], appendPoint standard t (numAt t 0) (factsOf n) (natOf (n .user)))
     open-entered d h = taken (nothing d h) (omega (arith, count))
 
-  -- ---- what the writing needs
-
-  pub clear : ranged n ≡ true → (i : ℕ) → i ≡ maybe 32 (λ k. k) (indexOf standard t (natOf (n .mirn))) → i ≡ 32 → numAt t 0 < 32 → OpenClear standard n known (length (R .points))
-  clear r i is d h = open-clear standard n known (length (R .points)) (nothing r i is d h)
+    -- what the writing needs
+    pub clear : i ≡ 32 → numAt t 0 < 32 → OpenClear standard n known (length (R .points))
+    clear d h = open-clear standard n known (length (R .points)) (nothing d h)

@@ -12,7 +12,6 @@ ghost use Rattle.daybook.specs.Calls.{noticeNumbers};
 ghost use Rattle.layout.specs.Layout.{standard};
 ghost use Rattle.layout.specs.Writes.{cleared, appendPoint};
 ghost use Rattle.opening.specs.Opening.{freshCall, openCall};
-
 use daybook::NoticeAnswer;
 use daybook::Opening;
 use daybook::Ranges;

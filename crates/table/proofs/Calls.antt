@@ -1,12 +1,12 @@
 -- A call on the point of a MIRN, on a lent table: sent back it leaves the table, entered it changes that point's part
 -- alone. What a public call's proof cites. Assumes nothing.
-use mathlib.Core.Path.{_≡_, refl, sym, _∙_, ap, ap₂}
-use mathlib.Core.Bool.{Bool, true, false, not, cond}
-use mathlib.Core.Option.{none, some}
+use mathlib.Core.Path.{_≡_, sym, _∙_, ap}
+use mathlib.Core.Bool.{true, false, not, cond}
+use mathlib.Core.Option.{some}
 use mathlib.Core.List.{List, [], _∷_, _++_}
-use Prim.Native.Nat.{ℕ, zero, suc}
+use Prim.Native.Nat.{ℕ, suc}
 use lib.Dec.{eqb·suc-zero}
-use lib.ListN.{length, drop, replicate}
+use lib.ListN.{drop, replicate}
 use lib.IntN.{ℤ, pos}
 use Rattle.numbers.specs.Naturals.{natOf}
 use Rattle.numbers.specs.Search.{maybe}
@@ -16,7 +16,7 @@ use Rattle.daybook.proofs.Lists.{Lists, Register, bookOf}
 use Rattle.daybook.proofs.Steps.{findLists, withLists, onLists}
 use Rattle.daybook.proofs.Rows.{decide-taken, decide-refused}
 use Rattle.daybook.proofs.Well.{WellFormed}
-use Rattle.layout.specs.Layout.{tableLength, Fits, partOf, withPart, pointNumbers, layout, pointFrom, registerOf, tableBook, written}
+use Rattle.layout.specs.Layout.{tableLength, partOf, withPart, pointNumbers, layout, pointFrom, registerOf, tableBook}
 use Rattle.layout.specs.Sound.{sound}
 use Rattle.layout.specs.Calls.{refused, leaves, onTable}
 use Rattle.layout.proofs.Numbers.{Few}

@@ -76,10 +76,12 @@ returns-3 c =
     let t = r .before .args .t .now in
     let n = r .before .args .n in
     let e = not-false _ (c .before .before .before .if2 .left) in
-    let w = gives (fresh-entered t n (r .if1 .left) (sym (tested i) ∙ e)) in
-    (w .0, c .before .empty .ensures
-    ∙ ap₂ (λ x y. set (set (cleared t 0 7688) 1 x) 2 y) (bias-back (n .nondaily) (nondaily-is (b .before)) (small i e .0)) (bias-back (n .daily) (daily-is b) (small i e .1))
-    ∙ w .1)
+    let w = gives (fresh-entered t n (r .if1 .left) (sym (tested i) ∙ e)) in (
+      w .0,
+      c .before .empty .ensures
+          ∙ ap₂ (λ x y. set (set (cleared t 0 7688) 1 x) 2 y) (bias-back (n .nondaily) (nondaily-is (b .before)) (small i e .0)) (bias-back (n .daily) (daily-is b) (small i e .1))
+          ∙ w .1,
+    )
 
 pub fresh-spec : {M : Type 1} → statement M
 fresh-spec =
