@@ -8,6 +8,7 @@ use native.Mathlib.Omega.{arith}
 use lib.Dec.{ltb}
 use lib.ListN.{length, take, drop, replicate}
 use lib.IntN.{ℤ, pos}
+use lib.Seq.{drop-drop}
 use borrow.Author.Tests.{lt-ltb}
 use Rattle.numbers.specs.Naturals.{natOf}
 use Rattle.numbers.specs.Search.{maybe}
@@ -53,7 +54,7 @@ abbrev pub lent : List ℤ → ℕ → List ℤ
 lent t i = take (8 + 240 * i + 240 - (8 + 240 * i)) (drop (8 + 240 * i) t)
 
 abbrev pub backIn : List ℤ → ℕ → List ℤ → List ℤ
-backIn t i p = take (8 + 240 * i) t ++ (p ++ drop (8 + 240 * i + (8 + 240 * i + 240 - (8 + 240 * i))) t)
+backIn t i p = take (8 + 240 * i) t ++ (p ++ drop (8 + 240 * i + 240 - (8 + 240 * i)) (drop (8 + 240 * i) t))
 
 -- ---- the search by MIRN
 
@@ -155,7 +156,9 @@ answered w a l e u h = (sym (ap (λ w. w .0) e), h ∙ sym (ap (λ w. w .1) e))
 
 back-is : (t : List ℤ) (i : ℕ) (p : List ℤ) → backIn t i p ≡ withPart standard t i p
 unfolding withPart
-back-is t i p = let e : 8 + 240 * i + 240 - (8 + 240 * i) ≡ 240 = omega arith in rw e
+back-is t i p =
+    let e : 8 + 240 * i + 240 - (8 + 240 * i) ≡ 240 = omega arith in
+    rw e (ap (λ l. take (8 + 240 * i) t ++ (p ++ l)) (drop-drop 240 (8 + 240 * i) t))
 
 pub answered-at : (t : List ℤ) (i : ℕ) (w : Numbers × List ℤ) (f : List ℤ → Numbers × List ℤ)
     → w ≡ (f (partOf standard t i) .0, withPart standard t i (f (partOf standard t i) .1))

@@ -79,7 +79,7 @@ fn request_in_range(n: TransferRequest) -> bool
 // The latest User stands at the place of the last registration.
 fn request_at(p: &mut [i64], user: u64, proposed: Day, nochange: u64, holidays: &[i64]) -> RequestAnswer
     requires { ⌜ (partSound (now p) ≡ true) × (length (now p) ≡ 240) × (user ≤ 16) × (proposed .0 ≤ 39999) ⌝ }
-    ensures { λ r. ⌜ (requestNumbers r ≡ requestPart user (allowablePeriod (now (holidays .entry)) (proposed .0) «nochange») (now (p .entry)) .0) × (now (p .exit) ≡ requestPart user (allowablePeriod (now (holidays .entry)) (proposed .0) «nochange») (now (p .entry)) .1) ⌝ }
+    ensures { λ r. ⌜ (requestNumbers r ≡ requestPart user (allowablePeriod (now (holidays .entry)) (proposed .0) nochange) (now (p .entry)) .0) × (now (p .exit) ≡ requestPart user (allowablePeriod (now (holidays .entry)) (proposed .0) nochange) (now (p .entry)) .1) ⌝ }
 {
     if numbers::get(p, 7) != 0 {
         return RequestAnswer::Refused(10);
