@@ -3,15 +3,16 @@ use mathlib.Core.Path.{_≡_, refl, sym, _∙_, ap}
 use mathlib.Core.Bool.{Bool, true, false, not, _&&_}
 use mathlib.Core.Option.{Option}
 use mathlib.Core.List.{List, [], _∷_}
-use Prim.Native.Nat.{ℕ, suc, _≤_, _^_}
+use Prim.Native.Nat.{ℕ, suc, _≤_, _<_, _^_}
 use native.Mathlib.Omega.{arith}
 use lib.Dec.{leb}
-use lib.IntN.{ℤ, pos, negsuc}
+use lib.IntN.{ℤ, pos}
+use borrow.Author.Tests.{le-leb}
 use Rattle.numbers.specs.Naturals.{natOf}
 use Rattle.numbers.specs.Search.{maybe}
 use Rattle.numbers.proofs.Bools.{both}
-use Rattle.calendar.specs.Calendar.{isDay, holidayList, allowablePeriod}
-use Rattle.calendar.proofs.Dates.{within-natural, day-natural}
+use Rattle.calendar.specs.Calendar.{within, isDay, holidayList, allowablePeriod}
+use Rattle.calendar.proofs.Dates.{within-natural}
 use Rattle.daybook.specs.declared.TransferRequest.{TransferRequest}
 use Rattle.daybook.specs.Notices.{isMirn, isUser, isFlag, least, requestEarly, requestRows, pendingOf, request}
 use Rattle.daybook.proofs.Lists.{Lists}
@@ -34,21 +35,20 @@ use Rattle.transfer.proofs.Calls.{call-early, call-missing, call-at}
 abbrev pub inRange : TransferRequest → Bool
 inRange n = isMirn (n .mirn) && isUser (n .user) && isDay (n .proposed) && isFlag (n .nochange)
 
-flag-natural : (z : ℤ) → leb (natOf z) 1 ≡ isFlag z
-flag-natural (pos n) = refl
-flag-natural (negsuc n) = refl
+from-zero : (hi : ℕ) (z : ℤ) → hi < 2 ^ 63 → leb (natOf z) hi ≡ within (pos 0) (pos hi) z
+from-zero hi z h = ap (λ b. b && leb (natOf z) hi) (sym (le-leb 0 (natOf z) (omega arith))) ∙ within-natural 0 hi z h
 
 -- on the naturals that the code reads
 pub request-numbers : (n : TransferRequest) (m u d f : ℕ) → m ≡ natOf (n .mirn) → u ≡ natOf (n .user) → d ≡ natOf (n .proposed) → f ≡ natOf (n .nochange)
     → (((leb 1 m && leb m 9999999999) && (leb 1 u && leb u 16)) && leb d 39999 && leb f 1) ≡ inRange n
 request-numbers n m u d f em eu ed ef =
-    rw (em, eu, ed, ef, within-natural 1 9999999999 (n .mirn) (omega arith), within-natural 1 16 (n .user) (omega arith), day-natural (n .proposed), flag-natural (n .nochange))
+    rw (em, eu, ed, ef, within-natural 1 9999999999 (n .mirn) (omega arith), within-natural 1 16 (n .user) (omega arith), from-zero 39999 (n .proposed) (omega arith), from-zero 1 (n .nochange) (omega arith))
 
 pub request-bounds : (n : TransferRequest) → inRange n ≡ true → (natOf (n .user) ≤ 16) × (natOf (n .proposed) ≤ 39999)
 request-bounds n r =
-    let nochange = both _ _ r in
-    let proposed = both _ _ (nochange .0) in
-    let user = both _ _ (proposed .0) in
+    let three = both (isMirn (n .mirn) && isUser (n .user) && isDay (n .proposed)) (isFlag (n .nochange)) r .0 in
+    let proposed = both (isMirn (n .mirn) && isUser (n .user)) (isDay (n .proposed)) three in
+    let user = both (isMirn (n .mirn)) (isUser (n .user)) (proposed .0) in
     (within-bounds 1 16 (n .user) (user .1) .1, within-bounds 0 39999 (n .proposed) (proposed .1) .1)
 
 -- ---- the call
@@ -84,7 +84,7 @@ module _ (t : List ℤ) (n : TransferRequest) (holidays : List ℤ) where
       module _ (h : holidayList holidays ≡ true) (i : ℕ) (e : i ≡ maybe 32 (λ k. k) (indexOf standard t (natOf (n .mirn)))) where
         passed : least (requestEarly n holidays) ≡ 0
         unfolding requestEarly least
-        passed = least-skip 2 _ _ (ap not r) ∙ least-skip 3 _ [] (ap not h)
+        passed = least-skip 2 _ ((3, not (holidayList holidays)) ∷ []) (ap not r) ∙ least-skip 3 _ [] (ap not h)
 
         pub request-missing : i ≡ 32 → requestCall t n holidays ≡ (pos 4 ∷ pos 0 ∷ pos 0 ∷ [], t)
         unfolding requestCall requestLists requestEarly above
