@@ -1,4 +1,3 @@
-pub mod Calls
 pub mod Points
 pub mod Withdrawals
 pub mod Requests

@@ -3,7 +3,7 @@ use mathlib.Core.Path.{_≡_, refl, sym, _∙_, ap}
 use mathlib.Core.Bool.{Bool, true, false, not, _&&_}
 use mathlib.Core.Option.{Option}
 use mathlib.Core.List.{List, [], _∷_}
-use Prim.Native.Nat.{ℕ, suc, _≤_, _<_, _^_}
+use Prim.Native.Nat.{ℕ, _≤_, _<_, _^_}
 use native.Mathlib.Omega.{arith}
 use lib.Dec.{leb}
 use lib.IntN.{ℤ, pos}
@@ -15,20 +15,18 @@ use Rattle.calendar.specs.Calendar.{within, isDay, holidayList, allowablePeriod
 use Rattle.calendar.proofs.Dates.{within-natural}
 use Rattle.daybook.specs.declared.TransferRequest.{TransferRequest}
 use Rattle.daybook.specs.Notices.{isMirn, isUser, isFlag, least, requestEarly, requestRows, pendingOf, request}
-use Rattle.daybook.proofs.Lists.{Lists}
-use Rattle.daybook.proofs.Steps.{withPendingLists, requestLists}
-use Rattle.daybook.proofs.Well.{Well}
+use Rattle.daybook.proofs.Steps.{requestLists}
 use Rattle.daybook.proofs.Rows.{above, least-first, least-skip}
 use Rattle.daybook.proofs.Bounds.{within-bounds}
 use Rattle.daybook.proofs.TransferStep.{request-step, request-keeps}
 use Rattle.layout.specs.Layout.{standard, partOf, withPart}
 use Rattle.layout.specs.Sound.{sound}
-use Rattle.layout.proofs.Numbers.{Few}
 use Rattle.table.specs.Lookup.{indexOf}
 use Rattle.table.proofs.Calls.{call-unsound}
+use Rattle.table.proofs.OnPart.{PointCall, call-early, call-missing, call-at}
 use Rattle.transfer.specs.Transfer.{requestCall}
 use Rattle.transfer.specs.Parts.{requestRowsOf, requestEffect, requestPart}
-use Rattle.transfer.proofs.Calls.{call-early, call-missing, call-at}
+use Rattle.transfer.proofs.Points.{pending-room}
 
 -- ---- row 2
 
@@ -53,48 +51,45 @@ request-bounds n r =
 
 -- ---- the call
 
-request-room : (user : ℕ) (period : Option (ℕ × ℕ)) (q : Lists) → Well 48 q → Few 48 (requestEffect user period q .1)
-unfolding withPendingLists
-request-room user period q w = record { regs = w .regsFew; offs = w .offsFew; recs = w .recsFew }
+abbrev periodOf : TransferRequest → List ℤ → Option (ℕ × ℕ)
+periodOf n holidays = allowablePeriod holidays (natOf (n .proposed)) (natOf (n .nochange))
+
+on-point : (n : TransferRequest) (holidays : List ℤ)
+    → PointCall 2 (n .mirn) (requestEarly n holidays) (requestRowsOf (natOf (n .user)) (periodOf n holidays)) (requestEffect (natOf (n .user)) (periodOf n holidays)) (request n holidays)
+unfolding requestLists requestEarly above
+on-point n holidays =
+    record { numbered = refl; is = request-step n holidays; keeps = λ R ok. request-keeps n holidays ok; room = pending-room _ }
 
 module _ (t : List ℤ) (n : TransferRequest) (holidays : List ℤ) where
-  abbrev period : Option (ℕ × ℕ)
-  period = allowablePeriod holidays (natOf (n .proposed)) (natOf (n .nochange))
-
   pub request-unsound : sound standard t ≡ false → requestCall t n holidays ≡ (pos 1 ∷ pos 0 ∷ pos 0 ∷ [], t)
   unfolding requestCall
   request-unsound e = call-unsound 2 (request n holidays) standard t e
 
   module _ (s : sound standard t ≡ true) where
     pub request-range : inRange n ≡ false → requestCall t n holidays ≡ (pos 2 ∷ pos 0 ∷ pos 0 ∷ [], t)
-    unfolding requestCall requestLists requestEarly requestRows above
-    request-range e =
-        call-early 2 (n .mirn) (requestEarly n holidays) (requestRowsOf (natOf (n .user)) period) (requestEffect (natOf (n .user)) period) (request n holidays) refl
-        (request-step n holidays) (λ R ok. request-keeps n holidays ok) t s 1 (omega arith) (least-first 2 _ _ refl (ap not e)) (λ q. refl)
+    unfolding requestCall requestEarly requestRows above
+    request-range e = call-early (on-point n holidays) t s 1 (omega arith) (least-first 2 _ _ refl (ap not e)) (λ q. refl)
 
     module _ (r : inRange n ≡ true) where
-      -- a bad holiday list counts before an unknown MIRN
+      past-2 : least (requestEarly n holidays) ≡ least ((3, not (holidayList holidays)) ∷ [])
+      unfolding requestEarly
+      past-2 = least-skip 2 _ _ (ap not r)
+
+      -- a bad holiday list comes before an unknown MIRN
       pub request-holidays : holidayList holidays ≡ false → requestCall t n holidays ≡ (pos 3 ∷ pos 0 ∷ pos 0 ∷ [], t)
-      unfolding requestCall requestLists requestEarly requestRows above
-      request-holidays e =
-          call-early 2 (n .mirn) (requestEarly n holidays) (requestRowsOf (natOf (n .user)) period) (requestEffect (natOf (n .user)) period) (request n holidays) refl
-          (request-step n holidays) (λ R ok. request-keeps n holidays ok) t s 2 (omega arith)
-          (least-skip 2 _ _ (ap not r) ∙ least-first 3 _ [] refl (ap not e)) (λ q. refl)
+      unfolding requestCall requestRows above
+      request-holidays e = call-early (on-point n holidays) t s 2 (omega arith) (past-2 ∙ least-first 3 _ [] refl (ap not e)) (λ q. refl)
 
       module _ (h : holidayList holidays ≡ true) (i : ℕ) (e : i ≡ maybe 32 (λ k. k) (indexOf standard t (natOf (n .mirn)))) where
         passed : least (requestEarly n holidays) ≡ 0
-        unfolding requestEarly least
-        passed = least-skip 2 _ ((3, not (holidayList holidays)) ∷ []) (ap not r) ∙ least-skip 3 _ [] (ap not h)
+        unfolding least
+        passed = past-2 ∙ least-skip 3 _ [] (ap not h)
 
         pub request-missing : i ≡ 32 → requestCall t n holidays ≡ (pos 4 ∷ pos 0 ∷ pos 0 ∷ [], t)
-        unfolding requestCall requestLists requestEarly above
-        request-missing =
-            call-missing 2 (n .mirn) (requestEarly n holidays) (requestRowsOf (natOf (n .user)) period) (requestEffect (natOf (n .user)) period) (request n holidays) refl
-            (request-step n holidays) (λ R ok. request-keeps n holidays ok) t s passed i e
+        unfolding requestCall
+        request-missing = call-missing (on-point n holidays) t s passed i e
 
         pub request-point : (i ≡ 32 → ⊥) → requestCall t n holidays
-            ≡ (requestPart (natOf (n .user)) period (partOf standard t i) .0, withPart standard t i (requestPart (natOf (n .user)) period (partOf standard t i) .1))
-        unfolding requestCall requestPart requestLists requestEarly above
-        request-point k =
-            call-at 2 (n .mirn) (requestEarly n holidays) (requestRowsOf (natOf (n .user)) period) (requestEffect (natOf (n .user)) period) (request n holidays) refl
-            (request-step n holidays) (λ R ok. request-keeps n holidays ok) t s passed i e k (request-room (natOf (n .user)) period)
+            ≡ (requestPart (natOf (n .user)) (periodOf n holidays) (partOf standard t i) .0, withPart standard t i (requestPart (natOf (n .user)) (periodOf n holidays) (partOf standard t i) .1))
+        unfolding requestCall requestPart
+        request-point = call-at (on-point n holidays) t s passed i e

@@ -13,19 +13,11 @@ use Rattle.table.specs.Lookup.{indexOf}
 use Rattle.table.proofs.Laws.{sound-long}
 use Rattle.transfer.specs.Transfer.{requestCall}
 use Rattle.transfer.specs.Parts.{requestPart}
-use Rattle.transfer.proofs.Calls.{lent-sound, answered, answered-at}
+use Rattle.table.proofs.OnPart.{lent-sound, answered, answered-at}
 use Rattle.transfer.proofs.Requests.{inRange, request-bounds, request-unsound, request-range, request-holidays, request-missing, request-point}
 use borrow.Author.Needs.{sfits-of, needs}
 use Rattle.transfer.proofs.request.Statement.{statement}
 use Rattle.transfer.proofs.request.Tie as tie
-use Rattle.transfer.proofs.request.Reads as reads
-use Rattle.transfer.proofs.request.Lts as lts
-use Rattle.calendar.proofs.holiday_list.Reads as holiday-list-reads
-use Rattle.numbers.proofs.natural.Reads as natural-reads
-use Rattle.table.proofs.index_of.Reads as index-of-reads
-use Rattle.table.proofs.sound.Reads as sound-reads
-use Rattle.transfer.proofs.request_at.Reads as request-at-reads
-use Rattle.transfer.proofs.request_in_range.Reads as request-in-range-reads
 
 -- what has passed at each place, and the numbers that were read
 sound-is : (c : tie.Else1) → sound standard (c .before .before .before .args .t .now) ≡ true
@@ -60,15 +52,12 @@ nochange-is c =
     let f = c .before .before .before in
     c .natural4 .ensures .0 ∙ ap natOf (toZ-ofZ w64 (f .before .before .before .before .before .before .before .before .before .before .before .before .before .before .before .args .n .nochange) (sfits-of (f .struct-told4 .given .1 .1 .1 .0 .1)))
 
--- src/lib.rt:105:9
 sound-requires : tie.Need-sound-requires
 sound-requires c κs = search needs
 
--- src/lib.rt:106:9
 same-length : tie.Need-same-length
 same-length c = search needs
 
--- src/lib.rt:106:9
 returns : tie.Need-returns
 returns c =
     let s = c .before .before .before in
@@ -76,15 +65,12 @@ returns c =
     let w = requestCall t (s .args .n) (s .args .holidays .now) in
     answered w _ t (request-unsound t (s .args .n) (s .args .holidays .now) (sym (c .before .sound .ensures) ∙ not-true _ (c .if1 .taken))) t refl
 
--- src/lib.rt:108:9
 request-in-range-requires : tie.Need-request-in-range-requires
 request-in-range-requires c κs = search needs
 
--- src/lib.rt:109:9
 same-length-2 : tie.Need-same-length-2
 same-length-2 c = search needs
 
--- src/lib.rt:109:9
 returns-2 : tie.Need-returns-2
 returns-2 c =
     let e = c .before .before in
@@ -94,15 +80,12 @@ returns-2 c =
     answered w _ t
     (request-range t (s .args .n) (s .args .holidays .now) (sound-is e) (sym (c .before .request-in-range .ensures) ∙ not-true _ (c .if2 .taken))) t refl
 
--- src/lib.rt:111:9
 holiday-list-requires : tie.Need-holiday-list-requires
 holiday-list-requires c κs = search needs
 
--- src/lib.rt:112:9
 same-length-3 : tie.Need-same-length-3
 same-length-3 c = search needs
 
--- src/lib.rt:112:9
 returns-3 : tie.Need-returns-3
 returns-3 c =
     let r = c .before .before in
@@ -113,21 +96,17 @@ returns-3 c =
     (request-holidays t (s .args .n) (s .args .holidays .now) (sound-is (r .before .before)) (range-is r)
     (sym (c .before .holiday-list .ensures) ∙ not-true _ (c .if3 .taken))) t refl
 
--- src/lib.rt:115:9
 natural-requires : tie.Need-natural-requires
 natural-requires c κs = search needs
 
--- src/lib.rt:116:9
 index-of-requires : tie.Need-index-of-requires
 index-of-requires c κs =
     let e = c .before .before .before .before .before .before .before in
     sound-long (e .before .before .before .args .t .now) (sound-is e)
 
--- src/lib.rt:118:9
 same-length-4 : tie.Need-same-length-4
 same-length-4 c = search needs
 
--- src/lib.rt:118:9
 returns-4 : tie.Need-returns-4
 returns-4 c =
     let h = c .before .before .before .before .before in
@@ -138,50 +117,39 @@ returns-4 c =
     answered w _ t
     (request-missing t (s .args .n) (s .args .holidays .now) (sound-is (r .before .before)) (range-is r) (holidays-is h) _ (index-is (c .before)) (c .if4 .taken)) t refl
 
--- src/lib.rt:123:9
 natural-requires-2 : tie.Need-natural-requires-2
 natural-requires-2 c κs = search needs
 
--- src/lib.rt:124:19
 natural-requires-3 : tie.Need-natural-requires-3
 natural-requires-3 c κs = search needs
 
--- src/lib.rt:125:9
 natural-requires-4 : tie.Need-natural-requires-4
 natural-requires-4 c κs = search needs
 
--- src/lib.rt:126:17
 mul-a : tie.Need-mul-a
 mul-a c = search needs
 
--- src/lib.rt:126:13
 add-a : tie.Need-add-a
 add-a c = search needs
 
--- src/lib.rt:127:13
 add-b : tie.Need-add-b
 add-b c = search needs
 
--- src/lib.rt:128:16
 mul-request-at : tie.Need-mul-request-at
 mul-request-at c = search needs
 
--- src/lib.rt:128:16
 sub-request-at : tie.Need-sub-request-at
 sub-request-at c = search needs
 
--- src/lib.rt:128:16
 part-request-at-start : tie.Need-part-request-at-start
 part-request-at-start c = search needs
 
--- src/lib.rt:128:16
 part-request-at-end : tie.Need-part-request-at-end
 part-request-at-end c =
     let i = c .before .before .before .before .before .before .before in
     let e = i .before .before .before .before .before .before .before .before in
     omega (arith, i .index-of .ensures .1, c .before .before .before .before .before .before .if4 .left, sound-long (e .before .before .before .args .t .now) (sound-is e))
 
--- src/lib.rt:128:5
 request-at-requires : tie.Need-request-at-requires
 request-at-requires c κs =
     let d = c .before .before in
@@ -192,11 +160,9 @@ request-at-requires c κs =
     let b = request-bounds (s .args .n) (range-is r) in
     (l .0, l .1, omega (arith, user-is (d .before)), omega (arith, proposed-is d))
 
--- src/lib.rt:102:1
 same-length-5 : tie.Need-same-length-5
 same-length-5 c = search needs
 
--- src/lib.rt:102:1
 returns-5 : tie.Need-returns-5
 returns-5 c =
     let f = c .before .before .before in

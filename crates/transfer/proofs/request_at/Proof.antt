@@ -5,16 +5,11 @@ use Rattle.calendar.specs.Calendar.{allowablePeriod, periodDays}
 use Rattle.calendar.proofs.Business.{period-bound}
 use Rattle.layout.specs.Layout.{numAt}
 use Rattle.transfer.specs.Parts.{requestPart}
-use Rattle.transfer.proofs.Calls.{answered}
-use Rattle.transfer.proofs.Points.{some-registration, request-waiting, request-same, request-outside, request-full, request-entered}
+use Rattle.table.proofs.OnPart.{answered}
+use Rattle.transfer.proofs.Points.{registrations-count, request-waiting, request-same, request-outside, request-full, request-entered}
 use borrow.Author.Needs.{needs}
 use Rattle.transfer.proofs.request_at.Statement.{statement}
 use Rattle.transfer.proofs.request_at.Tie as tie
-use Rattle.transfer.proofs.request_at.Reads as reads
-use Rattle.transfer.proofs.request_at.Lts as lts
-use Rattle.calendar.proofs.allowable_period.Reads as allowable-period-reads
-use Rattle.numbers.proofs.get.Reads as get-reads
-use Rattle.rows.proofs.set_pending.Reads as set-pending-reads
 
 -- what the three places hold
 idle-is : (c : tie.Else1) → numAt (c .before .before .before .args .p .now) 7 ≡ 0
@@ -28,15 +23,12 @@ latest-is c =
     let n = c .before .before in
     c .get3 .ensures .0 ∙ ap (λ k. numAt (n .before .before .before .before .before .args .p .now) (15 + 2 * k)) (count-is n)
 
--- src/lib.rt:84:8
 get-requires : tie.Need-get-requires
 get-requires c κs = search needs
 
--- src/lib.rt:85:9
 same-length : tie.Need-same-length
 same-length c = search needs
 
--- src/lib.rt:85:9
 returns : tie.Need-returns
 returns c =
     let s = c .before .before .before in
@@ -45,33 +37,27 @@ returns c =
     answered (requestPart (s .args .user) d p) _ p
     (request-waiting p (s .pre .0) (s .pre .1) (s .args .user) d (λ e. c .if1 .taken (c .before .get .ensures .0 ∙ e))) p refl
 
--- src/lib.rt:87:17
 get-requires-2 : tie.Need-get-requires-2
 get-requires-2 c κs = search needs
 
--- src/lib.rt:88:29
 mul-get : tie.Need-mul-get
 mul-get c =
     let s = c .before .before .before .before .before .before in
-    omega (arith, count-is (c .before), some-registration (s .args .p .now) (s .pre .0) (s .pre .1) .1)
+    omega (arith, count-is (c .before), registrations-count (s .args .p .now) (s .pre .0) (s .pre .1) .1)
 
--- src/lib.rt:88:24
 add-get : tie.Need-add-get
 add-get c =
     let s = c .before .before .before .before .before .before in
-    omega (arith, count-is (c .before), some-registration (s .args .p .now) (s .pre .0) (s .pre .1) .1)
+    omega (arith, count-is (c .before), registrations-count (s .args .p .now) (s .pre .0) (s .pre .1) .1)
 
--- src/lib.rt:88:8
 get-requires-3 : tie.Need-get-requires-3
 get-requires-3 c κs =
     let s = c .before .before .before .before .before .before in
-    omega (arith, count-is (c .before), some-registration (s .args .p .now) (s .pre .0) (s .pre .1) .1)
+    omega (arith, count-is (c .before), registrations-count (s .args .p .now) (s .pre .0) (s .pre .1) .1)
 
--- src/lib.rt:89:9
 same-length-2 : tie.Need-same-length-2
 same-length-2 c = search needs
 
--- src/lib.rt:89:9
 returns-2 : tie.Need-returns-2
 returns-2 c =
     let e = c .before .before .before .before .before in
@@ -81,23 +67,18 @@ returns-2 c =
     answered (requestPart (s .args .user) d p) _ p
     (request-same p (s .pre .0) (s .pre .1) (s .args .user) d (idle-is e) (sym (latest-is (c .before)) ∙ c .if2 .taken)) p refl
 
--- src/lib.rt:91:39
 allowable-period-requires : tie.Need-allowable-period-requires
 allowable-period-requires c κs = search needs
 
--- src/lib.rt:91:24
 enum-known-first : tie.Need-enum-known-first
 enum-known-first c = search needs
 
--- src/lib.rt:92:9
 enum-told : tie.Need-enum-told
 enum-told c = search needs
 
--- src/lib.rt:92:9
 same-length-3 : tie.Need-same-length-3
 same-length-3 c = search needs
 
--- src/lib.rt:92:9
 returns-3 : tie.Need-returns-3
 returns-3 c =
     let a = c .before .before in
@@ -110,11 +91,9 @@ returns-3 c =
     (request-outside p (s .pre .0) (s .pre .1) (s .args .user) d (idle-is e) (λ h. a .before .if2 .left (latest-is g ∙ h))
     (sym (a .allowable-period .ensures) ∙ ap periodDays (c .enum-told .given .1))) p refl
 
--- src/lib.rt:95:9
 same-length-4 : tie.Need-same-length-4
 same-length-4 c = search needs
 
--- src/lib.rt:95:9
 returns-4 : tie.Need-returns-4
 returns-4 c =
     let f = c .before .before in
@@ -128,7 +107,6 @@ returns-4 c =
     (request-full p (s .pre .0) (s .pre .1) (s .args .user) d (idle-is e) (λ h. a .before .if2 .left (latest-is g ∙ h)) _ _
     (sym (a .allowable-period .ensures) ∙ ap periodDays (f .first .given .1)) (omega (arith, count-is (g .before .before), c .if3 .taken))) p refl
 
--- src/lib.rt:97:5
 set-pending-requires : tie.Need-set-pending-requires
 set-pending-requires c κs =
     let f = c .before .before .before in
@@ -137,11 +115,9 @@ set-pending-requires c κs =
     let b = period-bound (s .args .holidays .now) (s .args .proposed .0) (s .args .nochange) _ _ (sym (a .allowable-period .ensures) ∙ ap periodDays (f .first .given .1)) (s .pre .3) in
     (omega arith, omega arith, omega arith, omega arith)
 
--- src/lib.rt:80:1
 same-length-5 : tie.Need-same-length-5
 same-length-5 c = search needs
 
--- src/lib.rt:80:1
 returns-5 : tie.Need-returns-5
 returns-5 c =
     let k = c .before .before .before in

@@ -1,35 +1,27 @@
 use mathlib.Core.Path.{_≡_, refl, sym, ap, _∙_}
-use mathlib.Core.Bool.{true, _&&_}
+use mathlib.Core.Bool.{true}
 use native.Mathlib.Omega.{arith}
 use mir.Syntax.{w64}
 use mir.ValLaws.{toZ-ofZ}
 use borrow.Author.Tests.{not-true, not-false}
 use Rattle.numbers.specs.Naturals.{natOf}
 use Rattle.numbers.specs.Search.{maybe}
-use Rattle.daybook.specs.Notices.{isMirn, isUser}
 use Rattle.layout.specs.Layout.{standard}
 use Rattle.layout.specs.Sound.{sound}
 use Rattle.table.specs.Lookup.{indexOf}
 use Rattle.table.proofs.Laws.{sound-long}
 use Rattle.transfer.specs.Transfer.{withdrawCall}
 use Rattle.transfer.specs.Parts.{withdrawPart}
-use Rattle.transfer.proofs.Calls.{lent-sound, answered, answered-at}
-use Rattle.transfer.proofs.Withdrawals.{withdrawal-user, withdraw-unsound, withdraw-range, withdraw-missing, withdraw-point}
+use Rattle.table.proofs.OnPart.{lent-sound, answered, answered-at}
+use Rattle.transfer.proofs.Withdrawals.{inRange, withdrawal-user, withdraw-unsound, withdraw-range, withdraw-missing, withdraw-point}
 use borrow.Author.Needs.{sfits-of, needs}
 use Rattle.transfer.proofs.withdraw.Statement.{statement}
 use Rattle.transfer.proofs.withdraw.Tie as tie
-use Rattle.transfer.proofs.withdraw.Reads as reads
-use Rattle.transfer.proofs.withdraw.Lts as lts
-use Rattle.numbers.proofs.natural.Reads as natural-reads
-use Rattle.table.proofs.index_of.Reads as index-of-reads
-use Rattle.table.proofs.sound.Reads as sound-reads
-use Rattle.transfer.proofs.withdraw_at.Reads as withdraw-at-reads
-use Rattle.transfer.proofs.withdrawal_in_range.Reads as withdrawal-in-range-reads
 
 sound-is : (c : tie.Else1) → sound standard (c .before .before .before .args .t .now) ≡ true
 sound-is c = sym (c .before .sound .ensures) ∙ not-false _ (c .if1 .left)
 
-range-is : (c : tie.Else2) → (isMirn (c .before .before .before .before .before .args .n .mirn) && isUser (c .before .before .before .before .before .args .n .user)) ≡ true
+range-is : (c : tie.Else2) → inRange (c .before .before .before .before .before .args .n) ≡ true
 range-is c = sym (c .before .withdrawal-in-range .ensures) ∙ not-false _ (c .if2 .left)
 
 index-is : (c : tie.After-index-of)
@@ -46,15 +38,12 @@ user-is c =
     let f = c .before .before .before .before .before in
     c .natural2 .ensures .0 ∙ ap natOf (toZ-ofZ w64 (f .before .before .before .before .before .before .before .args .n .user) (sfits-of (f .struct-told2 .given .1 .0 .1)))
 
--- src/lib.rt:46:9
 sound-requires : tie.Need-sound-requires
 sound-requires c κs = search needs
 
--- src/lib.rt:47:9
 same-length : tie.Need-same-length
 same-length c = search needs
 
--- src/lib.rt:47:9
 returns : tie.Need-returns
 returns c =
     let s = c .before .before .before in
@@ -62,15 +51,12 @@ returns c =
     let n = s .args .n in
     answered (withdrawCall t n) _ t (withdraw-unsound t n (sym (c .before .sound .ensures) ∙ not-true _ (c .if1 .taken))) t refl
 
--- src/lib.rt:49:9
 withdrawal-in-range-requires : tie.Need-withdrawal-in-range-requires
 withdrawal-in-range-requires c κs = search needs
 
--- src/lib.rt:50:9
 same-length-2 : tie.Need-same-length-2
 same-length-2 c = search needs
 
--- src/lib.rt:50:9
 returns-2 : tie.Need-returns-2
 returns-2 c =
     let e = c .before .before in
@@ -79,21 +65,17 @@ returns-2 c =
     let n = s .args .n in
     answered (withdrawCall t n) _ t (withdraw-range t n (sound-is e) (sym (c .before .withdrawal-in-range .ensures) ∙ not-true _ (c .if2 .taken))) t refl
 
--- src/lib.rt:54:9
 natural-requires : tie.Need-natural-requires
 natural-requires c κs = search needs
 
--- src/lib.rt:55:9
 index-of-requires : tie.Need-index-of-requires
 index-of-requires c κs =
     let e = c .before .before .before .before .before .before in
     sound-long (e .before .before .before .args .t .now) (sound-is e)
 
--- src/lib.rt:57:9
 same-length-3 : tie.Need-same-length-3
 same-length-3 c = search needs
 
--- src/lib.rt:57:9
 returns-3 : tie.Need-returns-3
 returns-3 c =
     let r = c .before .before .before .before .before .before in
@@ -102,42 +84,33 @@ returns-3 c =
     let n = s .args .n in
     answered (withdrawCall t n) _ t (withdraw-missing t n (sound-is (r .before .before)) (range-is r) _ (index-is (c .before)) (c .if3 .taken)) t refl
 
--- src/lib.rt:59:9
 natural-requires-2 : tie.Need-natural-requires-2
 natural-requires-2 c κs = search needs
 
--- src/lib.rt:60:17
 mul-a : tie.Need-mul-a
 mul-a c = search needs
 
--- src/lib.rt:60:13
 add-a : tie.Need-add-a
 add-a c = search needs
 
--- src/lib.rt:61:13
 add-b : tie.Need-add-b
 add-b c = search needs
 
--- src/lib.rt:62:17
 mul-withdraw-at : tie.Need-mul-withdraw-at
 mul-withdraw-at c = search needs
 
--- src/lib.rt:62:17
 sub-withdraw-at : tie.Need-sub-withdraw-at
 sub-withdraw-at c = search needs
 
--- src/lib.rt:62:17
 part-withdraw-at-start : tie.Need-part-withdraw-at-start
 part-withdraw-at-start c = search needs
 
--- src/lib.rt:62:17
 part-withdraw-at-end : tie.Need-part-withdraw-at-end
 part-withdraw-at-end c =
     let r = c .before .before .before .before .before .before .before in
     let s = r .before .before .before .before .before in
     omega (arith, c .before .before .index-of .ensures .1, c .before .if3 .left, sound-long (s .args .t .now) (sound-is (r .before .before)))
 
--- src/lib.rt:62:5
 withdraw-at-requires : tie.Need-withdraw-at-requires
 withdraw-at-requires c κs =
     let i = c .before .before .before in
@@ -146,11 +119,9 @@ withdraw-at-requires c κs =
     let l = lent-sound (s .args .t .now) (sound-is (r .before .before)) (natOf (s .args .n .mirn)) _ (index-is i) (c .before .before .if3 .left) in
     (l .0, l .1, omega (arith, user-is (c .before), withdrawal-user (s .args .n) (range-is r)))
 
--- src/lib.rt:43:1
 same-length-4 : tie.Need-same-length-4
 same-length-4 c = search needs
 
--- src/lib.rt:43:1
 returns-4 : tie.Need-returns-4
 returns-4 c =
     let u = c .before .before .before in

@@ -2,28 +2,22 @@ use mathlib.Core.Path.{ap, _∙_}
 use mir.Syntax.{w64}
 use mir.ValLaws.{toZ-ofZ}
 use Rattle.numbers.specs.Naturals.{natOf}
-use Rattle.transfer.proofs.Withdrawals.{withdrawal-range}
+use Rattle.transfer.proofs.Withdrawals.{withdrawal-numbers}
 use borrow.Author.Needs.{sfits-of, needs}
 use Rattle.transfer.proofs.withdrawal_in_range.Statement.{statement}
 use Rattle.transfer.proofs.withdrawal_in_range.Tie as tie
-use Rattle.transfer.proofs.withdrawal_in_range.Reads as reads
-use Rattle.transfer.proofs.withdrawal_in_range.Lts as lts
-use Rattle.numbers.proofs.natural.Reads as natural-reads
 
--- src/lib.rt:25:9
 natural-requires : tie.Need-natural-requires
 natural-requires c κs = search needs
 
--- src/lib.rt:26:9
 natural-requires-2 : tie.Need-natural-requires-2
 natural-requires-2 c κs = search needs
 
--- src/lib.rt:20:1
 returns : tie.Need-returns
 returns c =
     let s = c .before .before .before .before in
     let told = c .before .before .struct-told2 .given in
-    withdrawal-range (s .args .n) _ _
+    withdrawal-numbers (s .args .n) _ _
     (c .before .natural .ensures .0 ∙ ap natOf (toZ-ofZ w64 (s .args .n .mirn) (sfits-of (told .0 .1))))
     (c .natural2 .ensures .0 ∙ ap natOf (toZ-ofZ w64 (s .args .n .user) (sfits-of (told .1 .0 .1))))
 
