@@ -18,25 +18,39 @@ use borrow.Author.Needs.{sfits-of, needs}
 use Rattle.transfer.proofs.withdraw.Statement.{statement}
 use Rattle.transfer.proofs.withdraw.Tie as tie
 
-sound-is : (c : tie.Else1) → sound standard (c .before .before .before .args .t .now) ≡ true
+-- ---- the places on the way, each with the entry
+
+abbrev sounds : tie.Else1 → tie.Start
+sounds c = c .before .before .before
+
+abbrev ranges : tie.Else2 → tie.Start
+ranges c = sounds (c .before .before)
+
+abbrev tests : tie.After-index-of → tie.Else2
+tests c = c .before .before .before .before .before
+
+-- ---- what has passed there, and the numbers that were read
+
+sound-is : (c : tie.Else1) → sound standard (sounds c .args .t .now) ≡ true
 sound-is c = sym (c .before .sound .ensures) ∙ not-false _ (c .if1 .left)
 
-range-is : (c : tie.Else2) → inRange (c .before .before .before .before .before .args .n) ≡ true
+range-is : (c : tie.Else2) → inRange (ranges c .args .n) ≡ true
 range-is c = sym (c .before .withdrawal-in-range .ensures) ∙ not-false _ (c .if2 .left)
 
 index-is : (c : tie.After-index-of)
-    → c .index-of .result
-    ≡ maybe 32 (λ k. k) (indexOf standard (c .before .before .before .before .before .before .before .before .before .before .args .t .now) (natOf (c .before .before .before .before .before .before .before .before .before .before .args .n .mirn)))
+    → c .index-of .result ≡ maybe 32 (λ k. k) (indexOf standard (ranges (tests c) .args .t .now) (natOf (ranges (tests c) .args .n .mirn)))
 index-is c =
+    let s = ranges (tests c) in
     let m = c .before .before in
-    let s = m .before .before .before .before .before .before .before .before in
     c .index-of .ensures .0
-    ∙ ap (λ k. maybe 32 (λ k. k) (indexOf standard (s .args .t .now) k)) (m .natural .ensures .0 ∙ ap natOf (toZ-ofZ w64 (s .args .n .mirn) (sfits-of (m .before .struct-told2 .given .0 .1))))
+    ∙ ap (λ k. maybe 32 (λ k. k) (indexOf standard (s .args .t .now) k))
+    (m .natural .ensures .0 ∙ ap natOf (toZ-ofZ w64 (s .args .n .mirn) (sfits-of (m .before .struct-told2 .given .0 .1))))
 
-user-is : (c : tie.After-natural2) → c .natural2 .result ≡ natOf (c .before .before .before .before .before .before .before .before .before .before .before .before .args .n .user)
+user-is : (c : tie.After-natural2) → c .natural2 .result ≡ natOf (ranges (tests (c .before .before)) .args .n .user)
 user-is c =
-    let f = c .before .before .before .before .before in
-    c .natural2 .ensures .0 ∙ ap natOf (toZ-ofZ w64 (f .before .before .before .before .before .before .before .args .n .user) (sfits-of (f .struct-told2 .given .1 .0 .1)))
+    c .natural2 .ensures .0 ∙ ap natOf (toZ-ofZ w64 (ranges (tests (c .before .before)) .args .n .user) (sfits-of (c .before .before .before .before .before .struct-told2 .given .1 .0 .1)))
+
+-- ---- the needs
 
 sound-requires : tie.Need-sound-requires
 sound-requires c κs = search needs
@@ -48,8 +62,7 @@ returns : tie.Need-returns
 returns c =
     let s = c .before .before .before in
     let t = s .args .t .now in
-    let n = s .args .n in
-    answered (withdrawCall t n) _ t (withdraw-unsound t n (sym (c .before .sound .ensures) ∙ not-true _ (c .if1 .taken))) t refl
+    answered (withdrawCall t (s .args .n)) _ t (withdraw-unsound t (s .args .n) (sym (c .before .sound .ensures) ∙ not-true _ (c .if1 .taken))) t refl
 
 withdrawal-in-range-requires : tie.Need-withdrawal-in-range-requires
 withdrawal-in-range-requires c κs = search needs
@@ -60,10 +73,10 @@ same-length-2 c = search needs
 returns-2 : tie.Need-returns-2
 returns-2 c =
     let e = c .before .before in
-    let s = e .before .before .before in
+    let s = sounds e in
     let t = s .args .t .now in
-    let n = s .args .n in
-    answered (withdrawCall t n) _ t (withdraw-range t n (sound-is e) (sym (c .before .withdrawal-in-range .ensures) ∙ not-true _ (c .if2 .taken))) t refl
+    answered (withdrawCall t (s .args .n)) _ t
+    (withdraw-range t (s .args .n) (sound-is e) (sym (c .before .withdrawal-in-range .ensures) ∙ not-true _ (c .if2 .taken))) t refl
 
 natural-requires : tie.Need-natural-requires
 natural-requires c κs = search needs
@@ -71,18 +84,18 @@ natural-requires c κs = search needs
 index-of-requires : tie.Need-index-of-requires
 index-of-requires c κs =
     let e = c .before .before .before .before .before .before in
-    sound-long (e .before .before .before .args .t .now) (sound-is e)
+    sound-long (sounds e .args .t .now) (sound-is e)
 
 same-length-3 : tie.Need-same-length-3
 same-length-3 c = search needs
 
 returns-3 : tie.Need-returns-3
 returns-3 c =
-    let r = c .before .before .before .before .before .before in
-    let s = r .before .before .before .before .before in
+    let r = tests (c .before) in
+    let s = ranges r in
     let t = s .args .t .now in
-    let n = s .args .n in
-    answered (withdrawCall t n) _ t (withdraw-missing t n (sound-is (r .before .before)) (range-is r) _ (index-is (c .before)) (c .if3 .taken)) t refl
+    answered (withdrawCall t (s .args .n)) _ t
+    (withdraw-missing t (s .args .n) (sound-is (r .before .before)) (range-is r) _ (index-is (c .before)) (c .if3 .taken)) t refl
 
 natural-requires-2 : tie.Need-natural-requires-2
 natural-requires-2 c κs = search needs
@@ -107,17 +120,18 @@ part-withdraw-at-start c = search needs
 
 part-withdraw-at-end : tie.Need-part-withdraw-at-end
 part-withdraw-at-end c =
-    let r = c .before .before .before .before .before .before .before in
-    let s = r .before .before .before .before .before in
-    omega (arith, c .before .before .index-of .ensures .1, c .before .if3 .left, sound-long (s .args .t .now) (sound-is (r .before .before)))
+    let i = c .before .before in
+    let e = tests i .before .before in
+    omega (arith, i .index-of .ensures .1, c .before .if3 .left, sound-long (sounds e .args .t .now) (sound-is e))
 
 withdraw-at-requires : tie.Need-withdraw-at-requires
 withdraw-at-requires c κs =
-    let i = c .before .before .before in
-    let r = i .before .before .before .before .before in
-    let s = r .before .before .before .before .before in
-    let l = lent-sound (s .args .t .now) (sound-is (r .before .before)) (natOf (s .args .n .mirn)) _ (index-is i) (c .before .before .if3 .left) in
-    (l .0, l .1, omega (arith, user-is (c .before), withdrawal-user (s .args .n) (range-is r)))
+    let u = c .before in
+    let i = u .before .before in
+    let r = tests i in
+    let s = ranges r in
+    let l = lent-sound (s .args .t .now) (sound-is (r .before .before)) (natOf (s .args .n .mirn)) _ (index-is i) (u .before .if3 .left) in
+    (l .0, l .1, omega (arith, user-is u, withdrawal-user (s .args .n) (range-is r)))
 
 same-length-4 : tie.Need-same-length-4
 same-length-4 c = search needs
@@ -126,8 +140,8 @@ returns-4 : tie.Need-returns-4
 returns-4 c =
     let u = c .before .before .before in
     let i = u .before .before in
-    let r = i .before .before .before .before .before in
-    let s = r .before .before .before .before .before in
+    let r = tests i in
+    let s = ranges r in
     let t = s .args .t .now in
     let n = s .args .n in
     answered-at t (i .index-of .result) (withdrawCall t n) (withdrawPart (natOf (n .user)))
