@@ -175,6 +175,7 @@ answered w a l e u h = (sym (ap (λ w. w .0) e), h ∙ sym (ap (λ w. w .1) e))
 pub answered-at : (t : List ℤ) (i : ℕ) (w : Numbers × List ℤ) (f : List ℤ → Numbers × List ℤ)
     → w ≡ (f (partOf standard t i) .0, withPart standard t i (f (partOf standard t i) .1))
     → (a : Numbers) (p : List ℤ) → (a ≡ f (lent t i) .0) × (p ≡ f (lent t i) .1) → (a ≡ w .0) × (backIn t i p ≡ w .1)
-answered-at t i w f e a p h =
-    (h .0 ∙ ap (λ l. f l .0) (part-is t i) ∙ sym (ap (λ w. w .0) e),
-    back-is t i p ∙ ap (withPart standard t i) (h .1 ∙ ap (λ l. f l .1) (part-is t i)) ∙ sym (ap (λ w. w .1) e))
+answered-at t i w f e a p h = (
+  h .0 ∙ ap (λ l. f l .0) (part-is t i) ∙ sym (ap (λ w. w .0) e),
+  back-is t i p ∙ ap (withPart standard t i) (h .1 ∙ ap (λ l. f l .1) (part-is t i)) ∙ sym (ap (λ w. w .1) e),
+)

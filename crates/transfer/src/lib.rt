@@ -77,7 +77,13 @@ fn request_in_range(n: TransferRequest) -> bool
 }
 
 // The latest User stands at the place of the last registration.
-fn request_at(p: &mut [i64], user: u64, proposed: Day, nochange: u64, holidays: &[i64]) -> RequestAnswer
+fn request_at(
+    p: &mut [i64],
+    user: u64,
+    proposed: Day,
+    nochange: u64,
+    holidays: &[i64],
+) -> RequestAnswer
     requires { ⌜ (partSound (now p) ≡ true) × (length (now p) ≡ 240) × (user ≤ 16) × (proposed .0 ≤ 39999) ⌝ }
     ensures { λ r. ⌜ (requestNumbers r ≡ requestPart user (allowablePeriod (now (holidays .entry)) (proposed .0) nochange) (now (p .entry)) .0) × (now (p .exit) ≡ requestPart user (allowablePeriod (now (holidays .entry)) (proposed .0) nochange) (now (p .entry)) .1) ⌝ }
 {
@@ -88,7 +94,8 @@ fn request_at(p: &mut [i64], user: u64, proposed: Day, nochange: u64, holidays: 
     if numbers::get(p, 15 + 2 * count) == user {
         return RequestAnswer::Refused(12);
     }
-    let Period::Window(first, last) = calendar::allowable_period(holidays, proposed, nochange) else {
+    let period = calendar::allowable_period(holidays, proposed, nochange);
+    let Period::Window(first, last) = period else {
         return RequestAnswer::Refused(13);
     };
     if 8 <= count {

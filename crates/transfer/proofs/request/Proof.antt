@@ -4,6 +4,7 @@ use native.Mathlib.Omega.{arith}
 use mir.Syntax.{w64}
 use mir.ValLaws.{toZ-ofZ}
 use borrow.Author.Tests.{not-true, not-false}
+use borrow.Author.Needs.{sfits-of, needs}
 use Rattle.numbers.specs.Naturals.{natOf}
 use Rattle.numbers.specs.Search.{maybe}
 use Rattle.calendar.specs.Calendar.{holidayList, allowablePeriod}
@@ -11,11 +12,10 @@ use Rattle.layout.specs.Layout.{standard}
 use Rattle.layout.specs.Sound.{sound}
 use Rattle.table.specs.Lookup.{indexOf}
 use Rattle.table.proofs.Laws.{sound-long}
+use Rattle.table.proofs.OnPart.{lent-sound, answered, answered-at}
 use Rattle.transfer.specs.Transfer.{requestCall}
 use Rattle.transfer.specs.Parts.{requestPart}
-use Rattle.table.proofs.OnPart.{lent-sound, answered, answered-at}
 use Rattle.transfer.proofs.Requests.{inRange, request-bounds, request-unsound, request-range, request-holidays, request-missing, request-point}
-use borrow.Author.Needs.{sfits-of, needs}
 use Rattle.transfer.proofs.request.Statement.{statement}
 use Rattle.transfer.proofs.request.Tie as tie
 

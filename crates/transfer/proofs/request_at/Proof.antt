@@ -1,13 +1,13 @@
 use mathlib.Core.Path.{_≡_, refl, sym, ap, _∙_}
 use Prim.Native.Nat.{_+_, _*_}
 use native.Mathlib.Omega.{arith}
+use borrow.Author.Needs.{needs}
 use Rattle.calendar.specs.Calendar.{allowablePeriod, periodDays}
 use Rattle.calendar.proofs.Business.{period-bound}
 use Rattle.layout.specs.Layout.{numAt}
-use Rattle.transfer.specs.Parts.{requestPart}
 use Rattle.table.proofs.OnPart.{answered}
+use Rattle.transfer.specs.Parts.{requestPart}
 use Rattle.transfer.proofs.Points.{registrations-count, request-waiting, request-same, request-outside, request-full, request-entered}
-use borrow.Author.Needs.{needs}
 use Rattle.transfer.proofs.request_at.Statement.{statement}
 use Rattle.transfer.proofs.request_at.Tie as tie
 
@@ -70,8 +70,8 @@ returns-2 c =
 allowable-period-requires : tie.Need-allowable-period-requires
 allowable-period-requires c κs = search needs
 
-enum-known-first : tie.Need-enum-known-first
-enum-known-first c = search needs
+enum-known-period : tie.Need-enum-known-period
+enum-known-period c = search needs
 
 enum-told : tie.Need-enum-told
 enum-told c = search needs
@@ -105,14 +105,14 @@ returns-4 c =
     let d = allowablePeriod (s .args .holidays .now) (s .args .proposed .0) (s .args .nochange) in
     answered (requestPart (s .args .user) d p) _ p
     (request-full p (s .pre .0) (s .pre .1) (s .args .user) d (idle-is e) (λ h. a .before .if2 .left (latest-is g ∙ h)) _ _
-    (sym (a .allowable-period .ensures) ∙ ap periodDays (f .first .given .1)) (omega (arith, count-is (g .before .before), c .if3 .taken))) p refl
+    (sym (a .allowable-period .ensures) ∙ ap periodDays (f .period .given .1)) (omega (arith, count-is (g .before .before), c .if3 .taken))) p refl
 
 set-pending-requires : tie.Need-set-pending-requires
 set-pending-requires c κs =
     let f = c .before .before .before in
     let a = f .before .before in
     let s = a .before .before .before .before .before .before .before .before .before in
-    let b = period-bound (s .args .holidays .now) (s .args .proposed .0) (s .args .nochange) _ _ (sym (a .allowable-period .ensures) ∙ ap periodDays (f .first .given .1)) (s .pre .3) in
+    let b = period-bound (s .args .holidays .now) (s .args .proposed .0) (s .args .nochange) _ _ (sym (a .allowable-period .ensures) ∙ ap periodDays (f .period .given .1)) (s .pre .3) in
     (omega arith, omega arith, omega arith, omega arith)
 
 same-length-5 : tie.Need-same-length-5
@@ -130,7 +130,7 @@ returns-5 c =
     let d = allowablePeriod (s .args .holidays .now) (s .args .proposed .0) (s .args .nochange) in
     answered (requestPart (s .args .user) d p) _ _
     (request-entered p (s .pre .0) (s .pre .1) (s .args .user) d (idle-is e) (λ h. a .before .if2 .left (latest-is g ∙ h)) _ _
-    (sym (a .allowable-period .ensures) ∙ ap periodDays (f .first .given .1)) (omega (arith, count-is (g .before .before), k .if3 .left))) _ (c .before .set-pending .ensures)
+    (sym (a .allowable-period .ensures) ∙ ap periodDays (f .period .given .1)) (omega (arith, count-is (g .before .before), k .if3 .left))) _ (c .before .set-pending .ensures)
 
 pub request-at-spec : {M : Type 1} → statement M
 request-at-spec =
@@ -146,7 +146,7 @@ request-at-spec =
     same-length-2
     returns-2
     allowable-period-requires
-    enum-known-first
+    enum-known-period
     enum-told
     same-length-3
     returns-3

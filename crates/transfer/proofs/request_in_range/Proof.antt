@@ -1,9 +1,9 @@
 use mathlib.Core.Path.{ap, _∙_}
 use mir.Syntax.{w64}
 use mir.ValLaws.{toZ-ofZ}
+use borrow.Author.Needs.{sfits-of, needs}
 use Rattle.numbers.specs.Naturals.{natOf}
 use Rattle.transfer.proofs.Requests.{request-numbers}
-use borrow.Author.Needs.{sfits-of, needs}
 use Rattle.transfer.proofs.request_in_range.Statement.{statement}
 use Rattle.transfer.proofs.request_in_range.Tie as tie
 

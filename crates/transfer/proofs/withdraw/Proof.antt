@@ -4,17 +4,17 @@ use native.Mathlib.Omega.{arith}
 use mir.Syntax.{w64}
 use mir.ValLaws.{toZ-ofZ}
 use borrow.Author.Tests.{not-true, not-false}
+use borrow.Author.Needs.{sfits-of, needs}
 use Rattle.numbers.specs.Naturals.{natOf}
 use Rattle.numbers.specs.Search.{maybe}
 use Rattle.layout.specs.Layout.{standard}
 use Rattle.layout.specs.Sound.{sound}
 use Rattle.table.specs.Lookup.{indexOf}
 use Rattle.table.proofs.Laws.{sound-long}
+use Rattle.table.proofs.OnPart.{lent-sound, answered, answered-at}
 use Rattle.transfer.specs.Transfer.{withdrawCall}
 use Rattle.transfer.specs.Parts.{withdrawPart}
-use Rattle.table.proofs.OnPart.{lent-sound, answered, answered-at}
 use Rattle.transfer.proofs.Withdrawals.{inRange, withdrawal-user, withdraw-unsound, withdraw-range, withdraw-missing, withdraw-point}
-use borrow.Author.Needs.{sfits-of, needs}
 use Rattle.transfer.proofs.withdraw.Statement.{statement}
 use Rattle.transfer.proofs.withdraw.Tie as tie
 

@@ -1,8 +1,8 @@
 use mathlib.Core.Path.{refl, sym, _∙_}
-use Rattle.transfer.specs.Parts.{withdrawPart}
-use Rattle.table.proofs.OnPart.{answered}
-use Rattle.transfer.proofs.Points.{withdraw-other, withdraw-own}
 use borrow.Author.Needs.{needs}
+use Rattle.table.proofs.OnPart.{answered}
+use Rattle.transfer.specs.Parts.{withdrawPart}
+use Rattle.transfer.proofs.Points.{withdraw-other, withdraw-own}
 use Rattle.transfer.proofs.withdraw_at.Statement.{statement}
 use Rattle.transfer.proofs.withdraw_at.Tie as tie
 
