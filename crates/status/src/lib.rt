@@ -41,7 +41,7 @@ fn cannot_off(p: &[i64], day: u64) -> bool
 
 // By the last span: on while on, or not after the off day. An on day that is not there yet reads as 40,001.
 fn cannot_on(p: &[i64], day: u64) -> bool
-    requires { ⌜ (partSound (now p) ≡ true) × (length (now p) ≡ 240) × (day ≤ 39999) ⌝ }
+    requires { ⌜ (partSound (now p) ≡ true) × (length (now p) ≡ 240) ⌝ }
     ensures { λ r. ⌜ r ≡ cannotOn day (lastOf (pointFrom (now (p .entry)) .offs)) ⌝ }
 {
     let n = numbers::get(p, 5) as usize;
