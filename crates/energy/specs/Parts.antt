@@ -1,0 +1,84 @@
+-- What the functions of this crate say of a notice's numbers and of its point's part.
+use mathlib.Core.Path.{_≡_}
+use mathlib.Core.Bool.{Bool, _&&_, cond}
+use mathlib.Core.List.{List, [], _∷_}
+use Prim.Native.Nat.{ℕ, suc, _≤_}
+use lib.Dec.{leb, eqb}
+use lib.IntN.{ℤ, pos}
+use lib.ListN.{length}
+use Rattle.numbers.specs.Naturals.{natOf, biasOf, energyOf}
+use Rattle.daybook.specs.declared.EnergyNotice.{EnergyNotice}
+use Rattle.daybook.specs.Book.{Entry}
+use Rattle.daybook.specs.Notices.{Row}
+use Rattle.daybook.proofs.Lists.{Lists, Register}
+use Rattle.daybook.proofs.Steps.{energyListsRows}
+use Rattle.daybook.proofs.Well.{Well}
+use Rattle.layout.specs.Layout.{standard, pointNumbers, pointFrom, numAt}
+use Rattle.energy.specs.declared.Reading.{Reading}
+
+-- ---- a notice's numbers as naturals
+
+-- Its energy is raised by 1,000,000.
+abbrev pub readingOf : EnergyNotice → Reading
+readingOf n =
+    record {
+      mirn = natOf (n .mirn);
+      start = natOf (n .start);
+      end = natOf (n .end);
+      energy = biasOf (n .energy);
+      quality = natOf (n .quality);
+      confirmed = natOf (n .confirmed);
+    }
+
+-- And back.
+abbrev pub noticeOf : Reading → EnergyNotice
+noticeOf x =
+    record {
+      mirn = pos (x .mirn);
+      start = pos (x .start);
+      end = pos (x .end);
+      energy = energyOf (x .energy);
+      quality = pos (x .quality);
+      confirmed = pos (x .confirmed);
+    }
+
+-- Row 2.
+abbrev pub inRange : Reading → Bool
+inRange x =
+    leb 1 (x .mirn) && leb (x .mirn) 9999999999 && leb (x .start) 39999 && leb (x .end) 39999 && leb (x .energy) 2000000
+    && leb (x .quality) 2 && leb (x .confirmed) 1
+
+-- The same, for arithmetic.
+pub record InRange (x : Reading) : Type 0 where
+  pub mirnLow : 1 ≤ x .mirn
+  pub mirnHigh : x .mirn ≤ 9999999999
+  pub startOk : x .start ≤ 39999
+  pub endOk : x .end ≤ 39999
+  pub energyOk : x .energy ≤ 2000000
+  pub qualityOk : x .quality ≤ 2
+  pub confirmedOk : x .confirmed ≤ 1
+
+-- ---- the part of a point
+
+-- The part of the standard edition that is the layout of its own lists, which are well-formed; counts, for arithmetic.
+pub record Laid (p : List ℤ) : Type 0 where
+  pub well : Well 48 (pointFrom p)
+  pub is : pointNumbers 48 (pointFrom p) ≡ p
+  pub long : length p ≡ 240
+  pub someRegs : 1 ≤ numAt p 4
+  pub fewRegs : numAt p 4 ≤ 8
+  pub fewOffs : numAt p 5 ≤ 8
+  pub fewRecs : numAt p 6 ≤ 48
+
+-- The index of the record that starts on day d, how many there are if none does.
+unfoldable pub rowIn : List Entry → ℕ → ℕ
+rowIn [] d = 0
+rowIn (x ∷ l) d = cond (eqb (x .start) d) 0 (suc (rowIn l d))
+
+-- A register with these ranges, each raised by 1,000,000.
+abbrev pub rangesOf : ℕ → ℕ → Register
+rangesOf nondaily daily = record { nondaily = energyOf nondaily; daily = energyOf daily; points = [] }
+
+-- The rows that the point decides.
+unfoldable pub rowsOf : Reading → ℕ → ℕ → Lists → List Row
+rowsOf x nondaily daily q = energyListsRows standard (noticeOf x) (rangesOf nondaily daily) q

@@ -1,0 +1,139 @@
+// energy: an energy notice fills days of its point as an append, a replacement or a recut, and settles a pending request.
+// The public call finds the point; the functions before it work on that point's part alone.
+use daybook::EnergyNotice;
+ghost use mathlib.Core.Path.{_≡_};
+ghost use mathlib.Core.Bool.{not};
+ghost use Prim.Native.Nat.{_≤_};
+ghost use Rattle.numbers.specs.Naturals.{energyOf};
+ghost use Rattle.numbers.specs.Search.{isSome};
+ghost use Rattle.daybook.specs.Notices.{least, beyond};
+ghost use Rattle.daybook.proofs.Steps.{startingOn, appendDayOf};
+ghost use Rattle.layout.specs.Layout.{pointFrom, numAt};
+ghost use Rattle.point.proofs.OffDays.{dayIf};
+ghost use Rattle.energy.specs.Parts.{readingOf, inRange, InRange, Laid, rowIn, rowsOf};
+
+// A notice's numbers as naturals, its energy raised by 1,000,000; a number that is none as the marker 2^63.
+struct Reading {
+    mirn: u64,
+    start: u64,
+    end: u64,
+    energy: u64,
+    quality: u64,
+    confirmed: u64,
+}
+
+fn read(n: EnergyNotice) -> Reading
+    ensures { λ r. ⌜ r ≡ readingOf n ⌝ }
+{
+    let mirn = n.mirn;
+    let start = n.start;
+    let end = n.end;
+    let energy = n.energy;
+    let quality = n.quality;
+    let confirmed = n.confirmed;
+    Reading {
+        mirn: numbers::natural(mirn),
+        start: numbers::natural(start),
+        end: numbers::natural(end),
+        energy: numbers::bias(energy),
+        quality: numbers::natural(quality),
+        confirmed: numbers::natural(confirmed),
+    }
+}
+
+// Row 2.
+fn in_range(x: Reading) -> bool
+    ensures { λ r. ⌜ r ≡ inRange x ⌝ }
+{
+    (1 <= x.mirn)
+        & (x.mirn <= 9999999999)
+        & (x.start <= 39999)
+        & (x.end <= 39999)
+        & (x.energy <= 2000000)
+        & (x.quality <= 2)
+        & (x.confirmed <= 1)
+}
+
+// The record that starts on a day, by its index; the number of records if none does.
+fn row_of(p: &[i64], start: u64) -> usize
+    requires { ⌜ Laid (now p) ⌝ }
+    ensures { λ r. ⌜ (r ≡ rowIn (pointFrom (now (p .entry)) .recs) start) × (r ≤ numAt (now (p .entry)) 6) ⌝ }
+{
+    let n = numbers::get(p, 6) as usize;
+    let mut j: usize = 0;
+    while j < n {
+        if numbers::get(p, 48 + 4 * j) == start {
+            return j;
+        }
+        j += 1;
+    }
+    j
+}
+
+// Does no record start on the day?
+fn appends(p: &[i64], start: u64) -> bool
+    requires { ⌜ Laid (now p) ⌝ }
+    ensures { λ r. ⌜ r ≡ not (isSome (startingOn (pointFrom (now (p .entry)) .recs) start)) ⌝ }
+{
+    row_of(p, start) as u64 == numbers::get(p, 6)
+}
+
+// The first day that is not off, of those after the last record or, with no record, from install on; 40,001 if all are off.
+fn append_day(p: &[i64]) -> u64
+    requires { ⌜ Laid (now p) ⌝ }
+    ensures { λ r. ⌜ dayIf r ≡ appendDayOf (pointFrom (now (p .entry))) ⌝ }
+{
+    let spans = numbers::get(p, 5) as usize;
+    let recs = numbers::get(p, 6) as usize;
+    if recs == 0 {
+        let install = numbers::get(p, 2);
+        return point::first_on(p, spans, install);
+    }
+    let end = numbers::get(p, 48 + 4 * (recs - 1) + 1);
+    point::first_on(p, spans, end + 1)
+}
+
+// Beyond ± a range, both raised by 1,000,000; a range below that is none.
+fn beyond_range(range: u64, energy: u64) -> bool
+    requires { ⌜ (range ≤ 2000000) × (energy ≤ 2000000) ⌝ }
+    ensures { λ r. ⌜ r ≡ beyond (energyOf range) (energyOf range) 0 (energyOf energy) ⌝ }
+{
+    (1000000 <= range) & ((range < energy) | (energy + range < 2000000))
+}
+
+// Beyond ± the range of the point's kind.
+fn unusual(kind: u64, nondaily: u64, daily: u64, energy: u64) -> bool
+    requires { ⌜ (nondaily ≤ 2000000) × (daily ≤ 2000000) × (energy ≤ 2000000) ⌝ }
+    ensures { λ r. ⌜ r ≡ beyond (energyOf nondaily) (energyOf daily) kind (energyOf energy) ⌝ }
+{
+    if kind == 0 {
+        return beyond_range(nondaily, energy);
+    }
+    beyond_range(daily, energy)
+}
+
+// The row that sends a notice back, of those that its point decides; 0 if none does.
+fn check(p: &[i64], x: Reading, nondaily: u64, daily: u64) -> u64
+    requires { ⌜ Laid (now p) × InRange x × (nondaily ≤ 2000000) × (daily ≤ 2000000) ⌝ }
+    ensures { λ r. ⌜ r ≡ least (rowsOf x nondaily daily (pointFrom (now (p .entry)))) ⌝ }
+{
+    let kind = numbers::get(p, 1);
+    if !point::fits_kind(kind, x.start, x.end) {
+        return 6;
+    }
+    let append = appends(p, x.start);
+    if append & (append_day(p) != x.start) {
+        return 7;
+    }
+    let spans = numbers::get(p, 5) as usize;
+    if !point::no_off(p, spans, x.start, x.end) {
+        return 8;
+    }
+    if unusual(kind, nondaily, daily, x.energy) & (x.confirmed == 0) {
+        return 9;
+    }
+    if append & (48 <= numbers::get(p, 6)) {
+        return 16;
+    }
+    0
+}
