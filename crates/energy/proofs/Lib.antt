@@ -3,3 +3,4 @@ pub mod Readings
 pub mod Located
 pub mod Laying
 pub mod Refusals
+pub mod Entering

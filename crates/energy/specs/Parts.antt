@@ -9,12 +9,15 @@ use lib.ListN.{length}
 use Rattle.numbers.specs.Naturals.{natOf, biasOf, energyOf}
 use Rattle.daybook.specs.declared.EnergyNotice.{EnergyNotice}
 use Rattle.daybook.specs.Book.{Entry}
-use Rattle.daybook.specs.Notices.{Row}
+use Rattle.daybook.specs.Notices.{Row, append, whichNumber, removed, Outcome, outcomeOf, outcomeNumbers}
 use Rattle.daybook.proofs.Lists.{Lists, Register}
-use Rattle.daybook.proofs.Steps.{energyListsRows}
+use Rattle.daybook.proofs.Steps.{latestOf, whichIn, recsAfter, regsAfter, pendingAfter, energyListsRows}
 use Rattle.daybook.proofs.Well.{Well}
 use Rattle.layout.specs.Layout.{standard, pointNumbers, pointFrom, numAt}
+use Rattle.layout.specs.Sound.{withRecs}
+use Rattle.rows.specs.Rows.{recordOf}
 use Rattle.energy.specs.declared.Reading.{Reading}
+use Rattle.energy.specs.declared.Kept.{Kept}
 
 -- ---- a notice's numbers as naturals
 
@@ -41,6 +44,10 @@ noticeOf x =
       quality = pos (x .quality);
       confirmed = pos (x .confirmed);
     }
+
+-- What it enters on each of its days.
+abbrev pub entryFrom : Reading → Entry
+entryFrom x = recordOf (x .start) (x .end) (x .energy) (x .quality)
 
 -- Row 2.
 abbrev pub inRange : Reading → Bool
@@ -82,3 +89,14 @@ rangesOf nondaily daily = record { nondaily = energyOf nondaily; daily = energyO
 -- The rows that the point decides.
 unfoldable pub rowsOf : Reading → ℕ → ℕ → Lists → List Row
 rowsOf x nondaily daily q = energyListsRows standard (noticeOf x) (rangesOf nondaily daily) q
+
+-- ---- the part after the notice
+
+-- The entry goes onto the records.
+abbrev pub recorded : Entry → Lists → Lists
+recorded x q = withRecs (recsAfter (whichIn q x) x (q .recs)) q
+
+pub record Recorded (p : List ℤ) (x : Reading) (k : Kept) (p′ : List ℤ) : Type 0 where
+  pub whichIs : k .which ≡ whichNumber (whichIn (pointFrom p) (entryFrom x))
+  pub removedIs : k .removed ≡ removed (whichIn (pointFrom p) (entryFrom x)) (x .start) (pointFrom p .recs)
+  pub partIs : p′ ≡ pointNumbers 48 (recorded (entryFrom x) (pointFrom p))

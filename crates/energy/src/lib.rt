@@ -8,9 +8,10 @@ ghost use Rattle.numbers.specs.Naturals.{energyOf};
 ghost use Rattle.numbers.specs.Search.{isSome};
 ghost use Rattle.daybook.specs.Notices.{least, beyond};
 ghost use Rattle.daybook.proofs.Steps.{startingOn, appendDayOf};
+ghost use Rattle.daybook.proofs.EnergyStep.{MayEnter};
 ghost use Rattle.layout.specs.Layout.{pointFrom, numAt};
 ghost use Rattle.point.proofs.OffDays.{dayIf};
-ghost use Rattle.energy.specs.Parts.{readingOf, inRange, InRange, Laid, rowIn, rowsOf};
+ghost use Rattle.energy.specs.Parts.{readingOf, entryFrom, inRange, InRange, Laid, rowIn, rowsOf, Recorded};
 
 // A notice's numbers as naturals, its energy raised by 1,000,000; a number that is none as the marker 2^63.
 struct Reading {
@@ -20,6 +21,12 @@ struct Reading {
     energy: u64,
     quality: u64,
     confirmed: u64,
+}
+
+// Which of the three a notice was, and how many records with a later start it removed.
+struct Kept {
+    which: u64,
+    removed: u64,
 }
 
 fn read(n: EnergyNotice) -> Reading
@@ -136,4 +143,35 @@ fn check(p: &[i64], x: Reading, nondaily: u64, daily: u64) -> u64
         return 16;
     }
     0
+}
+
+// The record in its place: an append behind the others, a replacement in the place of its predecessor, a recut in the
+// place of its predecessor and of all later records.
+fn enter_record(p: &mut [i64], x: Reading) -> Kept
+    requires { ⌜ Laid (now p) × InRange x × MayEnter 48 (entryFrom x) (pointFrom (now p)) ⌝ }
+    ensures { λ r. ⌜ Recorded (now (p .entry)) x r (now (p .exit)) ⌝ }
+{
+    let n = numbers::get(p, 6) as usize;
+    let j = row_of(p, x.start);
+    if j == n {
+        rows::append_record(p, n, x.start, x.end, x.energy, x.quality);
+        return Kept {
+            which: 1,
+            removed: 0,
+        };
+    }
+    let end = numbers::get(p, 48 + 4 * j + 1);
+    if end == x.end {
+        rows::put_record(p, j, x.start, x.end, x.energy, x.quality);
+        return Kept {
+            which: 2,
+            removed: 0,
+        };
+    }
+    rows::cut_records(p, j, n);
+    rows::append_record(p, j, x.start, x.end, x.energy, x.quality);
+    Kept {
+        which: 3,
+        removed: (n - j - 1) as u64,
+    }
 }
