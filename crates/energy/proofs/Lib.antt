@@ -4,3 +4,4 @@ pub mod Located
 pub mod Laying
 pub mod Refusals
 pub mod Entering
+pub mod Settling

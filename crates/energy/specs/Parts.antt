@@ -18,6 +18,7 @@ use Rattle.layout.specs.Sound.{withRecs}
 use Rattle.rows.specs.Rows.{recordOf}
 use Rattle.energy.specs.declared.Reading.{Reading}
 use Rattle.energy.specs.declared.Kept.{Kept}
+use Rattle.energy.specs.declared.Settled.{Settled}
 
 -- ---- a notice's numbers as naturals
 
@@ -100,3 +101,15 @@ pub record Recorded (p : List ℤ) (x : Reading) (k : Kept) (p′ : List ℤ) : 
   pub whichIs : k .which ≡ whichNumber (whichIn (pointFrom p) (entryFrom x))
   pub removedIs : k .removed ≡ removed (whichIn (pointFrom p) (entryFrom x)) (x .start) (pointFrom p .recs)
   pub partIs : p′ ≡ pointNumbers 48 (recorded (entryFrom x) (pointFrom p))
+
+-- What the pending request comes to. Which of the three the notice is does not matter to it.
+abbrev pub outcomeAt : Reading → Lists → Outcome
+outcomeAt x q = outcomeOf append (entryFrom x) (latestOf (q .regs) .0) (q .pending)
+
+abbrev pub settledLists : Outcome → ℕ → Lists → Lists
+settledLists o end q =
+    record { facts = q .facts; regs = regsAfter o end (q .regs); offs = q .offs; recs = q .recs; pending = pendingAfter o (q .pending) }
+
+pub record SettledTo (p : List ℤ) (x : Reading) (s : Settled) (p′ : List ℤ) : Type 0 where
+  pub numbersAre : s .user ∷ s .lapsed ∷ [] ≡ outcomeNumbers (outcomeAt x (pointFrom p))
+  pub partIs : p′ ≡ pointNumbers 48 (settledLists (outcomeAt x (pointFrom p)) (x .end) (pointFrom p))

@@ -11,7 +11,7 @@ ghost use Rattle.daybook.proofs.Steps.{startingOn, appendDayOf};
 ghost use Rattle.daybook.proofs.EnergyStep.{MayEnter};
 ghost use Rattle.layout.specs.Layout.{pointFrom, numAt};
 ghost use Rattle.point.proofs.OffDays.{dayIf};
-ghost use Rattle.energy.specs.Parts.{readingOf, entryFrom, inRange, InRange, Laid, rowIn, rowsOf, Recorded};
+ghost use Rattle.energy.specs.Parts.{readingOf, entryFrom, inRange, InRange, Laid, rowIn, rowsOf, Recorded, SettledTo};
 
 // A notice's numbers as naturals, its energy raised by 1,000,000; a number that is none as the marker 2^63.
 struct Reading {
@@ -27,6 +27,12 @@ struct Reading {
 struct Kept {
     which: u64,
     removed: u64,
+}
+
+// The User that was registered or 0, and whether the request lapsed.
+struct Settled {
+    user: u64,
+    lapsed: u64,
 }
 
 fn read(n: EnergyNotice) -> Reading
@@ -174,4 +180,28 @@ fn enter_record(p: &mut [i64], x: Reading) -> Kept
         which: 3,
         removed: (n - j - 1) as u64,
     }
+}
+
+// The pending request, once the entry stands: by the notice's own end its User is registered from the next day on, or the
+// request lapses, or it stays.
+fn settle_request(p: &mut [i64], x: Reading) -> Settled
+    requires { ⌜ Laid (now p) × InRange x ⌝ }
+    ensures { λ r. ⌜ SettledTo (now (p .entry)) x r (now (p .exit)) ⌝ }
+{
+    let n = numbers::get(p, 4) as usize;
+    let user = numbers::get(p, 7);
+    let first = numbers::get(p, 8);
+    let last = numbers::get(p, 9);
+    let latest = numbers::get(p, 14 + 2 * n);
+    let end = x.end;
+    if (user != 0) & (first <= end) & (end <= last) & (latest < end + 1) {
+        rows::append_registration(p, n, end + 1, user);
+        rows::clear_pending(p);
+        return Settled { user, lapsed: 0 };
+    }
+    if (user != 0) & (last < end) {
+        rows::clear_pending(p);
+        return Settled { user: 0, lapsed: 1 };
+    }
+    Settled { user: 0, lapsed: 0 }
 }
