@@ -1,0 +1,181 @@
+-- A call on the point of a MIRN, by what it does to that point's part alone: all that a public call needs which lends
+-- the part on. Assumes nothing.
+use mathlib.Core.Path.{_≡_, refl, sym, _∙_, ap}
+use mathlib.Core.Bool.{true}
+use mathlib.Core.Option.{Option, none, some}
+use mathlib.Core.List.{List, [], _∷_, _++_}
+use Prim.Native.Nat.{ℕ, zero, suc, _+_, _*_, _-_, _≤_, _<_}
+use native.Mathlib.Omega.{arith}
+use lib.ListN.{length, take, drop, replicate}
+use lib.IntN.{ℤ, pos}
+use lib.Seq.{drop-drop}
+use borrow.Author.Tests.{lt-ltb}
+use Rattle.numbers.specs.Naturals.{natOf}
+use Rattle.numbers.specs.Search.{maybe}
+use Rattle.numbers.proofs.Bools.{join}
+use Rattle.numbers.proofs.Search.{from-bound}
+use Rattle.daybook.specs.Book.{Book}
+use Rattle.daybook.specs.Notices.{Row, least, Numbers, decide}
+use Rattle.daybook.proofs.Lists.{Lists, Register, bookOf}
+use Rattle.daybook.proofs.Steps.{findLists, onLists}
+use Rattle.daybook.proofs.Well.{Well, WellFormed}
+use Rattle.daybook.proofs.Rows.{above, least-first, least-append-none, least-append-some, decide-taken, decide-refused}
+use Rattle.layout.specs.Layout.{standard, partOf, withPart, pointNumbers, numAt, pointFrom, registerOf}
+use Rattle.layout.specs.Sound.{partSound, sound}
+use Rattle.layout.specs.Calls.{onTable}
+use Rattle.layout.proofs.Numbers.{Few, few, length-point}
+use Rattle.layout.proofs.Parts.{with-part-own}
+use Rattle.layout.proofs.PartSound.{lays-part}
+use Rattle.layout.proofs.TableSound.{sound-lays, standard-fits}
+use Rattle.table.specs.Lookup.{indexOf}
+use Rattle.table.proofs.Laws.{mirnAt, sound-long, part-is}
+use Rattle.table.proofs.Found.{Found, found, missing}
+use Rattle.table.proofs.Calls.{call-refused, call-entered}
+
+-- ---- on the part
+
+-- A call with k fields on a part: its rows and its effect, on the point's lists.
+unfoldable pub onPart : ℕ → (Lists → List Row) → (Lists → Numbers × Lists) → List ℤ → Numbers × List ℤ
+onPart k rows effect p =
+    let w : Numbers × Lists = effect (pointFrom p) in decide (least (rows (pointFrom p))) k p (w .0, pointNumbers 48 (w .1))
+
+module _ (k : ℕ) (rows : Lists → List Row) (effect : Lists → Numbers × Lists) (p : List ℤ) where
+  abbrev enters : Numbers × List ℤ
+  enters = (effect (pointFrom p) .0, pointNumbers 48 (effect (pointFrom p) .1))
+
+  pub part-entered : least (rows (pointFrom p)) ≡ 0
+      → onPart k rows effect p ≡ (pos 0 ∷ effect (pointFrom p) .0, pointNumbers 48 (effect (pointFrom p) .1))
+  unfolding onPart
+  part-entered e = ap (λ n. decide n k p enters) e ∙ decide-taken k p enters
+
+  pub part-refused : (r : ℕ) → least (rows (pointFrom p)) ≡ suc r → onPart k rows effect p ≡ (pos (suc r) ∷ replicate k (pos 0), p)
+  unfolding onPart
+  part-refused r e = ap (λ n. decide n k p enters) e ∙ decide-refused k p enters r
+
+-- ---- the part lent
+
+-- The part of point i as code lends it, and the table once it is back.
+abbrev pub lent : List ℤ → ℕ → List ℤ
+lent t i = take (8 + 240 * i + 240 - (8 + 240 * i)) (drop (8 + 240 * i) t)
+
+abbrev pub backIn : List ℤ → ℕ → List ℤ → List ℤ
+backIn t i p = take (8 + 240 * i) t ++ (p ++ drop (8 + 240 * i + 240 - (8 + 240 * i)) (drop (8 + 240 * i) t))
+
+back-is : (t : List ℤ) (i : ℕ) (p : List ℤ) → backIn t i p ≡ withPart standard t i p
+unfolding withPart
+back-is t i p =
+    let e : 8 + 240 * i + 240 - (8 + 240 * i) ≡ 240 = omega arith in
+    rw e (ap (λ l. take (8 + 240 * i) t ++ (p ++ l)) (drop-drop 240 (8 + 240 * i) t))
+
+module _ (t : List ℤ) (s : sound standard t ≡ true) (m i : ℕ) (e : i ≡ maybe 32 (λ k. k) (indexOf standard t m)) where
+  index-none : i ≡ 32 → indexOf standard t m ≡ none
+  unfolding indexOf
+  index-none z = go (indexOf standard t m) (λ k q. from-bound (mirnAt t m) 0 (numAt t 0) k q .1) (sym z ∙ e)
+    where
+      go : (o : Option ℕ) → ((k : ℕ) → o ≡ some k → k < 0 + numAt t 0) → 32 ≡ maybe 32 (λ k. k) o → o ≡ none
+      go none f h = refl
+      go (some k) f h = absurd (omega (arith, f k refl, sound-long t s .1))
+
+  index-some : (i ≡ 32 → ⊥) → indexOf standard t m ≡ some i
+  index-some n = go (indexOf standard t m) e
+    where
+      go : (o : Option ℕ) → i ≡ maybe 32 (λ k. k) o → o ≡ some i
+      go none h = absurd (n h)
+      go (some k) h = ap some (sym h)
+
+  point-found : (i ≡ 32 → ⊥) → Found standard t m i
+  point-found n = found standard standard-fits t s m i (index-some n)
+
+  pub lent-sound : (i ≡ 32 → ⊥) → (partSound (lent t i) ≡ true) × (length (lent t i) ≡ 240)
+  lent-sound n =
+      let f : Found standard t m i = point-found n in
+      let is : lent t i ≡ pointNumbers 48 (pointFrom (partOf standard t i)) = part-is t i ∙ sym (f .laid) in
+      (ap partSound is ∙ lays-part (f .well), ap length is ∙ length-point (few (f .well)))
+
+-- ---- the call
+
+-- The book's step is a call with k fields on the point of MIRN m: on lists it has these rows and this effect, it keeps
+-- them well-formed, and what it leaves of a point fits the part.
+pub record PointCall (k : ℕ) (m : ℤ) (early : List Row) (rows : Lists → List Row) (effect : Lists → Numbers × Lists) (step : Book → Numbers × Book)
+    : Type 0
+  where
+    pub numbered : above 0 early ≡ true
+    pub is :
+        (R : Register) → WellFormed standard R
+        → step (bookOf R) ≡ (onLists k m early rows effect R .0, bookOf (onLists k m early rows effect R .1))
+    pub keeps : (R : Register) → WellFormed standard R → WellFormed standard (onLists k m early rows effect R .1)
+    pub room : (q : Lists) → Well 48 q → Few 48 (effect q .1)
+
+module _ {k : ℕ} {m : ℤ} {early : List Row} {rows : Lists → List Row} {effect : Lists → Numbers × Lists} {step : Book → Numbers × Book}
+    (call : PointCall k m early rows effect step) (t : List ℤ) (s : sound standard t ≡ true) where
+  abbrev R : Register
+  R = registerOf standard t
+
+  ok : WellFormed standard R
+  ok = sound-lays standard standard-fits t s .0
+
+  refuses : (n : ℕ) → least (early ++ maybe ((4, true) ∷ []) rows (findLists (natOf m) (R .points))) ≡ suc n
+      → onTable k step standard t ≡ (pos (suc n) ∷ replicate k (pos 0), t)
+  refuses = call-refused k m early rows effect step standard t s (call .is R ok) (call .keeps R ok)
+
+  later : (n : ℕ) → n ≤ 3 → ((q : Lists) → above n (rows q) ≡ true) → (o : Option Lists) → above n (maybe ((4, true) ∷ []) rows o) ≡ true
+  unfolding above
+  later n h f none = join (lt-ltb n 4 (omega arith)) refl
+  later n h f (some q) = f q
+
+  -- a row of the numbers applies, be the MIRN known or not
+  pub call-early : (n : ℕ) → suc n ≤ 3 → least early ≡ suc n → ((q : Lists) → above (suc n) (rows q) ≡ true)
+      → onTable k step standard t ≡ (pos (suc n) ∷ replicate k (pos 0), t)
+  call-early n h e f = refuses n (least-append-some early _ n (call .numbered) e (later (suc n) h f (findLists (natOf m) (R .points))))
+
+  module _ (clear : least early ≡ 0) (i : ℕ) (e : i ≡ maybe 32 (λ k. k) (indexOf standard t (natOf m))) where
+    pub call-missing : i ≡ 32 → onTable k step standard t ≡ (pos 4 ∷ replicate k (pos 0), t)
+    unfolding above
+    call-missing z =
+        refuses 3
+        (ap (λ o. least (early ++ maybe ((4, true) ∷ []) rows o)) (missing standard standard-fits t s (natOf m) (index-none t s (natOf m) i e z))
+        ∙ least-append-none early ((4, true) ∷ []) (call .numbered) clear ∙ least-first 4 true [] refl refl)
+
+    -- the rows of the point decide, and its part alone is changed
+    pub call-at : (i ≡ 32 → ⊥)
+        → onTable k step standard t
+        ≡ (onPart k rows effect (partOf standard t i) .0, withPart standard t i (onPart k rows effect (partOf standard t i) .1))
+    call-at n = go (least (rows q)) refl
+      where
+        p : List ℤ
+        p = partOf standard t i
+
+        q : Lists
+        q = pointFrom p
+
+        f : Found standard t (natOf m) i
+        f = point-found t s (natOf m) i e n
+
+        passed : least (early ++ rows q) ≡ least (rows q)
+        passed = least-append-none early (rows q) (call .numbered) clear
+
+        put : Numbers × List ℤ → Numbers × List ℤ
+        put w = (w .0, withPart standard t i (w .1))
+
+        go : (r : ℕ) → least (rows q) ≡ r → onTable k step standard t ≡ put (onPart k rows effect p)
+        go zero h =
+            call-entered k m early rows effect step standard t s (call .is R ok) (call .keeps R ok) i f (passed ∙ h) (call .room q (f .well))
+            ∙ sym (ap put (part-entered k rows effect p h))
+        go (suc r) h =
+            refuses r (ap (λ o. least (early ++ maybe ((4, true) ∷ []) rows o)) (f .find) ∙ passed ∙ h)
+            ∙ sym (ap put (part-refused k rows effect p r h) ∙ ap (λ u. (pos (suc r) ∷ replicate k (pos 0), u)) (with-part-own standard t i))
+
+-- ---- what a function has to show
+
+-- an answer and what is left, by one equation
+pub answered : (w : Numbers × List ℤ) (a : Numbers) (l : List ℤ) → w ≡ (a, l) → (u : List ℤ) → u ≡ l → (a ≡ w .0) × (u ≡ w .1)
+answered w a l e u h = (sym (ap (λ w. w .0) e), h ∙ sym (ap (λ w. w .1) e))
+
+-- the same where the part of point i was lent to a function that does f
+pub answered-at : (t : List ℤ) (i : ℕ) (w : Numbers × List ℤ) (f : List ℤ → Numbers × List ℤ)
+    → w ≡ (f (partOf standard t i) .0, withPart standard t i (f (partOf standard t i) .1))
+    → (a : Numbers) (p : List ℤ) → (a ≡ f (lent t i) .0) × (p ≡ f (lent t i) .1) → (a ≡ w .0) × (backIn t i p ≡ w .1)
+answered-at t i w f e a p h = (
+  h .0 ∙ ap (λ l. f l .0) (part-is t i) ∙ sym (ap (λ w. w .0) e),
+  back-is t i p ∙ ap (withPart standard t i) (h .1 ∙ ap (λ l. f l .1) (part-is t i)) ∙ sym (ap (λ w. w .1) e),
+)

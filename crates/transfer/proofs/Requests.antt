@@ -1,0 +1,95 @@
+-- The request call, test by test. Assumes nothing.
+use mathlib.Core.Path.{_≡_, refl, sym, _∙_, ap}
+use mathlib.Core.Bool.{Bool, true, false, not, _&&_}
+use mathlib.Core.Option.{Option}
+use mathlib.Core.List.{List, [], _∷_}
+use Prim.Native.Nat.{ℕ, _≤_, _<_, _^_}
+use native.Mathlib.Omega.{arith}
+use lib.Dec.{leb}
+use lib.IntN.{ℤ, pos}
+use borrow.Author.Tests.{le-leb}
+use Rattle.numbers.specs.Naturals.{natOf}
+use Rattle.numbers.specs.Search.{maybe}
+use Rattle.numbers.proofs.Bools.{both}
+use Rattle.calendar.specs.Calendar.{within, isDay, holidayList, allowablePeriod}
+use Rattle.calendar.proofs.Dates.{within-natural}
+use Rattle.daybook.specs.declared.TransferRequest.{TransferRequest}
+use Rattle.daybook.specs.Notices.{isMirn, isUser, isFlag, least, requestEarly, requestRows, pendingOf, request}
+use Rattle.daybook.proofs.Steps.{requestLists}
+use Rattle.daybook.proofs.Rows.{above, least-first, least-skip}
+use Rattle.daybook.proofs.Bounds.{within-bounds}
+use Rattle.daybook.proofs.TransferStep.{request-step, request-keeps}
+use Rattle.layout.specs.Layout.{standard, partOf, withPart}
+use Rattle.layout.specs.Sound.{sound}
+use Rattle.table.specs.Lookup.{indexOf}
+use Rattle.table.proofs.Calls.{call-unsound}
+use Rattle.table.proofs.OnPart.{PointCall, call-early, call-missing, call-at}
+use Rattle.transfer.specs.Transfer.{requestCall}
+use Rattle.transfer.specs.Parts.{requestRowsOf, requestEffect, requestPart}
+use Rattle.transfer.proofs.Points.{pending-room}
+
+-- ---- row 2
+
+abbrev pub inRange : TransferRequest → Bool
+inRange n = isMirn (n .mirn) && isUser (n .user) && isDay (n .proposed) && isFlag (n .nochange)
+
+from-zero : (hi : ℕ) (z : ℤ) → hi < 2 ^ 63 → leb (natOf z) hi ≡ within (pos 0) (pos hi) z
+from-zero hi z h = ap (λ b. b && leb (natOf z) hi) (sym (le-leb 0 (natOf z) (omega arith))) ∙ within-natural 0 hi z h
+
+-- on the naturals that the code reads
+pub request-numbers : (n : TransferRequest) (m u d f : ℕ) → m ≡ natOf (n .mirn) → u ≡ natOf (n .user) → d ≡ natOf (n .proposed) → f ≡ natOf (n .nochange)
+    → (((leb 1 m && leb m 9999999999) && (leb 1 u && leb u 16)) && leb d 39999 && leb f 1) ≡ inRange n
+request-numbers n m u d f em eu ed ef =
+    rw (em, eu, ed, ef, within-natural 1 9999999999 (n .mirn) (omega arith), within-natural 1 16 (n .user) (omega arith), from-zero 39999 (n .proposed) (omega arith), from-zero 1 (n .nochange) (omega arith))
+
+pub request-bounds : (n : TransferRequest) → inRange n ≡ true → (natOf (n .user) ≤ 16) × (natOf (n .proposed) ≤ 39999)
+request-bounds n r =
+    let three = both (isMirn (n .mirn) && isUser (n .user) && isDay (n .proposed)) (isFlag (n .nochange)) r .0 in
+    let proposed = both (isMirn (n .mirn) && isUser (n .user)) (isDay (n .proposed)) three in
+    let user = both (isMirn (n .mirn)) (isUser (n .user)) (proposed .0) in
+    (within-bounds 1 16 (n .user) (user .1) .1, within-bounds 0 39999 (n .proposed) (proposed .1) .1)
+
+-- ---- the call
+
+abbrev periodOf : TransferRequest → List ℤ → Option (ℕ × ℕ)
+periodOf n holidays = allowablePeriod holidays (natOf (n .proposed)) (natOf (n .nochange))
+
+on-point : (n : TransferRequest) (holidays : List ℤ)
+    → PointCall 2 (n .mirn) (requestEarly n holidays) (requestRowsOf (natOf (n .user)) (periodOf n holidays)) (requestEffect (natOf (n .user)) (periodOf n holidays)) (request n holidays)
+unfolding requestLists requestEarly above
+on-point n holidays =
+    record { numbered = refl; is = request-step n holidays; keeps = λ R ok. request-keeps n holidays ok; room = pending-room _ }
+
+module _ (t : List ℤ) (n : TransferRequest) (holidays : List ℤ) where
+  pub request-unsound : sound standard t ≡ false → requestCall t n holidays ≡ (pos 1 ∷ pos 0 ∷ pos 0 ∷ [], t)
+  unfolding requestCall
+  request-unsound e = call-unsound 2 (request n holidays) standard t e
+
+  module _ (s : sound standard t ≡ true) where
+    pub request-range : inRange n ≡ false → requestCall t n holidays ≡ (pos 2 ∷ pos 0 ∷ pos 0 ∷ [], t)
+    unfolding requestCall requestEarly requestRows above
+    request-range e = call-early (on-point n holidays) t s 1 (omega arith) (least-first 2 _ _ refl (ap not e)) (λ q. refl)
+
+    module _ (r : inRange n ≡ true) where
+      past-2 : least (requestEarly n holidays) ≡ least ((3, not (holidayList holidays)) ∷ [])
+      unfolding requestEarly
+      past-2 = least-skip 2 _ _ (ap not r)
+
+      -- a bad holiday list comes before an unknown MIRN
+      pub request-holidays : holidayList holidays ≡ false → requestCall t n holidays ≡ (pos 3 ∷ pos 0 ∷ pos 0 ∷ [], t)
+      unfolding requestCall requestRows above
+      request-holidays e = call-early (on-point n holidays) t s 2 (omega arith) (past-2 ∙ least-first 3 _ [] refl (ap not e)) (λ q. refl)
+
+      module _ (h : holidayList holidays ≡ true) (i : ℕ) (e : i ≡ maybe 32 (λ k. k) (indexOf standard t (natOf (n .mirn)))) where
+        passed : least (requestEarly n holidays) ≡ 0
+        unfolding least
+        passed = past-2 ∙ least-skip 3 _ [] (ap not h)
+
+        pub request-missing : i ≡ 32 → requestCall t n holidays ≡ (pos 4 ∷ pos 0 ∷ pos 0 ∷ [], t)
+        unfolding requestCall
+        request-missing = call-missing (on-point n holidays) t s passed i e
+
+        pub request-point : (i ≡ 32 → ⊥) → requestCall t n holidays
+            ≡ (requestPart (natOf (n .user)) (periodOf n holidays) (partOf standard t i) .0, withPart standard t i (requestPart (natOf (n .user)) (periodOf n holidays) (partOf standard t i) .1))
+        unfolding requestCall requestPart
+        request-point = call-at (on-point n holidays) t s passed i e

@@ -1,0 +1,157 @@
+use mathlib.Core.Path.{_≡_, refl, sym, ap, _∙_}
+use Prim.Native.Nat.{_+_, _*_}
+use native.Mathlib.Omega.{arith}
+use borrow.Author.Needs.{needs}
+use Rattle.calendar.specs.Calendar.{allowablePeriod, periodDays}
+use Rattle.calendar.proofs.Business.{period-bound}
+use Rattle.layout.specs.Layout.{numAt}
+use Rattle.table.proofs.OnPart.{answered}
+use Rattle.transfer.specs.Parts.{requestPart}
+use Rattle.transfer.proofs.Points.{registrations-count, request-waiting, request-same, request-outside, request-full, request-entered}
+use Rattle.transfer.proofs.request_at.Statement.{statement}
+use Rattle.transfer.proofs.request_at.Tie as tie
+
+-- what the three places hold
+idle-is : (c : tie.Else1) → numAt (c .before .before .before .args .p .now) 7 ≡ 0
+idle-is c = sym (c .before .get .ensures .0) ∙ c .if1 .left
+
+count-is : (c : tie.After-get2) → c .get2 .result ≡ numAt (c .before .before .before .before .before .args .p .now) 4
+count-is c = c .get2 .ensures .0
+
+latest-is : (c : tie.After-get3) → c .get3 .result ≡ numAt (c .before .before .before .before .before .before .before .args .p .now) (15 + 2 * numAt (c .before .before .before .before .before .before .before .args .p .now) 4)
+latest-is c =
+    let n = c .before .before in
+    c .get3 .ensures .0 ∙ ap (λ k. numAt (n .before .before .before .before .before .args .p .now) (15 + 2 * k)) (count-is n)
+
+get-requires : tie.Need-get-requires
+get-requires c κs = search needs
+
+same-length : tie.Need-same-length
+same-length c = search needs
+
+returns : tie.Need-returns
+returns c =
+    let s = c .before .before .before in
+    let p = s .args .p .now in
+    let d = allowablePeriod (s .args .holidays .now) (s .args .proposed .0) (s .args .nochange) in
+    answered (requestPart (s .args .user) d p) _ p
+    (request-waiting p (s .pre .0) (s .pre .1) (s .args .user) d (λ e. c .if1 .taken (c .before .get .ensures .0 ∙ e))) p refl
+
+get-requires-2 : tie.Need-get-requires-2
+get-requires-2 c κs = search needs
+
+mul-get : tie.Need-mul-get
+mul-get c =
+    let s = c .before .before .before .before .before .before in
+    omega (arith, count-is (c .before), registrations-count (s .args .p .now) (s .pre .0) (s .pre .1) .1)
+
+add-get : tie.Need-add-get
+add-get c =
+    let s = c .before .before .before .before .before .before in
+    omega (arith, count-is (c .before), registrations-count (s .args .p .now) (s .pre .0) (s .pre .1) .1)
+
+get-requires-3 : tie.Need-get-requires-3
+get-requires-3 c κs =
+    let s = c .before .before .before .before .before .before in
+    omega (arith, count-is (c .before), registrations-count (s .args .p .now) (s .pre .0) (s .pre .1) .1)
+
+same-length-2 : tie.Need-same-length-2
+same-length-2 c = search needs
+
+returns-2 : tie.Need-returns-2
+returns-2 c =
+    let e = c .before .before .before .before .before in
+    let s = e .before .before .before in
+    let p = s .args .p .now in
+    let d = allowablePeriod (s .args .holidays .now) (s .args .proposed .0) (s .args .nochange) in
+    answered (requestPart (s .args .user) d p) _ p
+    (request-same p (s .pre .0) (s .pre .1) (s .args .user) d (idle-is e) (sym (latest-is (c .before)) ∙ c .if2 .taken)) p refl
+
+allowable-period-requires : tie.Need-allowable-period-requires
+allowable-period-requires c κs = search needs
+
+enum-known-period : tie.Need-enum-known-period
+enum-known-period c = search needs
+
+enum-told : tie.Need-enum-told
+enum-told c = search needs
+
+same-length-3 : tie.Need-same-length-3
+same-length-3 c = search needs
+
+returns-3 : tie.Need-returns-3
+returns-3 c =
+    let a = c .before .before in
+    let g = a .before .before in
+    let e = g .before .before .before .before in
+    let s = e .before .before .before in
+    let p = s .args .p .now in
+    let d = allowablePeriod (s .args .holidays .now) (s .args .proposed .0) (s .args .nochange) in
+    answered (requestPart (s .args .user) d p) _ p
+    (request-outside p (s .pre .0) (s .pre .1) (s .args .user) d (idle-is e) (λ h. a .before .if2 .left (latest-is g ∙ h))
+    (sym (a .allowable-period .ensures) ∙ ap periodDays (c .enum-told .given .1))) p refl
+
+same-length-4 : tie.Need-same-length-4
+same-length-4 c = search needs
+
+returns-4 : tie.Need-returns-4
+returns-4 c =
+    let f = c .before .before in
+    let a = f .before .before in
+    let g = a .before .before in
+    let e = g .before .before .before .before in
+    let s = e .before .before .before in
+    let p = s .args .p .now in
+    let d = allowablePeriod (s .args .holidays .now) (s .args .proposed .0) (s .args .nochange) in
+    answered (requestPart (s .args .user) d p) _ p
+    (request-full p (s .pre .0) (s .pre .1) (s .args .user) d (idle-is e) (λ h. a .before .if2 .left (latest-is g ∙ h)) _ _
+    (sym (a .allowable-period .ensures) ∙ ap periodDays (f .period .given .1)) (omega (arith, count-is (g .before .before), c .if3 .taken))) p refl
+
+set-pending-requires : tie.Need-set-pending-requires
+set-pending-requires c κs =
+    let f = c .before .before .before in
+    let a = f .before .before in
+    let s = a .before .before .before .before .before .before .before .before .before in
+    let b = period-bound (s .args .holidays .now) (s .args .proposed .0) (s .args .nochange) _ _ (sym (a .allowable-period .ensures) ∙ ap periodDays (f .period .given .1)) (s .pre .3) in
+    (omega arith, omega arith, omega arith, omega arith)
+
+same-length-5 : tie.Need-same-length-5
+same-length-5 c = search needs
+
+returns-5 : tie.Need-returns-5
+returns-5 c =
+    let k = c .before .before .before in
+    let f = k .before .before in
+    let a = f .before .before in
+    let g = a .before .before in
+    let e = g .before .before .before .before in
+    let s = e .before .before .before in
+    let p = s .args .p .now in
+    let d = allowablePeriod (s .args .holidays .now) (s .args .proposed .0) (s .args .nochange) in
+    answered (requestPart (s .args .user) d p) _ _
+    (request-entered p (s .pre .0) (s .pre .1) (s .args .user) d (idle-is e) (λ h. a .before .if2 .left (latest-is g ∙ h)) _ _
+    (sym (a .allowable-period .ensures) ∙ ap periodDays (f .period .given .1)) (omega (arith, count-is (g .before .before), k .if3 .left))) _ (c .before .set-pending .ensures)
+
+pub request-at-spec : {M : Type 1} → statement M
+request-at-spec =
+    tie.close
+    (tie.spec
+    get-requires
+    same-length
+    returns
+    get-requires-2
+    mul-get
+    add-get
+    get-requires-3
+    same-length-2
+    returns-2
+    allowable-period-requires
+    enum-known-period
+    enum-told
+    same-length-3
+    returns-3
+    same-length-4
+    returns-4
+    set-pending-requires
+    same-length-5
+    returns-5)

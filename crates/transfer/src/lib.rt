@@ -1,0 +1,136 @@
+// Transfer of a point to another User: a request, which waits for a reading in its allowable period, and its withdrawal.
+// Each call tests the table, then its numbers, and lends the part of its point to a function that works on that alone.
+use calendar::Day;
+use calendar::Period;
+use daybook::NoticeAnswer;
+use daybook::RequestAnswer;
+use daybook::TransferRequest;
+use daybook::Withdrawal;
+ghost use mathlib.Core.Path.{_≡_};
+ghost use mathlib.Core.Bool.{true, _&&_};
+ghost use Prim.Native.Nat.{_≤_};
+ghost use lib.ListN.{length};
+ghost use Rattle.calendar.specs.Calendar.{isDay, allowablePeriod};
+ghost use Rattle.daybook.specs.Notices.{isMirn, isUser, isFlag};
+ghost use Rattle.daybook.specs.Calls.{noticeNumbers, requestNumbers};
+ghost use Rattle.layout.specs.Sound.{partSound};
+ghost use Rattle.transfer.specs.Transfer.{requestCall, withdrawCall};
+ghost use Rattle.transfer.specs.Parts.{requestPart, withdrawPart};
+
+fn withdrawal_in_range(n: Withdrawal) -> bool
+    ensures { λ r. ⌜ r ≡ (isMirn (n .mirn) && isUser (n .user)) ⌝ }
+{
+    let mirn = n.mirn;
+    let user = n.user;
+    let m = numbers::natural(mirn);
+    let u = numbers::natural(user);
+    ((1 <= m) & (m <= 9999999999)) & ((1 <= u) & (u <= 16))
+}
+
+// A request is withdrawn by its own User only.
+fn withdraw_at(p: &mut [i64], user: u64) -> NoticeAnswer
+    requires { ⌜ (partSound (now p) ≡ true) × (length (now p) ≡ 240) × (1 ≤ user) ⌝ }
+    ensures { λ r. ⌜ (noticeNumbers r ≡ withdrawPart user (now (p .entry)) .0) × (now (p .exit) ≡ withdrawPart user (now (p .entry)) .1) ⌝ }
+{
+    if numbers::get(p, 7) != user {
+        return NoticeAnswer::Refused(11);
+    }
+    rows::clear_pending(p);
+    NoticeAnswer::Entered
+}
+
+// The withdraw call.
+pub fn withdraw(t: &mut [i64], n: Withdrawal) -> NoticeAnswer
+    ensures { λ r. ⌜ (noticeNumbers r ≡ withdrawCall (now (t .entry)) n .0) × (now (t .exit) ≡ withdrawCall (now (t .entry)) n .1) ⌝ }
+{
+    if !table::sound(t) {
+        return NoticeAnswer::Refused(1);
+    }
+    if !withdrawal_in_range(n) {
+        return NoticeAnswer::Refused(2);
+    }
+    let mirn = n.mirn;
+    let user = n.user;
+    let m = numbers::natural(mirn);
+    let i = table::index_of(t, m);
+    if i == 32 {
+        return NoticeAnswer::Refused(4);
+    }
+    let u = numbers::natural(user);
+    let a = 8 + 240 * i;
+    let b = a + 240;
+    withdraw_at(&mut t[a..b], u)
+}
+
+fn request_in_range(n: TransferRequest) -> bool
+    ensures { λ r. ⌜ r ≡ (isMirn (n .mirn) && isUser (n .user) && isDay (n .proposed) && isFlag (n .nochange)) ⌝ }
+{
+    let mirn = n.mirn;
+    let user = n.user;
+    let proposed = n.proposed;
+    let nochange = n.nochange;
+    let m = numbers::natural(mirn);
+    let u = numbers::natural(user);
+    let day = numbers::natural(proposed);
+    let flag = numbers::natural(nochange);
+    ((1 <= m) & (m <= 9999999999)) & ((1 <= u) & (u <= 16)) & (day <= 39999) & (flag <= 1)
+}
+
+// The latest User stands at the place of the last registration.
+fn request_at(
+    p: &mut [i64],
+    user: u64,
+    proposed: Day,
+    nochange: u64,
+    holidays: &[i64],
+) -> RequestAnswer
+    requires { ⌜ (partSound (now p) ≡ true) × (length (now p) ≡ 240) × (user ≤ 16) × (proposed .0 ≤ 39999) ⌝ }
+    ensures { λ r. ⌜ (requestNumbers r ≡ requestPart user (allowablePeriod (now (holidays .entry)) (proposed .0) nochange) (now (p .entry)) .0) × (now (p .exit) ≡ requestPart user (allowablePeriod (now (holidays .entry)) (proposed .0) nochange) (now (p .entry)) .1) ⌝ }
+{
+    if numbers::get(p, 7) != 0 {
+        return RequestAnswer::Refused(10);
+    }
+    let count = numbers::get(p, 4) as usize;
+    if numbers::get(p, 15 + 2 * count) == user {
+        return RequestAnswer::Refused(12);
+    }
+    let period = calendar::allowable_period(holidays, proposed, nochange);
+    let Period::Window(first, last) = period else {
+        return RequestAnswer::Refused(13);
+    };
+    if 8 <= count {
+        return RequestAnswer::Refused(16);
+    }
+    rows::set_pending(p, user, first.0, last.0);
+    RequestAnswer::Entered { first, last }
+}
+
+// The request call: its answer is the allowable period.
+pub fn request(t: &mut [i64], n: TransferRequest, holidays: &[i64]) -> RequestAnswer
+    ensures { λ r. ⌜ (requestNumbers r ≡ requestCall (now (t .entry)) n (now (holidays .entry)) .0) × (now (t .exit) ≡ requestCall (now (t .entry)) n (now (holidays .entry)) .1) ⌝ }
+{
+    if !table::sound(t) {
+        return RequestAnswer::Refused(1);
+    }
+    if !request_in_range(n) {
+        return RequestAnswer::Refused(2);
+    }
+    if !calendar::holiday_list(holidays) {
+        return RequestAnswer::Refused(3);
+    }
+    let mirn = n.mirn;
+    let m = numbers::natural(mirn);
+    let i = table::index_of(t, m);
+    if i == 32 {
+        return RequestAnswer::Refused(4);
+    }
+    let user = n.user;
+    let proposed = n.proposed;
+    let nochange = n.nochange;
+    let u = numbers::natural(user);
+    let day = Day(numbers::natural(proposed));
+    let flag = numbers::natural(nochange);
+    let a = 8 + 240 * i;
+    let b = a + 240;
+    request_at(&mut t[a..b], u, day, flag, holidays)
+}
