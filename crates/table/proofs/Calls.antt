@@ -1,12 +1,12 @@
 -- A call on the point of a MIRN, on a lent table: sent back it leaves the table, entered it changes that point's part
 -- alone. What a public call's proof cites. Assumes nothing.
-use mathlib.Core.Path.{_≡_, refl, sym, _∙_, ap, ap₂}
-use mathlib.Core.Bool.{Bool, true, false, not, cond}
-use mathlib.Core.Option.{none, some}
+use mathlib.Core.Path.{_≡_, sym, _∙_, ap}
+use mathlib.Core.Bool.{true, false, not, cond}
+use mathlib.Core.Option.{some}
 use mathlib.Core.List.{List, [], _∷_, _++_}
-use Prim.Native.Nat.{ℕ, zero, suc}
+use Prim.Native.Nat.{ℕ, suc}
 use lib.Dec.{eqb·suc-zero}
-use lib.ListN.{length, drop, replicate}
+use lib.ListN.{drop, replicate}
 use lib.IntN.{ℤ, pos}
 use Rattle.numbers.specs.Naturals.{natOf}
 use Rattle.numbers.specs.Search.{maybe}
@@ -16,7 +16,7 @@ use Rattle.daybook.proofs.Lists.{Lists, Register, bookOf}
 use Rattle.daybook.proofs.Steps.{findLists, withLists, onLists}
 use Rattle.daybook.proofs.Rows.{decide-taken, decide-refused}
 use Rattle.daybook.proofs.Well.{WellFormed}
-use Rattle.layout.specs.Layout.{tableLength, Fits, partOf, withPart, pointNumbers, layout, pointFrom, registerOf, tableBook, written}
+use Rattle.layout.specs.Layout.{tableLength, partOf, withPart, pointNumbers, layout, pointFrom, registerOf, tableBook}
 use Rattle.layout.specs.Sound.{sound}
 use Rattle.layout.specs.Calls.{refused, leaves, onTable}
 use Rattle.layout.proofs.Numbers.{Few}
@@ -27,6 +27,23 @@ use Rattle.table.proofs.Found.{Found}
 pub call-unsound : (k : ℕ) (step : Book → Numbers × Book) (ed : Edition) (t : List ℤ) → sound ed t ≡ false → onTable k step ed t ≡ (pos 1 ∷ replicate k (pos 0), t)
 unfolding onTable
 call-unsound k step ed t e = rw e
+
+-- the two equations of a call's contract
+pub gives : {w : Numbers × List ℤ} {a : Numbers} {u : List ℤ} → w ≡ (a, u) → (a ≡ w .0) × (u ≡ w .1)
+gives e = (ap (λ w. w .0) (sym e), ap (λ w. w .1) (sym e))
+
+-- ---- what is left where the lists' step gives w
+
+abbrev pub laidOver : Edition → List ℤ → Numbers × Register → Numbers × List ℤ
+laidOver ed t w = (w .0, cond (refused (w .0)) t (layout ed (w .1) ++ drop tableLength t))
+
+module _ (ed : Edition) (t : List ℤ) where
+  pub leaves-is : (w : Numbers × Register) → WellFormed ed (w .1) → leaves ed t (w .0, bookOf (w .1)) ≡ laidOver ed t w
+  leaves-is w ok = ap (λ u. (w .0, cond (refused (w .0)) t u)) (written-is ed ok t)
+
+  -- a refusal leaves the table as found
+  pub left-alone : (n : ℕ) (l : List ℤ) (R : Register) → laidOver ed t (pos (suc n) ∷ l, R) ≡ (pos (suc n) ∷ l, t)
+  left-alone n l R = ap (λ b. (pos (suc n) ∷ l, cond (not b) t (layout ed R ++ drop tableLength t))) (eqb·suc-zero n)
 
 -- ---- what the lists' step gives
 
@@ -57,20 +74,17 @@ module _ (k : ℕ) (m : ℤ) (early : List Row) (rows : Lists → List Row) (eff
   abbrev after : Numbers × Register
   after = onLists k m early rows effect (registerOf ed t)
 
-  abbrev table : Numbers × Register → Numbers × List ℤ
-  table w = (w .0, cond (refused (w .0)) t (layout ed (w .1) ++ drop tableLength t))
-
-  whole : onTable k step ed t ≡ table after
+  whole : onTable k step ed t ≡ laidOver ed t after
   unfolding onTable tableBook
-  whole = rw s (ap (leaves ed t) is ∙ ap (λ u. (after .0, cond (refused (after .0)) t u)) (written-is ed keeps t))
+  whole = rw s (ap (leaves ed t) is ∙ leaves-is ed t after keeps)
 
   pub call-refused : (n : ℕ) → row k m early rows effect (registerOf ed t) ≡ suc n → onTable k step ed t ≡ (pos (suc n) ∷ replicate k (pos 0), t)
   call-refused n e =
-      whole ∙ ap table (lists-refused k m early rows effect (registerOf ed t) n e)
-      ∙ ap (λ b. (pos (suc n) ∷ replicate k (pos 0), cond (not b) t (layout ed (registerOf ed t) ++ drop tableLength t))) (eqb·suc-zero n)
+      whole ∙ ap (laidOver ed t) (lists-refused k m early rows effect (registerOf ed t) n e)
+      ∙ left-alone ed t n (replicate k (pos 0)) (registerOf ed t)
 
   pub call-entered : (i : ℕ) → Found ed t (natOf m) i → least (early ++ rows (pointFrom (partOf ed t i))) ≡ 0 → Few (ed .records) (effect (pointFrom (partOf ed t i)) .1)
       → onTable k step ed t ≡ (pos 0 ∷ effect (pointFrom (partOf ed t i)) .0, withPart ed t i (pointNumbers (ed .records) (effect (pointFrom (partOf ed t i)) .1)))
   call-entered i f e few =
-      whole ∙ ap table (lists-entered k m early rows effect (registerOf ed t) (pointFrom (partOf ed t i)) (f .find) e)
+      whole ∙ ap (laidOver ed t) (lists-entered k m early rows effect (registerOf ed t) (pointFrom (partOf ed t i)) (f .find) e)
       ∙ ap (λ u. (pos 0 ∷ effect (pointFrom (partOf ed t i)) .0, u)) (sym (f .put (effect (pointFrom (partOf ed t i)) .1) few))

@@ -2,20 +2,22 @@
 use mathlib.Core.Path.{_≡_, refl, sym, ap, _∙_}
 use mathlib.Core.Bool.{Bool, true, false, not, _&&_, cond, false≢true}
 use mathlib.Core.Option.{Option, none, some}
-use mathlib.Core.List.{List, []}
+use mathlib.Core.List.{List, [], _++_}
 use Prim.Native.Nat.{ℕ, zero, suc, _+_, _-_, _*_, _≤_, _<_, _^_}
 use native.Mathlib.Omega.{arith}
 use lib.Dec.{leb, ltb, eqb}
 use lib.ListN.{getD, length, take, drop, length-take, length-drop}
+use lib.Seq.{drop-drop}
 use lib.IntN.{ℤ, pos, negsuc}
-use borrow.Author.Tests.{le-leb, lt-leb, eq-eqb, ne-eqb, leb-true, leb-false, ltb-true, ltb-false}
+use borrow.Author.Tests.{le-leb, lt-leb, eq-eqb, ne-eqb, leb-true, leb-false, ltb-true}
 use Rattle.numbers.specs.Naturals.{natOf, biasOf}
 use Rattle.numbers.specs.Rows.{all}
 use Rattle.numbers.specs.Search.{maybe, firstFrom}
 use Rattle.numbers.proofs.Rows.{all-more, all-fails, all-done}
 use Rattle.numbers.proofs.Search.{from-none, from-hit, from-miss, from-bound}
+use Rattle.calendar.specs.Calendar.{within}
 use Rattle.daybook.specs.Notices.{isRange}
-use Rattle.layout.specs.Layout.{standard, placeOf, partOf, numAt, pointsFrom}
+use Rattle.layout.specs.Layout.{standard, placeOf, partOf, withPart, numAt, pointsFrom}
 use Rattle.layout.specs.Sound.{zeros, partSound, mirnsDiffer, sound}
 use Rattle.layout.proofs.Mirns.{laterDiffer}
 use Rattle.table.specs.Lookup.{bodySound, indexOf, lookUp}
@@ -28,22 +30,38 @@ module _ (t : List ℤ) (i : ℕ) where
   pub part-long : placeOf standard i + 240 ≤ length t → length (take (8 + 240 * i + 240 - (8 + 240 * i)) (drop (8 + 240 * i) t)) ≡ 240
   part-long h = simp (length-take, length-drop) (omega arith)
 
--- a range, raised by 1,000,000
-pub range-is : (z : ℤ) (u : ℕ) → u ≡ biasOf z → (leb 999999 u && leb u 2000000) ≡ isRange z
-range-is (pos n) u e = go (leb n 1000000) refl e
+  -- what a lent part leaves of the table
+  pub part-put : (p : List ℤ) → take (8 + 240 * i) t ++ (p ++ drop (8 + 240 * i + 240 - (8 + 240 * i)) (drop (8 + 240 * i) t)) ≡ withPart standard t i p
+  unfolding withPart
+  part-put p =
+      let e : 8 + 240 * i + 240 - (8 + 240 * i) ≡ 240 = omega arith in
+      ap (λ k. take (8 + 240 * i) t ++ (p ++ drop k (drop (8 + 240 * i) t))) e
+      ∙ ap (λ l. take (8 + 240 * i) t ++ (p ++ l)) (drop-drop 240 (8 + 240 * i) t)
+
+-- a number from -1 to hi, raised by 1,000,000
+pub within-raised : (hi : ℕ) (z : ℤ) (u : ℕ) → hi ≤ 1000000 → u ≡ biasOf z → (leb 999999 u && leb u (hi + 1000000)) ≡ within (negsuc 0) (pos hi) z
+within-raised hi (pos n) u small e = go (leb n 1000000) refl e
   where
-    go : (b : Bool) → leb n 1000000 ≡ b → u ≡ cond b (n + 1000000) (2 ^ 63) → (leb 999999 u && leb u 2000000) ≡ leb n 1000000
-    go true h e =
-        let l : n ≤ 1000000 = leb-true n 1000000 h in
-        rw (h, le-leb 999999 u (omega arith), le-leb u 2000000 (omega arith)) refl
-    go false h e = rw (h, le-leb 999999 u (omega arith), lt-leb u 2000000 (omega arith)) refl
-range-is (negsuc n) u e = go n (ltb n 1000000) refl e
+    go : (b : Bool) → leb n 1000000 ≡ b → u ≡ cond b (n + 1000000) (2 ^ 63) → (leb 999999 u && leb u (hi + 1000000)) ≡ leb n hi
+    go true h e = same (leb n hi) refl
+      where
+        same : (b : Bool) → leb n hi ≡ b → (leb 999999 u && leb u (hi + 1000000)) ≡ b
+        same true k = rw (le-leb 999999 u (omega arith), le-leb u (hi + 1000000) (omega (arith, leb-true n hi k))) refl
+        same false k = rw (le-leb 999999 u (omega arith), lt-leb u (hi + 1000000) (omega (arith, leb-false n hi k))) refl
+    go false h e =
+        let l : 1000000 < n = leb-false n 1000000 h in
+        rw (lt-leb n hi (omega arith), le-leb 999999 u (omega arith), lt-leb u (hi + 1000000) (omega arith)) refl
+within-raised hi (negsuc n) u small e = go n (ltb n 1000000) refl e
   where
-    go : (n : ℕ) (b : Bool) → ltb n 1000000 ≡ b → u ≡ cond b (999999 - n) (2 ^ 63) → (leb 999999 u && leb u 2000000) ≡ isRange (negsuc n)
-    go zero true h e = rw (le-leb 999999 u (omega arith), le-leb u 2000000 (omega arith)) refl
+    go : (n : ℕ) (b : Bool) → ltb n 1000000 ≡ b → u ≡ cond b (999999 - n) (2 ^ 63) → (leb 999999 u && leb u (hi + 1000000)) ≡ within (negsuc 0) (pos hi) (negsuc n)
+    go zero true h e = rw (le-leb 999999 u (omega arith), le-leb u (hi + 1000000) (omega arith)) refl
     go zero false h e = let z : _≡_ {A = ℕ} 0 1 = cc in absurd (omega arith)
     go (suc n) true h e = rw (lt-leb 999999 u (omega (arith, ltb-true (suc n) 1000000 h)), lt-leb (suc n) 0 (omega arith)) refl
-    go (suc n) false h e = rw (le-leb 999999 u (omega arith), lt-leb u 2000000 (omega arith), lt-leb (suc n) 0 (omega arith)) refl
+    go (suc n) false h e = rw (le-leb 999999 u (omega arith), lt-leb u (hi + 1000000) (omega arith), lt-leb (suc n) 0 (omega arith)) refl
+
+-- a validation range
+pub range-is : (z : ℤ) (u : ℕ) → u ≡ biasOf z → (leb 999999 u && leb u 2000000) ≡ isRange z
+range-is z u e = within-raised 1000000 z u (omega arith) e
 
 -- Is point i's MIRN another than that of point i + 1 + j?
 abbrev pub differAt : List ℤ → ℕ → ℕ → Bool

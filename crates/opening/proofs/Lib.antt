@@ -1,0 +1,3 @@
+pub mod CallNumbers
+pub mod OpenCall
+pub mod FreshCall

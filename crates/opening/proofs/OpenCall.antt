@@ -1,0 +1,139 @@
+-- open on a lent table: sent back it leaves the table, entered it writes one more point. Assumes nothing.
+use mathlib.Core.Path.{_≡_, refl, sym, _∙_, ap, ap₂}
+use mathlib.Core.Bool.{Bool, true, false, not, _&&_}
+use mathlib.Core.Option.{Option, none, some}
+use mathlib.Core.List.{List, [], _∷_, _++_}
+use Prim.Native.Nat.{ℕ, suc, _≤_, _<_}
+use native.Mathlib.Omega.{arith}
+use lib.Dec.{leb, eqb}
+use lib.ListN.{length, drop}
+use lib.IntN.{ℤ, pos, negsuc}
+use borrow.Author.Tests.{le-leb, lt-leb}
+use Rattle.numbers.specs.Naturals.{natOf}
+use Rattle.numbers.specs.Search.{maybe, isSome}
+use Rattle.numbers.proofs.Search.{from-bound}
+use Rattle.calendar.specs.Calendar.{within, isDay}
+use Rattle.daybook.specs.declared.Opening.{Opening}
+use Rattle.daybook.specs.Notices.{least, Numbers, decide, isMirn, isFlag, isUser, factsOf, openingRows, opening}
+use Rattle.daybook.proofs.Lists.{Register}
+use Rattle.daybook.proofs.Steps.{findLists, openedLists, openingLists}
+use Rattle.daybook.proofs.Rows.{above, least-first, least-skip, decide-taken, decide-refused}
+use Rattle.daybook.proofs.Well.{WellFormed}
+use Rattle.daybook.proofs.OpenStep.{OpenClear, open-clear, open-step, open-keeps}
+use Rattle.layout.specs.Layout.{tableLength, standard, placeOf, layout, numAt, registerOf, tableBook}
+use Rattle.layout.specs.Sound.{sound}
+use Rattle.layout.specs.Writes.{appendPoint}
+use Rattle.layout.specs.Calls.{leaves, onTable}
+use Rattle.layout.proofs.PointParts.{all-few-of, withPoints, table-split}
+use Rattle.layout.proofs.TableSound.{length-points, sound-lays, standard-fits}
+use Rattle.layout.proofs.NewPoint.{freshPoint, append-point}
+use Rattle.table.specs.Lookup.{indexOf}
+use Rattle.table.proofs.Laws.{sound-long}
+use Rattle.table.proofs.Found.{found, missing}
+use Rattle.table.proofs.Calls.{call-unsound, laidOver, leaves-is, left-alone}
+use Rattle.opening.specs.Opening.{openCall}
+
+-- are all numbers of an opening in range?
+abbrev pub ranged : Opening → Bool
+ranged n = isMirn (n .mirn) && isFlag (n .kind) && isUser (n .user) && isDay (n .install) && within (negsuc 0) (pos 10000) (n .base)
+
+pub open-unsound : (t : List ℤ) (n : Opening) → sound standard t ≡ false → openCall t n ≡ (pos 1 ∷ [], t)
+unfolding openCall
+open-unsound t n e = call-unsound 0 (opening standard n) standard t e
+
+module _ (t : List ℤ) (n : Opening) (s : sound standard t ≡ true) where
+  abbrev R : Register
+  R = registerOf standard t
+
+  abbrev known : Bool
+  known = isSome (findLists (natOf (n .mirn)) (R .points))
+
+  abbrev row : ℕ
+  row = least (openingRows standard n known (length (R .points)))
+
+  well : WellFormed standard R
+  well = sound-lays standard standard-fits t s .0
+
+  -- what the lists' step gives where row r sends the call back, 0 for none
+  abbrev after : ℕ → Numbers × Register
+  after r =
+      decide r 0 R ([], record { nondaily = R .nondaily; daily = R .daily; points = R .points ++ (openedLists n ∷ []) })
+
+  whole : openCall t n ≡ laidOver standard t (after row)
+  unfolding openCall onTable tableBook openingLists
+  whole =
+      rw s
+      (ap (leaves standard t) (open-step standard n R)
+      ∙ leaves-is standard t (openingLists standard n R) (open-keeps standard n well))
+
+  sent-back : (r : ℕ) → row ≡ suc r → openCall t n ≡ (pos (suc r) ∷ [], t)
+  sent-back r e = whole ∙ ap (λ k. laidOver standard t (after k)) e ∙ ap (laidOver standard t) (decide-refused 0 R _ r) ∙ left-alone standard t r [] R
+
+  count : length (R .points) ≡ numAt t 0
+  unfolding registerOf
+  count = length-points standard (numAt t 0) (drop 8 t)
+
+  opened-is : openedLists n ≡ freshPoint (factsOf n) (natOf (n .user))
+  unfolding openedLists freshPoint factsOf
+  opened-is = refl
+
+  taken : row ≡ 0 → length (R .points) < 32 → openCall t n ≡ (pos 0 ∷ [], appendPoint standard t (numAt t 0) (factsOf n) (natOf (n .user)))
+  unfolding withPoints
+  taken e h =
+      let rest : List ℤ = drop tableLength t in
+      whole ∙ ap (λ k. laidOver standard t (after k)) e ∙ ap (laidOver standard t) (decide-taken 0 R _)
+      ∙ ap (λ q. (pos 0 ∷ [], layout standard (withPoints (R .points ++ (q ∷ [])) R) ++ rest)) opened-is
+      ∙ ap (λ u. (pos 0 ∷ [], u))
+      (sym (ap₂ (λ u k. appendPoint standard u k (factsOf n) (natOf (n .user))) (table-split standard R t (sym (sound-lays standard standard-fits t s .1))) (sym count)
+      ∙ append-point standard R rest (all-few-of (well .pointsOk)) standard-fits h (factsOf n) (natOf (n .user))))
+
+  -- ---- what the search by MIRN says of row 5
+
+  index-known : (i : ℕ) → i ≡ maybe 32 (λ k. k) (indexOf standard t (natOf (n .mirn))) → (i ≡ 32 → ⊥) → known ≡ true
+  index-known i e d = go (indexOf standard t (natOf (n .mirn))) refl e
+    where
+      go : (o : Option ℕ) → indexOf standard t (natOf (n .mirn)) ≡ o → i ≡ maybe 32 (λ k. k) o → known ≡ true
+      go none q e = absurd (d e)
+      go (some k) q e = ap isSome (found standard standard-fits t s (natOf (n .mirn)) k q .find)
+
+  index-new : (i : ℕ) → i ≡ maybe 32 (λ k. k) (indexOf standard t (natOf (n .mirn))) → i ≡ 32 → known ≡ false
+  unfolding indexOf
+  index-new i e d = go (indexOf standard t (natOf (n .mirn))) refl e
+    where
+      go : (o : Option ℕ) → indexOf standard t (natOf (n .mirn)) ≡ o → i ≡ maybe 32 (λ k. k) o → known ≡ false
+      go none q e = ap isSome (missing standard standard-fits t s (natOf (n .mirn)) q)
+      go (some k) q e =
+          absurd (omega (arith, from-bound (λ i. eqb (numAt t (placeOf standard i)) (natOf (n .mirn))) 0 (numAt t 0) k q .1, sound-long t s .1))
+
+  -- ---- the rows in order
+
+  pub open-out : ranged n ≡ false → openCall t n ≡ (pos 2 ∷ [], t)
+  unfolding openingRows above
+  open-out e = sent-back 1 (least-first 2 (not (ranged n)) _ refl (ap not e))
+
+  -- past row 2, with i what the search found
+  module _ (r : ranged n ≡ true) (i : ℕ) (is : i ≡ maybe 32 (λ k. k) (indexOf standard t (natOf (n .mirn)))) where
+    pub open-known : (i ≡ 32 → ⊥) → openCall t n ≡ (pos 5 ∷ [], t)
+    unfolding openingRows above
+    open-known d =
+        sent-back 4 (least-skip 2 (not (ranged n)) _ (ap not r) ∙ least-first 5 known _ refl (index-known i is d))
+
+    after-two : i ≡ 32 → row ≡ least ((16, leb 32 (length (R .points))) ∷ [])
+    unfolding openingRows
+    after-two d = least-skip 2 (not (ranged n)) _ (ap not r) ∙ least-skip 5 known _ (index-new i is d)
+
+    pub open-full : i ≡ 32 → 32 ≤ numAt t 0 → openCall t n ≡ (pos 16 ∷ [], t)
+    unfolding above
+    open-full d h =
+        sent-back 15 (after-two d ∙ least-first 16 _ [] refl (le-leb 32 (length (R .points)) (omega (arith, count))))
+
+    nothing : i ≡ 32 → numAt t 0 < 32 → row ≡ 0
+    unfolding least
+    nothing d h = after-two d ∙ least-skip 16 _ [] (lt-leb 32 (length (R .points)) (omega (arith, count)))
+
+    pub open-entered : i ≡ 32 → numAt t 0 < 32 → openCall t n ≡ (pos 0 ∷ [], appendPoint standard t (numAt t 0) (factsOf n) (natOf (n .user)))
+    open-entered d h = taken (nothing d h) (omega (arith, count))
+
+    -- what the writing needs
+    pub clear : i ≡ 32 → numAt t 0 < 32 → OpenClear standard n known (length (R .points))
+    clear d h = open-clear standard n known (length (R .points)) (nothing d h)

@@ -1,0 +1,43 @@
+use mathlib.Core.Path.{_∙_}
+use borrow.Author.Needs.{needs, sfits-of}
+use Rattle.opening.proofs.CallNumbers.{natural-read, bias-read, in-range-is}
+use Rattle.opening.proofs.in_range.Statement.{statement}
+use Rattle.opening.proofs.in_range.Tie as tie
+
+natural-requires : tie.Need-natural-requires
+natural-requires c κs = search needs
+
+natural-requires-2 : tie.Need-natural-requires-2
+natural-requires-2 c κs = search needs
+
+natural-requires-3 : tie.Need-natural-requires-3
+natural-requires-3 c κs = search needs
+
+natural-requires-4 : tie.Need-natural-requires-4
+natural-requires-4 c κs = search needs
+
+bias-requires : tie.Need-bias-requires
+bias-requires c κs = search needs
+
+returns : tie.Need-returns
+returns c =
+    let s = c .before .before .before .before in
+    let n = s .before .before .before .before .before .before .args .n in
+    let fits = s .before .struct-told5 .given in
+    in-range-is n
+    (s .natural .ensures .0 ∙ natural-read (n .mirn) (sfits-of (fits .0 .1)))
+    (c .before .before .before .natural2 .ensures .0 ∙ natural-read (n .kind) (sfits-of (fits .1 .0 .1)))
+    (c .before .before .natural3 .ensures .0 ∙ natural-read (n .user) (sfits-of (fits .1 .1 .0 .1)))
+    (c .before .natural4 .ensures .0 ∙ natural-read (n .install) (sfits-of (fits .1 .1 .1 .0 .1)))
+    (c .bias .ensures ∙ bias-read (n .base) (sfits-of (fits .1 .1 .1 .1 .0 .1)))
+
+pub in-range-spec : {M : Type 1} → statement M
+in-range-spec =
+    tie.close
+    (tie.spec
+    natural-requires
+    natural-requires-2
+    natural-requires-3
+    natural-requires-4
+    bias-requires
+    returns)

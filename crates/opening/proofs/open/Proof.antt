@@ -1,0 +1,135 @@
+use mathlib.Core.Path.{_≡_, sym, _∙_, ap}
+use mathlib.Core.Bool.{true}
+use native.Mathlib.Omega.{arith}
+use borrow.Author.Needs.{needs, sfits-of}
+use borrow.Author.Tests.{not-true, not-false}
+use Rattle.numbers.specs.Naturals.{natOf}
+use Rattle.numbers.specs.Search.{maybe}
+use Rattle.daybook.specs.Notices.{factsOf}
+use Rattle.daybook.proofs.OpenStep.{facts-ok}
+use Rattle.layout.specs.Layout.{standard}
+use Rattle.layout.specs.Sound.{sound}
+use Rattle.layout.specs.Writes.{appendPoint}
+use Rattle.table.specs.Lookup.{indexOf}
+use Rattle.table.proofs.Laws.{sound-long}
+use Rattle.table.proofs.Calls.{gives}
+use Rattle.opening.proofs.CallNumbers.{natural-read}
+use Rattle.opening.proofs.OpenCall.{ranged, open-unsound, open-out, open-known, open-full, open-entered, clear}
+use Rattle.opening.proofs.open.Statement.{statement}
+use Rattle.opening.proofs.open.Tie as tie
+
+sound-requires : tie.Need-sound-requires
+sound-requires c κs = search needs
+
+same-length : tie.Need-same-length
+same-length c = search needs
+
+returns : tie.Need-returns
+returns c =
+    let s = c .before .before .before .args in
+    gives (open-unsound (s .t .now) (s .n) (sym (c .before .sound .ensures) ∙ not-true _ (c .if1 .taken)))
+
+in-range-requires : tie.Need-in-range-requires
+in-range-requires c κs = search needs
+
+same-length-2 : tie.Need-same-length-2
+same-length-2 c = search needs
+
+-- ---- what is known after each test
+
+is-sound : (c : tie.After-in-range) → sound standard (c .before .before .before .before .args .t .now) ≡ true
+is-sound c = sym (c .before .before .sound .ensures) ∙ not-false _ (c .before .if1 .left)
+
+returns-2 : tie.Need-returns-2
+returns-2 c =
+    let s = c .before .before .before .before .before .args in
+    gives (open-out (s .t .now) (s .n) (is-sound (c .before)) (sym (c .before .in-range .ensures) ∙ not-true _ (c .if2 .taken)))
+
+natural-requires : tie.Need-natural-requires
+natural-requires c κs = search needs
+
+is-ranged : (c : tie.After-natural) → ranged (c .before .before .before .before .before .before .before .args .n) ≡ true
+is-ranged c = sym (c .before .before .before .in-range .ensures) ∙ not-false _ (c .before .before .if2 .left)
+
+index-of-requires : tie.Need-index-of-requires
+index-of-requires c κs =
+    let r = c .before .before .before .before in
+    sound-long (r .before .before .before .before .args .t .now) (is-sound r)
+
+index-is : (c : tie.After-index-of) → c .index-of .result
+    ≡ maybe 32 (λ k. k) (indexOf standard (c .before .before .before .before .before .before .before .before .before .args .t .now) (natOf (c .before .before .before .before .before .before .before .before .before .args .n .mirn)))
+index-is c =
+    let m = c .before .before in
+    let s = m .before .before .before .before .before .before .before .args in
+    c .index-of .ensures .0
+    ∙ ap (λ k. maybe 32 (λ i. i) (indexOf standard (s .t .now) k)) (m .natural .ensures .0 ∙ natural-read (s .n .mirn) (sfits-of (m .before .struct-told .given .0 .1)))
+
+same-length-3 : tie.Need-same-length-3
+same-length-3 c = search needs
+
+returns-3 : tie.Need-returns-3
+returns-3 c =
+    let m = c .before .before .before in
+    let r = m .before .before .before in
+    let s = r .before .before .before .before .args in
+    gives (open-known (s .t .now) (s .n) (is-sound r) (is-ranged m) _ (index-is (c .before)) (c .if3 .taken))
+
+get-requires : tie.Need-get-requires
+get-requires c κs =
+    let r = c .before .before .before .before .before .before .before in
+    omega (arith, sound-long (r .before .before .before .before .args .t .now) (is-sound r))
+
+same-length-4 : tie.Need-same-length-4
+same-length-4 c = search needs
+
+returns-4 : tie.Need-returns-4
+returns-4 c =
+    let i = c .before .before .before .before in
+    let m = i .before .before in
+    let r = m .before .before .before in
+    let s = r .before .before .before .before .args in
+    gives (open-full (s .t .now) (s .n) (is-sound r) (is-ranged m) _ (index-is i) (c .before .before .before .if3 .left) (omega (arith, c .before .get .ensures .0)))
+
+append-point-requires : tie.Need-append-point-requires
+append-point-requires c κs =
+    let g = c .before .before in
+    let i = g .before .before .before in
+    let m = i .before .before in
+    let r = m .before .before .before in
+    let s = r .before .before .before .before .args in
+    let k = clear (s .t .now) (s .n) (is-sound r) (is-ranged m) _ (index-is i) (g .before .before .if3 .left) (omega (arith, g .get .ensures .0)) in
+    (omega arith, sound-long (s .t .now) (is-sound r) .0, omega (arith, k .mirnHigh), omega (arith, k .kindOk), omega (arith, k .userHigh), omega (arith, k .installOk), omega (arith, facts-ok k .baseOk))
+
+same-length-5 : tie.Need-same-length-5
+same-length-5 c = search needs
+
+returns-5 : tie.Need-returns-5
+returns-5 c =
+    let g = c .before .before .before .before in
+    let i = g .before .before .before in
+    let m = i .before .before in
+    let r = m .before .before .before in
+    let s = r .before .before .before .before .args in
+    let e = gives (open-entered (s .t .now) (s .n) (is-sound r) (is-ranged m) _ (index-is i) (g .before .before .if3 .left) (omega (arith, g .get .ensures .0))) in
+    (e .0, c .before .append-point .ensures ∙ ap (λ k. appendPoint standard (s .t .now) k (factsOf (s .n)) (natOf (s .n .user))) (g .get .ensures .0) ∙ e .1)
+
+pub open-spec : {M : Type 1} → statement M
+open-spec =
+    tie.close
+    (tie.spec
+    sound-requires
+    same-length
+    returns
+    in-range-requires
+    same-length-2
+    returns-2
+    natural-requires
+    index-of-requires
+    same-length-3
+    returns-3
+    get-requires
+    same-length-4
+    returns-4
+    append-point-requires
+    same-length-5
+    returns-5)

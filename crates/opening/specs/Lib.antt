@@ -1,0 +1,2 @@
+-- fresh and open on a lent table.
+pub mod Opening

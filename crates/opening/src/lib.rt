@@ -1,0 +1,127 @@
+// The two calls that make a register and its points: fresh empties the lent table, open adds a point behind the others.
+ghost use mathlib.Core.Path.{_≡_};
+ghost use mathlib.Core.Bool.{_&&_};
+ghost use Prim.Native.Nat.{_<_, _≤_, _^_};
+ghost use lib.Dec.{leb};
+ghost use lib.IntN.{pos, negsuc};
+ghost use lib.ListN.{length, set};
+ghost use Rattle.numbers.specs.Naturals.{natOf, energyOf};
+ghost use Rattle.calendar.specs.Calendar.{within, isDay};
+ghost use Rattle.daybook.specs.Notices.{isMirn, isFlag, isUser, factsOf};
+ghost use Rattle.daybook.specs.Calls.{noticeNumbers};
+ghost use Rattle.layout.specs.Layout.{standard};
+ghost use Rattle.layout.specs.Writes.{cleared, appendPoint};
+ghost use Rattle.opening.specs.Opening.{freshCall, openCall};
+use daybook::NoticeAnswer;
+use daybook::Opening;
+use daybook::Ranges;
+
+// A validation range, -1 to 1,000,000, raised by 1,000,000.
+fn is_range(u: u64) -> bool
+    ensures { λ r. ⌜ r ≡ (leb 999999 u && leb u 2000000) ⌝ }
+{
+    (999999 <= u) & (u <= 2000000)
+}
+
+// No points, and the two ranges, each raised by 1,000,000.
+fn empty(t: &mut [i64], nondaily: u64, daily: u64)
+    requires { ⌜ (7688 ≤ length (now t)) × (nondaily < 2 ^ 63) × (daily < 2 ^ 63) ⌝ }
+    ensures { λ _. ⌜ now (t .exit) ≡ set (set (cleared (now (t .entry)) 0 7688) 1 (energyOf nondaily)) 2 (energyOf daily) ⌝ }
+{
+    rows::clear(t, 0, 7688);
+    rows::put_energy(t, 1, nondaily);
+    rows::put_energy(t, 2, daily);
+}
+
+// A register with no points, whatever numbers the table holds.
+pub fn fresh(t: &mut [i64], n: Ranges) -> NoticeAnswer
+    ensures { λ r. ⌜ (noticeNumbers r ≡ freshCall (now (t .entry)) n .0) × (now (t .exit) ≡ freshCall (now (t .entry)) n .1) ⌝ }
+{
+    if t.len() < 7688 {
+        return NoticeAnswer::Refused(1);
+    }
+    let x = n.nondaily;
+    let y = n.daily;
+    let nondaily = numbers::bias(x);
+    let daily = numbers::bias(y);
+    if !(is_range(nondaily) & is_range(daily)) {
+        return NoticeAnswer::Refused(2);
+    }
+    empty(t, nondaily, daily);
+    NoticeAnswer::Entered
+}
+
+// Row 2 of an opening: are all its numbers in range?
+fn in_range(n: Opening) -> bool
+    ensures { λ r. ⌜ r ≡ (isMirn (n .mirn) && isFlag (n .kind) && isUser (n .user) && isDay (n .install) && within (negsuc 0) (pos 10000) (n .base)) ⌝ }
+{
+    let m = n.mirn;
+    let k = n.kind;
+    let u = n.user;
+    let i = n.install;
+    let b = n.base;
+    let mirn = numbers::natural(m);
+    let kind = numbers::natural(k);
+    let user = numbers::natural(u);
+    let install = numbers::natural(i);
+    let base = numbers::bias(b);
+    ((1 <= mirn) & (mirn <= 9999999999))
+        & (kind <= 1)
+        & ((1 <= user) & (user <= 16))
+        & (install <= 39999)
+        & ((999999 <= base) & (base <= 1010000))
+}
+
+// -1 stands for 1,000 (8.11.5).
+fn base_load(n: Opening) -> u64
+    ensures { λ r. ⌜ r ≡ factsOf n .base ⌝ }
+{
+    let b = n.base;
+    if b < 0 {
+        return 1000;
+    }
+    numbers::natural(b)
+}
+
+// Point i, behind the others, and i + 1 points.
+fn append_point(t: &mut [i64], i: usize, n: Opening)
+    requires { ⌜ (i < 32) × (7688 ≤ length (now t)) × (natOf (n .mirn) < 2 ^ 63) × (natOf (n .kind) < 2 ^ 63) × (natOf (n .user) < 2 ^ 63) × (natOf (n .install) < 2 ^ 63) × (factsOf n .base < 2 ^ 63) ⌝ }
+    ensures { λ _. ⌜ now (t .exit) ≡ appendPoint standard (now (t .entry)) i (factsOf n) (natOf (n .user)) ⌝ }
+{
+    let m = n.mirn;
+    let k = n.kind;
+    let u = n.user;
+    let d = n.install;
+    let mirn = numbers::natural(m);
+    let kind = numbers::natural(k);
+    let user = numbers::natural(u);
+    let install = numbers::natural(d);
+    let base = base_load(n);
+    let a = 8 + 240 * i;
+    let b = a + 240;
+    rows::open_point(&mut t[a..b], mirn, kind, install, base, user);
+    numbers::put(t, 0, i as u64 + 1);
+}
+
+// A new point: 5 for a MIRN that the register has, 16 where all 32 points are taken.
+pub fn open(t: &mut [i64], n: Opening) -> NoticeAnswer
+    ensures { λ r. ⌜ (noticeNumbers r ≡ openCall (now (t .entry)) n .0) × (now (t .exit) ≡ openCall (now (t .entry)) n .1) ⌝ }
+{
+    if !table::sound(t) {
+        return NoticeAnswer::Refused(1);
+    }
+    if !in_range(n) {
+        return NoticeAnswer::Refused(2);
+    }
+    let m = n.mirn;
+    let mirn = numbers::natural(m);
+    if table::index_of(t, mirn) != 32 {
+        return NoticeAnswer::Refused(5);
+    }
+    let count = numbers::get(t, 0) as usize;
+    if 32 <= count {
+        return NoticeAnswer::Refused(16);
+    }
+    append_point(t, count, n);
+    NoticeAnswer::Entered
+}

@@ -1,0 +1,4 @@
+-- Laws on which the proofs rest; each function's own proof stands in its folder.
+pub mod LastRow
+pub mod Part
+pub mod Call

@@ -1,0 +1,39 @@
+use mathlib.Core.Path.{_∙_}
+use borrow.Author.Tests.{eq-eqb, ne-eqb}
+use Rattle.layout.proofs.PartLays.{part-lays}
+use Rattle.status.proofs.Part.{part-install}
+use borrow.Author.Needs.{needs}
+use Rattle.status.proofs.cannot_switch.Statement.{statement}
+use Rattle.status.proofs.cannot_switch.Tie as tie
+
+cannot-on-requires : tie.Need-cannot-on-requires
+cannot-on-requires c κs = search needs
+
+returns : tie.Need-returns
+returns c = rw (eq-eqb _ 1 (c .before .if1 .taken)) (c .cannot-on .ensures)
+
+cannot-off-requires : tie.Need-cannot-off-requires
+cannot-off-requires c κs = search needs
+
+filled-from-requires : tie.Need-filled-from-requires
+filled-from-requires c κs = search needs
+
+get-requires : tie.Need-get-requires
+get-requires c κs = search needs
+
+returns-2 : tie.Need-returns-2
+returns-2 c =
+    let s = c .before .before .before .before in
+    let l = part-lays (s .args .p .now) 48 (s .pre .1) (s .pre .0) in
+    rw (ne-eqb _ 1 (c .before .before .before .if1 .left), c .before .before .cannot-off .ensures, c .before .filled-from .ensures, c .get .ensures .0 ∙ part-install (l .0) (l .1))
+
+pub cannot-switch-spec : {M : Type 1} → statement M
+cannot-switch-spec =
+    tie.close
+    (tie.spec
+    cannot-on-requires
+    returns
+    cannot-off-requires
+    filled-from-requires
+    get-requires
+    returns-2)

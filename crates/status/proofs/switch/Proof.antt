@@ -1,0 +1,71 @@
+use mathlib.Core.Path.{_∙_}
+use native.Mathlib.Omega.{arith}
+use Rattle.layout.specs.Layout.{pointFrom}
+use Rattle.layout.proofs.PartLays.{part-lays}
+use Rattle.status.proofs.Part.{spans-count, spans-few, open-is, close-is, room-to-open, span-to-close}
+use borrow.Author.Needs.{needs}
+use Rattle.status.proofs.switch.Statement.{statement}
+use Rattle.status.proofs.switch.Tie as tie
+
+get-requires : tie.Need-get-requires
+get-requires c κs = search needs
+
+open-span-requires : tie.Need-open-span-requires
+open-span-requires c κs =
+    let s = c .before .before .before .before in
+    let l = part-lays (s .args .p .now) 48 (s .pre .1) (s .pre .0) in
+    let e = spans-count (l .0) (l .1) in
+    let h = room-to-open _ _ (pointFrom (s .args .p .now)) (s .pre .4) (c .before .if1 .taken) in
+    search needs
+
+sub-close-span : tie.Need-sub-close-span
+sub-close-span c =
+    let s = c .before .before .before .before in
+    let l = part-lays (s .args .p .now) 48 (s .pre .1) (s .pre .0) in
+    let e = spans-count (l .0) (l .1) in
+    let h = span-to-close _ _ (pointFrom (s .args .p .now)) (s .pre .4) (omega arith) in
+    search needs
+
+close-span-requires : tie.Need-close-span-requires
+close-span-requires c κs =
+    let s = c .before .before .before .before in
+    let l = part-lays (s .args .p .now) 48 (s .pre .1) (s .pre .0) in
+    let e = spans-few (l .0) (l .1) in
+    search needs
+
+same-length : tie.Need-same-length
+same-length c = search needs
+
+returns : tie.Need-returns
+returns c =
+    let s = c .before .before .before .before .before .before in
+    let l = part-lays (s .args .p .now) 48 (s .pre .1) (s .pre .0) in
+    let g = c .before .before .before .before .get .ensures .0 in
+    let e = spans-count (l .0) (l .1) in
+    let h = room-to-open _ _ (pointFrom (s .args .p .now)) (s .pre .4) (c .before .before .before .if1 .taken) in
+    c .before .open-span .ensures ∙ open-is (l .0) (l .1) (s .args .day) _ (s .args .on) g (omega arith) (c .before .before .before .if1 .taken)
+
+same-length-2 : tie.Need-same-length-2
+same-length-2 c = search needs
+
+returns-2 : tie.Need-returns-2
+returns-2 c =
+    let s = c .before .before .before .before .before .before in
+    let l = part-lays (s .args .p .now) 48 (s .pre .1) (s .pre .0) in
+    let g = c .before .before .before .before .get .ensures .0 in
+    let e = spans-count (l .0) (l .1) in
+    let h = span-to-close _ _ (pointFrom (s .args .p .now)) (s .pre .4) (omega arith) in
+    c .before .close-span .ensures ∙ close-is (l .0) (l .1) (s .args .day) _ (s .args .on) g (omega arith) (omega arith)
+
+pub switch-spec : {M : Type 1} → statement M
+switch-spec =
+    tie.close
+    (tie.spec
+    get-requires
+    open-span-requires
+    sub-close-span
+    close-span-requires
+    same-length
+    returns
+    same-length-2
+    returns-2)

@@ -1,0 +1,10 @@
+-- What status answers, and what it leaves of the lent table.
+use mathlib.Core.List.{List}
+use lib.IntN.{ℤ}
+use Rattle.daybook.specs.declared.StatusNotice.{StatusNotice}
+use Rattle.daybook.specs.Notices.{Numbers, status}
+use Rattle.layout.specs.Layout.{standard}
+use Rattle.layout.specs.Calls.{onTable}
+
+unfoldable pub statusCall : List ℤ → StatusNotice → Numbers × List ℤ
+statusCall t n = onTable 0 (status n) standard t

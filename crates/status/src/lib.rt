@@ -1,0 +1,141 @@
+// status: from its day on a point is off (de-energised), or on again. The public call finds the point; the functions
+// before it work on that point's part alone, which the table's soundness makes the layout of well-formed lists.
+use daybook::NoticeAnswer;
+use daybook::StatusNotice;
+ghost use mathlib.Core.Path.{_≡_};
+ghost use mathlib.Core.Bool.{true, _&&_, cond};
+ghost use Prim.Native.Nat.{_≤_};
+ghost use lib.Dec.{eqb};
+ghost use lib.ListN.{length};
+ghost use Rattle.calendar.specs.Calendar.{isDay};
+ghost use Rattle.daybook.specs.Book.{lastOf};
+ghost use Rattle.daybook.specs.Notices.{least, isMirn, isFlag, cannotOff, cannotOn};
+ghost use Rattle.daybook.specs.Calls.{noticeNumbers};
+ghost use Rattle.layout.specs.Layout.{pointNumbers, pointFrom};
+ghost use Rattle.layout.specs.Sound.{partSound};
+ghost use Rattle.status.specs.Part.{filledFrom, cannotSwitch, rowsOf, switchedLists};
+ghost use Rattle.status.specs.Status.{statusCall};
+
+// Row 2.
+fn in_range(n: StatusNotice) -> bool
+    ensures { λ r. ⌜ r ≡ (isMirn (n .mirn) && isDay (n .day) && isFlag (n .on)) ⌝ }
+{
+    let mirn = n.mirn;
+    let day = n.day;
+    let on = n.on;
+    let m = numbers::natural(mirn);
+    ((1 <= m) & (m <= 9999999999)) & (numbers::natural(day) <= 39999) & (numbers::natural(on) <= 1)
+}
+
+// By the last span: off while off, or at or before the last on day.
+fn cannot_off(p: &[i64], day: u64) -> bool
+    requires { ⌜ (partSound (now p) ≡ true) × (length (now p) ≡ 240) × (day ≤ 39999) ⌝ }
+    ensures { λ r. ⌜ r ≡ cannotOff day (lastOf (pointFrom (now (p .entry)) .offs)) ⌝ }
+{
+    let n = numbers::get(p, 5) as usize;
+    if n == 0 {
+        return false;
+    }
+    day <= point::get_until(p, 32 + 2 * (n - 1) + 1)
+}
+
+// By the last span: on while on, or not after the off day. An on day that is not there yet reads as 40,001.
+fn cannot_on(p: &[i64], day: u64) -> bool
+    requires { ⌜ (partSound (now p) ≡ true) × (length (now p) ≡ 240) × (day ≤ 39999) ⌝ }
+    ensures { λ r. ⌜ r ≡ cannotOn day (lastOf (pointFrom (now (p .entry)) .offs)) ⌝ }
+{
+    let n = numbers::get(p, 5) as usize;
+    if n == 0 {
+        return true;
+    }
+    let at = 32 + 2 * (n - 1);
+    (point::get_until(p, at + 1) != 40001) | (day <= numbers::get(p, at))
+}
+
+// Is this day or a later one filled?
+fn filled_from(p: &[i64], day: u64) -> bool
+    requires { ⌜ (partSound (now p) ≡ true) × (length (now p) ≡ 240) ⌝ }
+    ensures { λ r. ⌜ r ≡ filledFrom day (pointFrom (now (p .entry))) ⌝ }
+{
+    let n = numbers::get(p, 6) as usize;
+    if n == 0 {
+        return false;
+    }
+    day <= numbers::get(p, 48 + 4 * (n - 1) + 1)
+}
+
+// Row 14.
+fn cannot_switch(p: &[i64], day: u64, on: u64) -> bool
+    requires { ⌜ (partSound (now p) ≡ true) × (length (now p) ≡ 240) × (day ≤ 39999) ⌝ }
+    ensures { λ r. ⌜ r ≡ cannotSwitch day on (pointFrom (now (p .entry))) ⌝ }
+{
+    if on == 1 {
+        return cannot_on(p, day);
+    }
+    cannot_off(p, day) | filled_from(p, day) | (day < numbers::get(p, 2))
+}
+
+// The row that sends the notice back, 0 if none does.
+fn refusal(p: &[i64], day: u64, on: u64) -> u64
+    requires { ⌜ (partSound (now p) ≡ true) × (length (now p) ≡ 240) × (day ≤ 39999) ⌝ }
+    ensures { λ r. ⌜ r ≡ least (rowsOf day on (pointFrom (now (p .entry)))) ⌝ }
+{
+    if cannot_switch(p, day, on) {
+        return 14;
+    }
+    if (on == 0) & (8 <= numbers::get(p, 5)) {
+        return 16;
+    }
+    0
+}
+
+// One more span, or the on day of the last.
+fn switch(p: &mut [i64], day: u64, on: u64)
+    requires { ⌜ (partSound (now p) ≡ true) × (length (now p) ≡ 240) × (day ≤ 39999) × (on ≤ 1) × (least (rowsOf day on (pointFrom (now p))) ≡ 0) ⌝ }
+    ensures { λ _. ⌜ now (p .exit) ≡ pointNumbers 48 (switchedLists day on (pointFrom (now (p .entry)))) ⌝ }
+{
+    let n = numbers::get(p, 5) as usize;
+    if on == 0 {
+        rows::open_span(p, n, day);
+    } else {
+        rows::close_span(p, n - 1, day);
+    }
+}
+
+// A notice on its point's part, which a refusal leaves as found.
+fn enter(p: &mut [i64], day: u64, on: u64) -> u64
+    requires { ⌜ (partSound (now p) ≡ true) × (length (now p) ≡ 240) × (day ≤ 39999) × (on ≤ 1) ⌝ }
+    ensures { λ r. ⌜ (r ≡ least (rowsOf day on (pointFrom (now (p .entry))))) × (now (p .exit) ≡ cond (eqb r 0) (pointNumbers 48 (switchedLists day on (pointFrom (now (p .entry))))) (now (p .entry))) ⌝ }
+{
+    let row = refusal(p, day, on);
+    if row == 0 {
+        switch(p, day, on);
+    }
+    row
+}
+
+// On any table and any numbers.
+pub fn status(t: &mut [i64], n: StatusNotice) -> NoticeAnswer
+    ensures { λ r. ⌜ (noticeNumbers r ≡ statusCall (now (t .entry)) n .0) × (now (t .exit) ≡ statusCall (now (t .entry)) n .1) ⌝ }
+{
+    if !table::sound(t) {
+        return NoticeAnswer::Refused(1);
+    }
+    if !in_range(n) {
+        return NoticeAnswer::Refused(2);
+    }
+    let mirn = n.mirn;
+    let day = n.day;
+    let on = n.on;
+    let i = table::index_of(t, numbers::natural(mirn));
+    if i == 32 {
+        return NoticeAnswer::Refused(4);
+    }
+    let a = 8 + 240 * i;
+    let b = a + 240;
+    let refused = enter(&mut t[a..b], numbers::natural(day), numbers::natural(on));
+    if refused == 0 {
+        return NoticeAnswer::Entered;
+    }
+    NoticeAnswer::Refused(refused)
+}
