@@ -5,3 +5,4 @@ pub mod Laying
 pub mod Refusals
 pub mod Entering
 pub mod Settling
+pub mod Entered

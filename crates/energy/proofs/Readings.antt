@@ -6,8 +6,8 @@ use Prim.Native.Nat.{ℕ, suc, _+_, _-_, _≤_, _<_, _^_}
 use native.Mathlib.Omega.{arith}
 use lib.Dec.{leb, ltb}
 use lib.IntN.{ℤ, pos, negsuc}
-use borrow.Author.Tests.{leb-true, le-leb}
-use Rattle.numbers.specs.Naturals.{natOf, biasOf}
+use borrow.Author.Tests.{leb-true, le-leb, ltb-true, ltb-false, lt-ltb}
+use Rattle.numbers.specs.Naturals.{natOf, biasOf, energyOf}
 use Rattle.numbers.proofs.Bools.{both}
 use Rattle.numbers.proofs.Naturals.{natOf-is, bias-is}
 use Rattle.calendar.specs.Calendar.{within}
@@ -33,6 +33,7 @@ in-range-tells x e =
     let b = both _ (leb (x .start) 39999) (c .0) in
     let a = both (leb 1 (x .mirn)) (leb (x .mirn) 9999999999) (b .0) in
     record {
+      tested = e;
       mirnLow = leb-true _ _ (a .0);
       mirnHigh = leb-true _ _ (a .1);
       startOk = leb-true _ _ (b .1);
@@ -68,3 +69,29 @@ notice-back n ok = λ i. record {
   quality = sym (natOf-is (n .quality) (omega (arith, ok .qualityOk))) i;
   confirmed = sym (natOf-is (n .confirmed) (omega (arith, ok .confirmedOk))) i;
 }
+
+-- ---- and back
+
+raised-back : (u : ℕ) → u ≤ 2000000 → biasOf (energyOf u) ≡ u
+raised-back u h = go (ltb u 1000000) refl
+  where
+    go : (t : Bool) → ltb u 1000000 ≡ t → biasOf (energyOf u) ≡ u
+    go true e =
+        let l : u < 1000000 = ltb-true u 1000000 e in
+        rw (e, lt-ltb (1000000 - suc u) 1000000 (omega arith)) (omega arith)
+    go false e =
+        let l : 1000000 ≤ u = ltb-false u 1000000 e in
+        rw (e, le-leb (u - 1000000) 1000000 (omega arith)) (omega arith)
+
+-- row 2 lets them through
+pub in-range-clear : (x : Reading) → InRange x → least (energyEarly (noticeOf x)) ≡ 0
+in-range-clear x ok =
+    let back : readingOf (noticeOf x) ≡ x = λ i. record {
+      mirn = x .mirn;
+      start = x .start;
+      end = x .end;
+      energy = raised-back (x .energy) (ok .energyOk) i;
+      quality = x .quality;
+      confirmed = x .confirmed;
+    } in
+    in-range-is (noticeOf x) ∙ ap (λ b. cond b 0 2) (ap inRange back ∙ ok .tested)

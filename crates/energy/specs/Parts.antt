@@ -1,6 +1,6 @@
 -- What the functions of this crate say of a notice's numbers and of its point's part.
 use mathlib.Core.Path.{_≡_}
-use mathlib.Core.Bool.{Bool, _&&_, cond}
+use mathlib.Core.Bool.{Bool, true, _&&_, cond}
 use mathlib.Core.List.{List, [], _∷_}
 use Prim.Native.Nat.{ℕ, suc, _≤_}
 use lib.Dec.{leb, eqb}
@@ -9,13 +9,14 @@ use lib.ListN.{length}
 use Rattle.numbers.specs.Naturals.{natOf, biasOf, energyOf}
 use Rattle.daybook.specs.declared.EnergyNotice.{EnergyNotice}
 use Rattle.daybook.specs.Book.{Entry}
-use Rattle.daybook.specs.Notices.{Row, append, whichNumber, removed, Outcome, outcomeOf, outcomeNumbers}
+use Rattle.daybook.specs.Notices.{Row, Numbers, append, whichNumber, removed, Outcome, outcomeOf, outcomeNumbers}
 use Rattle.daybook.proofs.Lists.{Lists, Register}
-use Rattle.daybook.proofs.Steps.{latestOf, whichIn, recsAfter, regsAfter, pendingAfter, energyListsRows}
+use Rattle.daybook.proofs.Steps.{latestOf, whichIn, recsAfter, regsAfter, pendingAfter, enterLists, energyListsRows}
 use Rattle.daybook.proofs.Well.{Well}
 use Rattle.layout.specs.Layout.{standard, pointNumbers, pointFrom, numAt}
 use Rattle.layout.specs.Sound.{withRecs}
 use Rattle.rows.specs.Rows.{recordOf}
+use Rattle.table.proofs.OnPart.{onPart}
 use Rattle.energy.specs.declared.Reading.{Reading}
 use Rattle.energy.specs.declared.Kept.{Kept}
 use Rattle.energy.specs.declared.Settled.{Settled}
@@ -56,8 +57,9 @@ inRange x =
     leb 1 (x .mirn) && leb (x .mirn) 9999999999 && leb (x .start) 39999 && leb (x .end) 39999 && leb (x .energy) 2000000
     && leb (x .quality) 2 && leb (x .confirmed) 1
 
--- The same, for arithmetic.
+-- The same, with its bounds for arithmetic.
 pub record InRange (x : Reading) : Type 0 where
+  pub tested : inRange x ≡ true
   pub mirnLow : 1 ≤ x .mirn
   pub mirnHigh : x .mirn ≤ 9999999999
   pub startOk : x .start ≤ 39999
@@ -113,3 +115,7 @@ settledLists o end q =
 pub record SettledTo (p : List ℤ) (x : Reading) (s : Settled) (p′ : List ℤ) : Type 0 where
   pub numbersAre : s .user ∷ s .lapsed ∷ [] ≡ outcomeNumbers (outcomeAt x (pointFrom p))
   pub partIs : p′ ≡ pointNumbers 48 (settledLists (outcomeAt x (pointFrom p)) (x .end) (pointFrom p))
+
+-- The whole notice, on its point's part: its four fields and what it leaves.
+unfoldable pub energyPart : Reading → ℕ → ℕ → List ℤ → Numbers × List ℤ
+energyPart x nondaily daily p = onPart 4 (rowsOf x nondaily daily) (enterLists (entryFrom x)) p

@@ -1,5 +1,6 @@
 // energy: an energy notice fills days of its point as an append, a replacement or a recut, and settles a pending request.
 // The public call finds the point; the functions before it work on that point's part alone.
+use daybook::EnergyAnswer;
 use daybook::EnergyNotice;
 ghost use mathlib.Core.Path.{_≡_};
 ghost use mathlib.Core.Bool.{not};
@@ -7,11 +8,12 @@ ghost use Prim.Native.Nat.{_≤_};
 ghost use Rattle.numbers.specs.Naturals.{energyOf};
 ghost use Rattle.numbers.specs.Search.{isSome};
 ghost use Rattle.daybook.specs.Notices.{least, beyond};
+ghost use Rattle.daybook.specs.Calls.{energyNumbers};
 ghost use Rattle.daybook.proofs.Steps.{startingOn, appendDayOf};
 ghost use Rattle.daybook.proofs.EnergyStep.{MayEnter};
 ghost use Rattle.layout.specs.Layout.{pointFrom, numAt};
 ghost use Rattle.point.proofs.OffDays.{dayIf};
-ghost use Rattle.energy.specs.Parts.{readingOf, entryFrom, inRange, InRange, Laid, rowIn, rowsOf, Recorded, SettledTo};
+ghost use Rattle.energy.specs.Parts.{readingOf, entryFrom, inRange, InRange, Laid, rowIn, rowsOf, Recorded, SettledTo, energyPart};
 
 // A notice's numbers as naturals, its energy raised by 1,000,000; a number that is none as the marker 2^63.
 struct Reading {
@@ -204,4 +206,23 @@ fn settle_request(p: &mut [i64], x: Reading) -> Settled
         return Settled { user: 0, lapsed: 1 };
     }
     Settled { user: 0, lapsed: 0 }
+}
+
+// A notice on its point's part, which a refusal leaves as found.
+fn enter(p: &mut [i64], x: Reading, nondaily: u64, daily: u64) -> EnergyAnswer
+    requires { ⌜ Laid (now p) × InRange x × (nondaily ≤ 2000000) × (daily ≤ 2000000) ⌝ }
+    ensures { λ r. ⌜ (energyNumbers r ≡ energyPart x nondaily daily (now (p .entry)) .0) × (now (p .exit) ≡ energyPart x nondaily daily (now (p .entry)) .1) ⌝ }
+{
+    let row = check(p, x, nondaily, daily);
+    if row != 0 {
+        return EnergyAnswer::Refused(row);
+    }
+    let kept = enter_record(p, x);
+    let settled = settle_request(p, x);
+    EnergyAnswer::Entered {
+        which: kept.which,
+        removed: kept.removed,
+        user: settled.user,
+        lapsed: settled.lapsed,
+    }
 }
