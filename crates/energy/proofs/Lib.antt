@@ -6,3 +6,4 @@ pub mod Refusals
 pub mod Entering
 pub mod Settling
 pub mod Entered
+pub mod Call

@@ -13,6 +13,7 @@ ghost use Rattle.daybook.proofs.Steps.{startingOn, appendDayOf};
 ghost use Rattle.daybook.proofs.EnergyStep.{MayEnter};
 ghost use Rattle.layout.specs.Layout.{pointFrom, numAt};
 ghost use Rattle.point.proofs.OffDays.{dayIf};
+ghost use Rattle.energy.specs.Energy.{energyCall};
 ghost use Rattle.energy.specs.Parts.{readingOf, entryFrom, inRange, InRange, Laid, rowIn, rowsOf, Recorded, SettledTo, energyPart};
 
 // A notice's numbers as naturals, its energy raised by 1,000,000; a number that is none as the marker 2^63.
@@ -225,4 +226,26 @@ fn enter(p: &mut [i64], x: Reading, nondaily: u64, daily: u64) -> EnergyAnswer
         user: settled.user,
         lapsed: settled.lapsed,
     }
+}
+
+// On any table and any numbers.
+pub fn energy(t: &mut [i64], n: EnergyNotice) -> EnergyAnswer
+    ensures { λ r. ⌜ (energyNumbers r ≡ energyCall (now (t .entry)) n .0) × (now (t .exit) ≡ energyCall (now (t .entry)) n .1) ⌝ }
+{
+    if !table::sound(t) {
+        return EnergyAnswer::Refused(1);
+    }
+    let x = read(n);
+    if !in_range(x) {
+        return EnergyAnswer::Refused(2);
+    }
+    let i = table::index_of(t, x.mirn);
+    if i == 32 {
+        return EnergyAnswer::Refused(4);
+    }
+    let nondaily = numbers::get_energy(t, 1);
+    let daily = numbers::get_energy(t, 2);
+    let a = 8 + 240 * i;
+    let b = a + 240;
+    enter(&mut t[a..b], x, nondaily, daily)
 }
