@@ -18,7 +18,7 @@ use Rattle.point.proofs.Rows.{rowsAt, spanRow, recRow}
 use Rattle.point.proofs.OffDays.{skip-is-first, first-is-skip, no-off-days, days-no-off}
 
 -- a raised energy within its bounds
-energy-same : (e : ℤ) → leb (biasOf e) 2000000 ≡ within (negsuc 999999) (pos 1000000) e
+pub energy-same : (e : ℤ) → leb (biasOf e) 2000000 ≡ within (negsuc 999999) (pos 1000000) e
 energy-same (pos n) = go (leb n 1000000) refl
   where
     go : (t : Bool) → leb n 1000000 ≡ t → leb (biasOf (pos n)) 2000000 ≡ leb n 1000000

@@ -83,7 +83,7 @@ module _ (t : List ℤ) (s : sound standard t ≡ true) (m i : ℕ) (e : i ≡ m
       go none h = absurd (n h)
       go (some k) h = ap some (sym h)
 
-  point-found : (i ≡ 32 → ⊥) → Found standard t m i
+  pub point-found : (i ≡ 32 → ⊥) → Found standard t m i
   point-found n = found standard standard-fits t s m i (index-some n)
 
   pub lent-sound : (i ≡ 32 → ⊥) → (partSound (lent t i) ≡ true) × (length (lent t i) ≡ 240)
@@ -94,29 +94,25 @@ module _ (t : List ℤ) (s : sound standard t ≡ true) (m i : ℕ) (e : i ≡ m
 
 -- ---- the call
 
--- The book's step is a call with k fields on the point of MIRN m: on lists it has these rows and this effect, it keeps
--- them well-formed, and what it leaves of a point fits the part.
-pub record PointCall (k : ℕ) (m : ℤ) (early : List Row) (rows : Lists → List Row) (effect : Lists → Numbers × Lists) (step : Book → Numbers × Book)
+-- On the register R the book's step is a call with k fields on the point of MIRN m: on lists it has these rows and this
+-- effect, it keeps them well-formed, and what it leaves of a point where no row applies fits the part.
+pub record CallOn (R : Register) (k : ℕ) (m : ℤ) (early : List Row) (rows : Lists → List Row) (effect : Lists → Numbers × Lists)
+    (step : Book → Numbers × Book)
     : Type 0
   where
     pub numbered : above 0 early ≡ true
-    pub is :
-        (R : Register) → WellFormed standard R
-        → step (bookOf R) ≡ (onLists k m early rows effect R .0, bookOf (onLists k m early rows effect R .1))
-    pub keeps : (R : Register) → WellFormed standard R → WellFormed standard (onLists k m early rows effect R .1)
-    pub room : (q : Lists) → Well 48 q → Few 48 (effect q .1)
+    pub is : step (bookOf R) ≡ (onLists k m early rows effect R .0, bookOf (onLists k m early rows effect R .1))
+    pub keeps : WellFormed standard (onLists k m early rows effect R .1)
+    pub room : (q : Lists) → Well 48 q → least (early ++ rows q) ≡ 0 → Few 48 (effect q .1)
 
 module _ {k : ℕ} {m : ℤ} {early : List Row} {rows : Lists → List Row} {effect : Lists → Numbers × Lists} {step : Book → Numbers × Book}
-    (call : PointCall k m early rows effect step) (t : List ℤ) (s : sound standard t ≡ true) where
+    (t : List ℤ) (s : sound standard t ≡ true) (call : CallOn (registerOf standard t) k m early rows effect step) where
   abbrev R : Register
   R = registerOf standard t
 
-  ok : WellFormed standard R
-  ok = sound-lays standard standard-fits t s .0
-
   refuses : (n : ℕ) → least (early ++ maybe ((4, true) ∷ []) rows (findLists (natOf m) (R .points))) ≡ suc n
       → onTable k step standard t ≡ (pos (suc n) ∷ replicate k (pos 0), t)
-  refuses = call-refused k m early rows effect step standard t s (call .is R ok) (call .keeps R ok)
+  refuses = call-refused k m early rows effect step standard t s (call .is) (call .keeps)
 
   later : (n : ℕ) → n ≤ 3 → ((q : Lists) → above n (rows q) ≡ true) → (o : Option Lists) → above n (maybe ((4, true) ∷ []) rows o) ≡ true
   unfolding above
@@ -124,23 +120,23 @@ module _ {k : ℕ} {m : ℤ} {early : List Row} {rows : Lists → List Row} {eff
   later n h f (some q) = f q
 
   -- a row of the numbers applies, be the MIRN known or not
-  pub call-early : (n : ℕ) → suc n ≤ 3 → least early ≡ suc n → ((q : Lists) → above (suc n) (rows q) ≡ true)
+  pub on-early : (n : ℕ) → suc n ≤ 3 → least early ≡ suc n → ((q : Lists) → above (suc n) (rows q) ≡ true)
       → onTable k step standard t ≡ (pos (suc n) ∷ replicate k (pos 0), t)
-  call-early n h e f = refuses n (least-append-some early _ n (call .numbered) e (later (suc n) h f (findLists (natOf m) (R .points))))
+  on-early n h e f = refuses n (least-append-some early _ n (call .numbered) e (later (suc n) h f (findLists (natOf m) (R .points))))
 
   module _ (clear : least early ≡ 0) (i : ℕ) (e : i ≡ maybe 32 (λ k. k) (indexOf standard t (natOf m))) where
-    pub call-missing : i ≡ 32 → onTable k step standard t ≡ (pos 4 ∷ replicate k (pos 0), t)
+    pub on-missing : i ≡ 32 → onTable k step standard t ≡ (pos 4 ∷ replicate k (pos 0), t)
     unfolding above
-    call-missing z =
+    on-missing z =
         refuses 3
         (ap (λ o. least (early ++ maybe ((4, true) ∷ []) rows o)) (missing standard standard-fits t s (natOf m) (index-none t s (natOf m) i e z))
         ∙ least-append-none early ((4, true) ∷ []) (call .numbered) clear ∙ least-first 4 true [] refl refl)
 
     -- the rows of the point decide, and its part alone is changed
-    pub call-at : (i ≡ 32 → ⊥)
+    pub on-point : (i ≡ 32 → ⊥)
         → onTable k step standard t
         ≡ (onPart k rows effect (partOf standard t i) .0, withPart standard t i (onPart k rows effect (partOf standard t i) .1))
-    call-at n = go (least (rows q)) refl
+    on-point n = go (least (rows q)) refl
       where
         p : List ℤ
         p = partOf standard t i
@@ -159,11 +155,47 @@ module _ {k : ℕ} {m : ℤ} {early : List Row} {rows : Lists → List Row} {eff
 
         go : (r : ℕ) → least (rows q) ≡ r → onTable k step standard t ≡ put (onPart k rows effect p)
         go zero h =
-            call-entered k m early rows effect step standard t s (call .is R ok) (call .keeps R ok) i f (passed ∙ h) (call .room q (f .well))
+            call-entered k m early rows effect step standard t s (call .is) (call .keeps) i f (passed ∙ h) (call .room q (f .well) (passed ∙ h))
             ∙ sym (ap put (part-entered k rows effect p h))
         go (suc r) h =
             refuses r (ap (λ o. least (early ++ maybe ((4, true) ∷ []) rows o)) (f .find) ∙ passed ∙ h)
             ∙ sym (ap put (part-refused k rows effect p r h) ∙ ap (λ u. (pos (suc r) ∷ replicate k (pos 0), u)) (with-part-own standard t i))
+
+-- The same on every register, with the same rows, and what it leaves of a point always fits.
+pub record PointCall (k : ℕ) (m : ℤ) (early : List Row) (rows : Lists → List Row) (effect : Lists → Numbers × Lists) (step : Book → Numbers × Book)
+    : Type 0
+  where
+    pub numbered : above 0 early ≡ true
+    pub is :
+        (R : Register) → WellFormed standard R
+        → step (bookOf R) ≡ (onLists k m early rows effect R .0, bookOf (onLists k m early rows effect R .1))
+    pub keeps : (R : Register) → WellFormed standard R → WellFormed standard (onLists k m early rows effect R .1)
+    pub room : (q : Lists) → Well 48 q → Few 48 (effect q .1)
+
+module _ {k : ℕ} {m : ℤ} {early : List Row} {rows : Lists → List Row} {effect : Lists → Numbers × Lists} {step : Book → Numbers × Book}
+    (call : PointCall k m early rows effect step) (t : List ℤ) (s : sound standard t ≡ true) where
+  here : CallOn (registerOf standard t) k m early rows effect step
+  here =
+      let ok : WellFormed standard (registerOf standard t) = sound-lays standard standard-fits t s .0 in
+      record {
+        numbered = call .numbered;
+        is = call .is (registerOf standard t) ok;
+        keeps = call .keeps (registerOf standard t) ok;
+        room = λ q w e. call .room q w;
+      }
+
+  pub call-early : (n : ℕ) → suc n ≤ 3 → least early ≡ suc n → ((q : Lists) → above (suc n) (rows q) ≡ true)
+      → onTable k step standard t ≡ (pos (suc n) ∷ replicate k (pos 0), t)
+  call-early = on-early t s here
+
+  module _ (clear : least early ≡ 0) (i : ℕ) (e : i ≡ maybe 32 (λ k. k) (indexOf standard t (natOf m))) where
+    pub call-missing : i ≡ 32 → onTable k step standard t ≡ (pos 4 ∷ replicate k (pos 0), t)
+    call-missing = on-missing t s here clear i e
+
+    pub call-at : (i ≡ 32 → ⊥)
+        → onTable k step standard t
+        ≡ (onPart k rows effect (partOf standard t i) .0, withPart standard t i (onPart k rows effect (partOf standard t i) .1))
+    call-at = on-point t s here clear i e
 
 -- ---- what a function has to show
 

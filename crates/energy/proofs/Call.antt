@@ -1,0 +1,111 @@
+-- The energy call, test by test. Assumes nothing.
+use mathlib.Core.Path.{_≡_, refl, sym, _∙_, ap}
+use mathlib.Core.Bool.{Bool, true, false, cond}
+use mathlib.Core.List.{List, [], _∷_}
+use Prim.Native.Nat.{ℕ, _≤_}
+use native.Mathlib.Omega.{arith}
+use lib.Dec.{leb}
+use lib.IntN.{ℤ, pos}
+use lib.ListN.{getD, replicate}
+use borrow.Author.Tests.{leb-true}
+use Rattle.numbers.specs.Naturals.{natOf, biasOf}
+use Rattle.numbers.specs.Search.{maybe}
+use Rattle.numbers.proofs.Bools.{both}
+use Rattle.numbers.proofs.Naturals.{bias-is}
+use Rattle.daybook.specs.declared.EnergyNotice.{EnergyNotice}
+use Rattle.daybook.specs.Notices.{least, isRange, entryOf, energyEarly, energyRows, energy}
+use Rattle.daybook.proofs.Lists.{Register}
+use Rattle.daybook.proofs.Steps.{enterLists, energyListsRows, energyLists}
+use Rattle.daybook.proofs.Well.{WellFormed}
+use Rattle.daybook.proofs.Rows.{above}
+use Rattle.daybook.proofs.EnergyStep.{energy-step, energy-keeps, energy-clear, enter-keeps}
+use Rattle.layout.specs.Layout.{standard, partOf, withPart, registerOf}
+use Rattle.layout.specs.Sound.{sound}
+use Rattle.layout.proofs.Numbers.{few}
+use Rattle.layout.proofs.TableSound.{sound-lays, standard-fits}
+use Rattle.table.specs.Lookup.{indexOf}
+use Rattle.table.proofs.Laws.{part-is, range-is}
+use Rattle.table.proofs.Found.{Found}
+use Rattle.table.proofs.Calls.{call-unsound}
+use Rattle.table.proofs.OnPart.{onPart, lent, CallOn, point-found, on-early, on-missing, on-point}
+use Rattle.energy.specs.declared.Reading.{Reading}
+use Rattle.energy.specs.Energy.{energyCall}
+use Rattle.energy.specs.Parts.{readingOf, noticeOf, inRange, InRange, Laid, rangesOf, rowsOf, energyPart}
+use Rattle.energy.proofs.Readings.{in-range-tells, in-range-is, notice-back}
+use Rattle.energy.proofs.Laying.{laid}
+
+pub energy-unsound : (t : List ℤ) (n : EnergyNotice) → sound standard t ≡ false → energyCall t n ≡ (pos 1 ∷ replicate 4 (pos 0), t)
+unfolding energyCall
+energy-unsound t n e = call-unsound 4 (energy standard n) standard t e
+
+module _ (t : List ℤ) (n : EnergyNotice) (s : sound standard t ≡ true) where
+  abbrev R : Register
+  R = registerOf standard t
+
+  ok : WellFormed standard R
+  ok = sound-lays standard standard-fits t s .0
+
+  call : CallOn R 4 (n .mirn) (energyEarly n) (energyListsRows standard n R) (enterLists (entryOf n)) (energy standard n)
+  unfolding energyLists energyEarly above
+  call =
+      record {
+        numbered = refl;
+        is = energy-step standard n R ok;
+        keeps = energy-keeps standard n ok;
+        room = λ q w e. few (enter-keeps w (entryOf n) (energy-clear standard n R q e));
+      }
+
+  -- the ranges that the call reads
+  small : (z : ℤ) → isRange z ≡ true → biasOf z ≤ 2000000
+  small z e = leb-true _ _ (both (leb 999999 (biasOf z)) (leb (biasOf z) 2000000) (range-is z (biasOf z) refl ∙ e) .1)
+
+  pub ranges-small : (a b : ℕ) → a ≡ biasOf (getD t 1 (pos 0)) → b ≡ biasOf (getD t 2 (pos 0)) → (a ≤ 2000000) × (b ≤ 2000000)
+  unfolding registerOf
+  ranges-small a b ea eb =
+      (omega (arith, small (getD t 1 (pos 0)) (ok .nondailyOk)), omega (arith, small (getD t 2 (pos 0)) (ok .dailyOk)))
+
+  module _ (x : Reading) (ex : x ≡ readingOf n) where
+    pub energy-range : inRange x ≡ false → energyCall t n ≡ (pos 2 ∷ replicate 4 (pos 0), t)
+    unfolding energyCall energyListsRows energyRows above
+    energy-range e =
+        on-early t s call 1 (omega arith) (in-range-is n ∙ ap (λ b. cond b 0 2) (ap inRange (sym ex) ∙ e)) (λ q. refl)
+
+    module _ (r : inRange x ≡ true) (i : ℕ) (e : i ≡ maybe 32 (λ k. k) (indexOf standard t (x .mirn))) where
+      inside : InRange (readingOf n)
+      inside = in-range-tells (readingOf n) (ap inRange (sym ex) ∙ r)
+
+      passed : least (energyEarly n) ≡ 0
+      passed = in-range-is n ∙ ap (λ b. cond b 0 2) (ap inRange (sym ex) ∙ r)
+
+      index : i ≡ maybe 32 (λ k. k) (indexOf standard t (natOf (n .mirn)))
+      index = e ∙ ap (λ x. maybe 32 (λ k. k) (indexOf standard t (x .mirn))) ex
+
+      pub energy-missing : i ≡ 32 → energyCall t n ≡ (pos 4 ∷ replicate 4 (pos 0), t)
+      unfolding energyCall
+      energy-missing = on-missing t s call passed i index
+
+      pub lent-laid : (i ≡ 32 → ⊥) → Laid (lent t i)
+      lent-laid z =
+          let f : Found standard t (natOf (n .mirn)) i = point-found t s (natOf (n .mirn)) i index z in
+          laid (f .well) (part-is t i ∙ sym (f .laid))
+
+      module _ (a b : ℕ) (ea : a ≡ biasOf (getD t 1 (pos 0))) (eb : b ≡ biasOf (getD t 2 (pos 0))) where
+        -- the notice's rows and effect, from the numbers that the code hands on
+        part-same : (p : List ℤ) → onPart 4 (energyListsRows standard n R) (enterLists (entryOf n)) p ≡ energyPart (readingOf n) (biasOf (R .nondaily)) (biasOf (R .daily)) p
+        unfolding energyPart rowsOf energyListsRows entryOf
+        part-same p =
+            let back : n ≡ noticeOf (readingOf n) = sym (notice-back n inside) in
+            let nondaily = sym (bias-is (R .nondaily) (small (R .nondaily) (ok .nondailyOk))) in
+            let daily = sym (bias-is (R .daily) (small (R .daily) (ok .dailyOk))) in
+            λ i. onPart 4 (energyListsRows standard (back i) (record { nondaily = nondaily i; daily = daily i; points = [] })) (enterLists (entryOf (back i))) p
+
+        given : (p : List ℤ) → energyPart (readingOf n) (biasOf (R .nondaily)) (biasOf (R .daily)) p ≡ energyPart x a b p
+        unfolding registerOf
+        given p = rw (ex, ea, eb)
+
+        pub energy-point : (i ≡ 32 → ⊥)
+            → energyCall t n ≡ (energyPart x a b (partOf standard t i) .0, withPart standard t i (energyPart x a b (partOf standard t i) .1))
+        unfolding energyCall
+        energy-point z =
+            on-point t s call passed i index z
+            ∙ ap (λ w. (w .0, withPart standard t i (w .1))) (part-same (partOf standard t i) ∙ given (partOf standard t i))

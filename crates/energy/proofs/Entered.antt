@@ -1,0 +1,122 @@
+-- A notice that its point does not send back: the entry, then the request, are the lists' one step. Assumes nothing.
+use mathlib.Core.Path.{_≡_, refl, sym, _∙_, ap, ap₂}
+use mathlib.Core.Bool.{Bool, true, false}
+use mathlib.Core.Option.{Option, none, some}
+use mathlib.Core.List.{List, [], _∷_, _++_, map}
+use Prim.Native.Nat.{ℕ, zero, suc, _≤_}
+use native.Mathlib.Omega.{arith}
+use lib.ListN.{replicate}
+use lib.IntN.{ℤ, pos}
+use Rattle.daybook.specs.Book.{Entry, Pending}
+use Rattle.daybook.specs.Notices.{least, Numbers, Which, append, whichNumber, removed, Outcome, outcomeOf, outcomeNumbers, entryOf, energyEarly}
+use Rattle.daybook.proofs.Lists.{Lists}
+use Rattle.daybook.proofs.Steps.{latestOf, whichIn, appendDayOf, recsAfter, withPendingLists, enteredLists, enterLists, energyListsRows}
+use Rattle.daybook.proofs.Well.{nopending, Well}
+use Rattle.daybook.proofs.Rows.{above, least-append-none}
+use Rattle.daybook.proofs.EnergyStep.{MayEnter, energy-clear, enter-keeps}
+use Rattle.layout.specs.Layout.{standard, pointNumbers, pointFrom}
+use Rattle.layout.specs.Sound.{withRecs}
+use Rattle.layout.proofs.Parse.{point-alone}
+use Rattle.table.proofs.OnPart.{part-entered, part-refused}
+use Rattle.energy.specs.declared.Reading.{Reading}
+use Rattle.energy.specs.declared.Kept.{Kept}
+use Rattle.energy.specs.declared.Settled.{Settled}
+use Rattle.energy.specs.Parts.{noticeOf, entryFrom, InRange, Laid, rangesOf, rowsOf, recorded, Recorded, outcomeAt, settledLists, SettledTo, energyPart}
+use Rattle.energy.proofs.Readings.{in-range-clear}
+use Rattle.energy.proofs.Laying.{laid}
+
+-- the entry alone keeps the lists well-formed: what it does without a request
+record-keeps : {q : Lists} → Well 48 q → (x : Entry) → MayEnter 48 x q → Well 48 (recorded x q)
+unfolding withPendingLists enterLists enteredLists whichIn appendDayOf withRecs
+record-keeps {q} ok x may =
+    record {
+      factsOk = ok .factsOk;
+      regsOk = ok .regsOk;
+      regsStart = ok .regsStart;
+      regsFew = ok .regsFew;
+      offsOk = ok .offsOk;
+      offsFew = ok .offsFew;
+      recsOk = after .recsOk;
+      recsFew = after .recsFew;
+      pendingOk = ok .pendingOk;
+    }
+  where
+    alone : Well 48 (withPendingLists none q)
+    alone =
+        record {
+          factsOk = ok .factsOk;
+          regsOk = ok .regsOk;
+          regsStart = ok .regsStart;
+          regsFew = ok .regsFew;
+          offsOk = ok .offsOk;
+          offsFew = ok .offsFew;
+          recsOk = ok .recsOk;
+          recsFew = ok .recsFew;
+          pendingOk = nopending;
+        }
+
+    after : Well 48 (enterLists x (withPendingLists none q) .1)
+    after =
+        enter-keeps alone x
+        (record {
+          endOk = may .endOk;
+          energyOk = may .energyOk;
+          typeOk = may .typeOk;
+          fits = may .fits;
+          on = may .on;
+          next = may .next;
+          more = may .more;
+        })
+
+-- which of the three it is does not matter to the request
+any-which : (w : Which) (x : Entry) (s : ℕ) (o : Option Pending) → outcomeOf append x s o ≡ outcomeOf w x s o
+any-which w x s none = refl
+any-which w x s (some r) = refl
+
+module _ {p : List ℤ} (ok : Laid p) (x : Reading) (inside : InRange x) (a b : ℕ) where
+  abbrev q : Lists
+  q = pointFrom p
+
+  abbrev e : Entry
+  e = entryFrom x
+
+  pub refused : (row : ℕ) → row ≡ least (rowsOf x a b q) → (row ≡ 0 → ⊥) → (pos row ∷ replicate 4 (pos 0) ≡ energyPart x a b p .0) × (p ≡ energyPart x a b p .1)
+  unfolding energyPart
+  refused zero h n = absurd (n refl)
+  refused (suc r) h n =
+      let w = part-refused 4 (rowsOf x a b) (enterLists e) p r (sym h) in
+      (sym (ap (λ w. w .0) w), sym (ap (λ w. w .1) w))
+
+  module _ (row : ℕ) (h : row ≡ least (rowsOf x a b q)) (z : row ≡ 0) where
+    clear : least (rowsOf x a b q) ≡ 0
+    clear = sym h ∙ z
+
+    pub may : MayEnter 48 e q
+    unfolding rowsOf entryOf energyEarly above
+    may =
+        energy-clear standard (noticeOf x) (rangesOf a b) q
+        (least-append-none (energyEarly (noticeOf x)) (energyListsRows standard (noticeOf x) (rangesOf a b) q) refl (in-range-clear x inside) ∙ clear)
+
+    module _ {k : Kept} {p″ : List ℤ} (rec : Recorded p x k p″) where
+      pub then-laid : Laid p″
+      then-laid = laid (record-keeps (ok .well) e may) (rec .partIs)
+
+      back : pointFrom p″ ≡ recorded e q
+      back = ap pointFrom (rec .partIs) ∙ point-alone (record-keeps (ok .well) e may)
+
+      abbrev o : Outcome
+      o = outcomeOf (whichIn q e) e (latestOf (q .regs) .0) (q .pending)
+
+      outcome-same : outcomeAt x (pointFrom p″) ≡ o
+      unfolding withRecs
+      outcome-same = ap (outcomeAt x) back ∙ any-which (whichIn q e) e (latestOf (q .regs) .0) (q .pending)
+
+      pub entered : (s : Settled) {p′ : List ℤ} → SettledTo p″ x s p′
+          → (pos 0 ∷ pos (k .which) ∷ pos (k .removed) ∷ pos (s .user) ∷ pos (s .lapsed) ∷ [] ≡ energyPart x a b p .0) × (p′ ≡ energyPart x a b p .1)
+      unfolding energyPart enterLists enteredLists withRecs
+      entered s {p′} t =
+          let w = part-entered 4 (rowsOf x a b) (enterLists e) p clear in
+          let n : pos 0 ∷ map pos (k .which ∷ k .removed ∷ s .user ∷ s .lapsed ∷ []) ≡ pos 0 ∷ enterLists e q .0 =
+          λ i. pos 0 ∷ map pos (rec .whichIs i ∷ rec .removedIs i ∷ (t .numbersAre ∙ ap outcomeNumbers outcome-same) i) in
+          let l : p′ ≡ pointNumbers 48 (enterLists e q .1) = t .partIs ∙ ap₂ (λ o q. pointNumbers 48 (settledLists o (x .end) q)) outcome-same back in
+          (n ∙ sym (ap (λ w. w .0) w), l ∙ sym (ap (λ w. w .1) w))

@@ -1,0 +1,147 @@
+-- What a pending request comes to, on a part: the row writers leave what the lists' step says. Assumes nothing.
+use mathlib.Core.Path.{_≡_, refl, sym, _∙_, ap, ap₂, subst}
+use mathlib.Core.Bool.{Bool, true, false, not, _&&_, cond}
+use mathlib.Core.Option.{Option, none, some}
+use mathlib.Core.List.{List, [], _∷_, _++_}
+use Prim.Native.Nat.{ℕ, zero, suc, _+_, _-_, _*_, _≤_, _<_}
+use native.Mathlib.Omega.{arith}
+use native.Mathlib.Numerals.{add-one}
+use lib.Dec.{leb, ltb, eqb}
+use lib.ListN.{length, getD}
+use lib.IntN.{ℤ}
+use borrow.Author.Tests.{ne-eqb, ltb-true}
+use Rattle.numbers.specs.Search.{maybe}
+use Rattle.numbers.proofs.Bools.{both}
+use Rattle.daybook.specs.Book.{Entry, Pending, lastOf}
+use Rattle.daybook.specs.Notices.{append, Outcome, registers, lapses, stays, outcomeOf, outcomeNumbers}
+use Rattle.daybook.proofs.Lists.{Lists}
+use Rattle.daybook.proofs.Steps.{latestOf, regsAfter, pendingAfter, userFrom, withPendingLists}
+use Rattle.daybook.proofs.Well.{PendingOk, nopending, pending, Well}
+use Rattle.daybook.proofs.Registrations.{user-from-append}
+use Rattle.layout.specs.Layout.{asked, numAt, pointNumbers, pointFrom}
+use Rattle.layout.specs.Writes.{appendRegistration, clearPending}
+use Rattle.layout.proofs.Numbers.{Few, few}
+use Rattle.layout.proofs.Cells.{noReg, cell-regs, cell-user, cell-first, cell-last, cell-reg-start}
+use Rattle.layout.proofs.PartBlocks.{withRegs, few-regs, snoc-length}
+use Rattle.layout.proofs.RowWrites.{append-registration, clear-pending}
+use Rattle.energy.specs.declared.Reading.{Reading}
+use Rattle.energy.specs.Parts.{entryFrom, Laid, outcomeAt, settledLists, SettledTo}
+
+-- ---- the latest registration, by its index
+
+last-at : (l : List (ℕ × ℕ)) (k : ℕ) → length l ≡ suc k → latestOf l ≡ getD l k noReg
+unfolding latestOf lastOf
+last-at [] k e = absurd (omega arith)
+last-at (x ∷ []) zero e = refl
+last-at (x ∷ []) (suc k) e = absurd (omega arith)
+last-at (x ∷ y ∷ l) zero e = absurd (omega arith)
+last-at (x ∷ y ∷ l) (suc k) e = last-at (y ∷ l) k (omega arith)
+
+-- ---- what the code tests
+
+-- does it register, does it lapse?
+abbrev registersIf : ℕ → ℕ → ℕ → ℕ → ℕ → Bool
+registersIf user first last latest end = not (eqb user 0) && leb first end && leb end last && ltb latest (end + 1)
+
+abbrev lapsesIf : ℕ → ℕ → ℕ → Bool
+lapsesIf user last end = not (eqb user 0) && ltb last end
+
+outcome-by : {regs : List (ℕ × ℕ)} {o : Option Pending} → PendingOk regs o → (x : Entry) (latest : ℕ)
+    → outcomeOf append x latest o
+    ≡ cond (registersIf (asked o .user) (asked o .first) (asked o .last) latest (x .end)) (registers (asked o .user))
+    (cond (lapsesIf (asked o .user) (asked o .last) (x .end)) lapses stays)
+outcome-by nopending x latest = refl
+outcome-by (pending {q = r} a b c d e f) x latest = rw (ne-eqb (r .user) 0 (omega arith), add-one (x .end))
+
+-- where it registers there is a request, with a free row and another User than the latest
+record Registers (regs : List (ℕ × ℕ)) (user latest end : ℕ) : Type 0 where
+  room : length regs ≤ 7
+  small : user ≤ 16
+  differs : eqb (latestOf regs .1) user ≡ false
+  after : latest < end + 1
+
+registers-room : {regs : List (ℕ × ℕ)} {o : Option Pending} → PendingOk regs o → (latest end : ℕ) → registersIf (asked o .user) (asked o .first) (asked o .last) latest end ≡ true
+    → Registers regs (asked o .user) latest end
+registers-room nopending latest end e = let z : _≡_ {A = ℕ} 0 1 = cc in absurd (omega arith)
+registers-room (pending {q = r} a b c d e f) latest end t = record { room = f; small = b; differs = c; after = ltb-true latest (end + 1) (both (not (eqb (r .user) 0) && leb (r .first) end && leb end (r .last)) (ltb latest (end + 1)) t .1) }
+
+-- ---- on the part
+
+module _ {p : List ℤ} (ok : Laid p) (x : Reading) (n user first last latest : ℕ) (en : n ≡ numAt p 4) (eu : user ≡ numAt p 7) (ef : first ≡ numAt p 8) (el : last ≡ numAt p 9) (es : latest ≡ numAt p (14 + 2 * n)) where
+  abbrev q : Lists
+  q = pointFrom p
+
+  fits : Few 48 q
+  fits = few (ok .well)
+
+  many : n ≡ length (q .regs)
+  many = en ∙ ap (λ t. numAt t 4) (sym (ok .is)) ∙ cell-regs 48 q
+
+  user-is : user ≡ asked (q .pending) .user
+  user-is = eu ∙ ap (λ t. numAt t 7) (sym (ok .is)) ∙ cell-user 48 q
+
+  first-is : first ≡ asked (q .pending) .first
+  first-is = ef ∙ ap (λ t. numAt t 8) (sym (ok .is)) ∙ cell-first 48 q
+
+  last-is : last ≡ asked (q .pending) .last
+  last-is = el ∙ ap (λ t. numAt t 9) (sym (ok .is)) ∙ cell-last 48 q
+
+  latest-is : latest ≡ latestOf (q .regs) .0
+  latest-is =
+      let some : 1 ≤ numAt p 4 = ok .someRegs in
+      let at : 14 + 2 * n ≡ 16 + 2 * (n - 1) = omega (arith, en) in
+      es ∙ ap₂ numAt (sym (ok .is)) at ∙ cell-reg-start fits (n - 1) (omega (arith, en, ok .fewRegs))
+      ∙ ap (λ (r : ℕ × ℕ). r .0) (sym (last-at (q .regs) (n - 1) (omega (arith, many, en))))
+
+  abbrev first? : Bool
+  first? = registersIf user first last latest (x .end)
+
+  abbrev second? : Bool
+  second? = lapsesIf user last (x .end)
+
+  outcome-is : outcomeAt x q ≡ cond first? (registers user) (cond second? lapses stays)
+  outcome-is =
+      ap (λ s. outcomeOf append (entryFrom x) s (q .pending)) (sym latest-is) ∙ outcome-by (ok .well .pendingOk) (entryFrom x) latest
+      ∙ sym (rw (user-is, first-is, last-is))
+
+  -- by what it comes to
+  settled-as : (o : Outcome) (u l : ℕ) {p′ : List ℤ} → outcomeAt x q ≡ o → u ∷ l ∷ [] ≡ outcomeNumbers o → p′ ≡ pointNumbers 48 (settledLists o (x .end) q)
+      → SettledTo p x (record { user = u; lapsed = l }) p′
+  settled-as o u l eo en ep =
+      record { numbersAre = en ∙ ap outcomeNumbers (sym eo); partIs = ep ∙ ap (λ o. pointNumbers 48 (settledLists o (x .end) q)) (sym eo) }
+
+  module _ (t : first? ≡ true) where
+    may : Registers (q .regs) user latest (x .end)
+    may =
+        subst (λ u. Registers (q .regs) u latest (x .end)) (sym user-is)
+        (registers-room (ok .well .pendingOk) latest (x .end) (rw (user-is, first-is, last-is) at t))
+
+    pub reg-room : (n < 8) × (user ≤ 16)
+    reg-room = (omega (arith, may .room, many), may .small)
+
+    regs-are : q .regs ++ ((x .end + 1, user) ∷ []) ≡ userFrom (suc (x .end)) user (q .regs)
+    regs-are =
+        ap (λ d. q .regs ++ ((d, user) ∷ [])) (add-one (x .end))
+        ∙ sym (user-from-append (ok .well .regsOk) (suc (x .end)) user (omega (arith, may .after, latest-is)) (may .differs))
+
+    pub registered : {p″ p′ : List ℤ} → p″ ≡ appendRegistration p n (x .end + 1) user → p′ ≡ clearPending p″ → SettledTo p x (record { user = user; lapsed = 0 }) p′
+    unfolding withRegs withPendingLists
+    registered {p″} ea ec =
+        settled-as (registers user) user 0 (outcome-is ∙ rw t) refl
+        (ec ∙ ap clearPending rows ∙ clear-pending 48 (withRegs (userFrom (suc (x .end)) user (q .regs)) q) next)
+      where
+        next : Few 48 (withRegs (userFrom (suc (x .end)) user (q .regs)) q)
+        next = few-regs fits _ (omega (arith, ap length regs-are, snoc-length (q .regs) (x .end + 1, user), may .room))
+
+        rows : p″ ≡ pointNumbers 48 (withRegs (userFrom (suc (x .end)) user (q .regs)) q)
+        rows =
+            ea ∙ ap₂ (λ t k. appendRegistration t k (x .end + 1) user) (sym (ok .is)) many
+            ∙ append-registration 48 q fits (x .end + 1) user (omega (arith, may .room)) ∙ ap (λ l. pointNumbers 48 (withRegs l q)) regs-are
+
+  pub lapsed : first? ≡ false → second? ≡ true → {p′ : List ℤ} → p′ ≡ clearPending p → SettledTo p x (record { user = 0; lapsed = 1 }) p′
+  unfolding withPendingLists
+  lapsed f s ec =
+      settled-as lapses 0 1 (outcome-is ∙ rw (f, s)) refl (ec ∙ ap clearPending (sym (ok .is)) ∙ clear-pending 48 q fits)
+
+  pub stayed : first? ≡ false → second? ≡ false → SettledTo p x (record { user = 0; lapsed = 0 }) p
+  stayed f s = settled-as stays 0 0 (outcome-is ∙ rw (f, s)) refl (sym (ok .is))

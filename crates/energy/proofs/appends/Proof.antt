@@ -1,0 +1,23 @@
+use Rattle.energy.proofs.Located.{appends-is}
+use Rattle.energy.proofs.Laying.{count-recs}
+use Rattle.layout.specs.Layout.{pointFrom}
+use lib.Dec.{eqb}
+use mathlib.Core.Path.{_≡_, sym, _∙_, ap, ap₂}
+use borrow.Author.Needs.{needs}
+use Rattle.energy.proofs.appends.Statement.{statement}
+use Rattle.energy.proofs.appends.Tie as tie
+
+row-of-requires : tie.Need-row-of-requires
+row-of-requires c κs = search needs
+
+get-requires : tie.Need-get-requires
+get-requires c κs = search needs
+
+returns : tie.Need-returns
+returns c = 
+    let ok = c .before .before .pre in
+    let recs = pointFrom (c .before .before .args .p .now) .recs in
+    ap₂ eqb (c .before .row-of .ensures .0) (c .get .ensures .0 ∙ count-recs ok) ∙ appends-is recs (c .before .before .args .start)
+
+pub appends-spec : {M : Type 1} → statement M
+appends-spec = tie.close (tie.spec row-of-requires get-requires returns)

@@ -1,0 +1,53 @@
+use Rattle.energy.proofs.Entered.{refused, may, then-laid, entered}
+use borrow.Author.Needs.{needs}
+use Rattle.energy.proofs.enter.Statement.{statement}
+use Rattle.energy.proofs.enter.Tie as tie
+
+check-requires : tie.Need-check-requires
+check-requires c κs = search needs
+
+same-length : tie.Need-same-length
+same-length c = search needs
+
+returns : tie.Need-returns
+returns c = 
+    let k = c .before in
+    let s = k .before .before in
+    refused (s .pre .0) (s .args .x) (s .pre .1) (s .args .nondaily) (s .args .daily) _ (k .check .ensures) (c .if1 .taken)
+
+enter-record-requires : tie.Need-enter-record-requires
+enter-record-requires c κs = 
+    let k = c .before .before in
+    let s = k .before .before in
+    (s .pre .0, s .pre .1, may (s .pre .0) (s .args .x) (s .pre .1) (s .args .nondaily) (s .args .daily) _ (k .check .ensures) (c .before .if1 .left))
+
+settle-request-requires : tie.Need-settle-request-requires
+settle-request-requires c κs = 
+    let r = c .before .before in
+    let l = r .before .before in
+    let k = l .before in
+    let s = k .before .before in
+    (then-laid (s .pre .0) (s .args .x) (s .pre .1) (s .args .nondaily) (s .args .daily) _ (k .check .ensures) (l .if1 .left) (r .enter-record .ensures), s .pre .1)
+
+same-length-2 : tie.Need-same-length-2
+same-length-2 c = search needs
+
+returns-2 : tie.Need-returns-2
+returns-2 c = 
+    let r = c .before .before .before .before in
+    let l = r .before .before in
+    let k = l .before in
+    let s = k .before .before in
+    entered (s .pre .0) (s .args .x) (s .pre .1) (s .args .nondaily) (s .args .daily) _ (k .check .ensures) (l .if1 .left) (r .enter-record .ensures) _ (c .before .settle-request .ensures)
+
+pub enter-spec : {M : Type 1} → statement M
+enter-spec =
+    tie.close
+    (tie.spec
+    check-requires
+    same-length
+    returns
+    enter-record-requires
+    settle-request-requires
+    same-length-2
+    returns-2)

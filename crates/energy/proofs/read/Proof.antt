@@ -1,0 +1,52 @@
+use Rattle.energy.proofs.Readings.{reading-same}
+use mathlib.Core.Path.{_∙_, ap}
+use mir.Syntax.{w64}
+use mir.ValLaws.{toZ-ofZ}
+use Rattle.numbers.specs.Naturals.{natOf, biasOf}
+use borrow.Author.Needs.{needs, sfits-of}
+use Rattle.energy.proofs.read.Statement.{statement}
+use Rattle.energy.proofs.read.Tie as tie
+
+natural-requires : tie.Need-natural-requires
+natural-requires c κs = search needs
+
+natural-requires-2 : tie.Need-natural-requires-2
+natural-requires-2 c κs = search needs
+
+natural-requires-3 : tie.Need-natural-requires-3
+natural-requires-3 c κs = search needs
+
+bias-requires : tie.Need-bias-requires
+bias-requires c κs = search needs
+
+natural-requires-4 : tie.Need-natural-requires-4
+natural-requires-4 c κs = search needs
+
+natural-requires-5 : tie.Need-natural-requires-5
+natural-requires-5 c κs = search needs
+
+returns : tie.Need-returns
+returns c =
+    let d = c .before .before .before in
+    let s = d .before .before .before in
+    let n = s .before .before .before .before .before .before .args .n in
+    let fits = s .struct-told6 .given in
+    reading-same n
+    (d .before .before .natural .ensures .0 ∙ ap natOf (toZ-ofZ w64 (n .mirn) (sfits-of (fits .0 .1))))
+    (d .before .natural2 .ensures .0 ∙ ap natOf (toZ-ofZ w64 (n .start) (sfits-of (fits .1 .0 .1))))
+    (d .natural3 .ensures .0 ∙ ap natOf (toZ-ofZ w64 (n .end) (sfits-of (fits .1 .1 .0 .1))))
+    (c .before .before .bias .ensures ∙ ap biasOf (toZ-ofZ w64 (n .energy) (sfits-of (fits .1 .1 .1 .0 .1))))
+    (c .before .natural4 .ensures .0 ∙ ap natOf (toZ-ofZ w64 (n .quality) (sfits-of (fits .1 .1 .1 .1 .0 .1))))
+    (c .natural5 .ensures .0 ∙ ap natOf (toZ-ofZ w64 (n .confirmed) (sfits-of (fits .1 .1 .1 .1 .1 .0 .1))))
+
+pub read-spec : {M : Type 1} → statement M
+read-spec =
+    tie.close
+    (tie.spec
+    natural-requires
+    natural-requires-2
+    natural-requires-3
+    bias-requires
+    natural-requires-4
+    natural-requires-5
+    returns)

@@ -1,0 +1,11 @@
+-- What energy answers, and what it leaves of the lent table.
+use mathlib.Core.List.{List}
+use lib.IntN.{ℤ}
+use Rattle.daybook.specs.declared.EnergyNotice.{EnergyNotice}
+use Rattle.daybook.specs.Notices.{Numbers, energy}
+use Rattle.layout.specs.Layout.{standard}
+use Rattle.layout.specs.Calls.{onTable}
+
+-- Four fields: which of the three it is, how many records it removes, the User it registers, whether the request lapses.
+unfoldable pub energyCall : List ℤ → EnergyNotice → Numbers × List ℤ
+energyCall t n = onTable 4 (energy standard n) standard t

@@ -1,0 +1,251 @@
+// energy: an energy notice fills days of its point as an append, a replacement or a recut, and settles a pending request.
+// The public call finds the point; the functions before it work on that point's part alone.
+use daybook::EnergyAnswer;
+use daybook::EnergyNotice;
+ghost use mathlib.Core.Path.{_≡_};
+ghost use mathlib.Core.Bool.{not};
+ghost use Prim.Native.Nat.{_≤_};
+ghost use Rattle.numbers.specs.Naturals.{energyOf};
+ghost use Rattle.numbers.specs.Search.{isSome};
+ghost use Rattle.daybook.specs.Notices.{least, beyond};
+ghost use Rattle.daybook.specs.Calls.{energyNumbers};
+ghost use Rattle.daybook.proofs.Steps.{startingOn, appendDayOf};
+ghost use Rattle.daybook.proofs.EnergyStep.{MayEnter};
+ghost use Rattle.layout.specs.Layout.{pointFrom, numAt};
+ghost use Rattle.point.proofs.OffDays.{dayIf};
+ghost use Rattle.energy.specs.Energy.{energyCall};
+ghost use Rattle.energy.specs.Parts.{readingOf, entryFrom, inRange, InRange, Laid, rowIn, rowsOf, Recorded, SettledTo, energyPart};
+
+// A notice's numbers as naturals, its energy raised by 1,000,000; a number that is none as the marker 2^63.
+struct Reading {
+    mirn: u64,
+    start: u64,
+    end: u64,
+    energy: u64,
+    quality: u64,
+    confirmed: u64,
+}
+
+// Which of the three a notice was, and how many records with a later start it removed.
+struct Kept {
+    which: u64,
+    removed: u64,
+}
+
+// The User that was registered or 0, and whether the request lapsed.
+struct Settled {
+    user: u64,
+    lapsed: u64,
+}
+
+fn read(n: EnergyNotice) -> Reading
+    ensures { λ r. ⌜ r ≡ readingOf n ⌝ }
+{
+    let mirn = n.mirn;
+    let start = n.start;
+    let end = n.end;
+    let energy = n.energy;
+    let quality = n.quality;
+    let confirmed = n.confirmed;
+    Reading {
+        mirn: numbers::natural(mirn),
+        start: numbers::natural(start),
+        end: numbers::natural(end),
+        energy: numbers::bias(energy),
+        quality: numbers::natural(quality),
+        confirmed: numbers::natural(confirmed),
+    }
+}
+
+// Row 2.
+fn in_range(x: Reading) -> bool
+    ensures { λ r. ⌜ r ≡ inRange x ⌝ }
+{
+    (1 <= x.mirn)
+        & (x.mirn <= 9999999999)
+        & (x.start <= 39999)
+        & (x.end <= 39999)
+        & (x.energy <= 2000000)
+        & (x.quality <= 2)
+        & (x.confirmed <= 1)
+}
+
+// The record that starts on a day, by its index; the number of records if none does.
+fn row_of(p: &[i64], start: u64) -> usize
+    requires { ⌜ Laid (now p) ⌝ }
+    ensures { λ r. ⌜ (r ≡ rowIn (pointFrom (now (p .entry)) .recs) start) × (r ≤ numAt (now (p .entry)) 6) ⌝ }
+{
+    let n = numbers::get(p, 6) as usize;
+    let mut j: usize = 0;
+    while j < n {
+        if numbers::get(p, 48 + 4 * j) == start {
+            return j;
+        }
+        j += 1;
+    }
+    j
+}
+
+// Does no record start on the day?
+fn appends(p: &[i64], start: u64) -> bool
+    requires { ⌜ Laid (now p) ⌝ }
+    ensures { λ r. ⌜ r ≡ not (isSome (startingOn (pointFrom (now (p .entry)) .recs) start)) ⌝ }
+{
+    row_of(p, start) as u64 == numbers::get(p, 6)
+}
+
+// The first day that is not off, of those after the last record or, with no record, from install on; 40,001 if all are off.
+fn append_day(p: &[i64]) -> u64
+    requires { ⌜ Laid (now p) ⌝ }
+    ensures { λ r. ⌜ dayIf r ≡ appendDayOf (pointFrom (now (p .entry))) ⌝ }
+{
+    let spans = numbers::get(p, 5) as usize;
+    let recs = numbers::get(p, 6) as usize;
+    if recs == 0 {
+        let install = numbers::get(p, 2);
+        return point::first_on(p, spans, install);
+    }
+    let end = numbers::get(p, 48 + 4 * (recs - 1) + 1);
+    point::first_on(p, spans, end + 1)
+}
+
+// Beyond ± a range, both raised by 1,000,000; a range below that is none.
+fn beyond_range(range: u64, energy: u64) -> bool
+    requires { ⌜ (range ≤ 2000000) × (energy ≤ 2000000) ⌝ }
+    ensures { λ r. ⌜ r ≡ beyond (energyOf range) (energyOf range) 0 (energyOf energy) ⌝ }
+{
+    (1000000 <= range) & ((range < energy) | (energy + range < 2000000))
+}
+
+// Beyond ± the range of the point's kind.
+fn unusual(kind: u64, nondaily: u64, daily: u64, energy: u64) -> bool
+    requires { ⌜ (nondaily ≤ 2000000) × (daily ≤ 2000000) × (energy ≤ 2000000) ⌝ }
+    ensures { λ r. ⌜ r ≡ beyond (energyOf nondaily) (energyOf daily) kind (energyOf energy) ⌝ }
+{
+    if kind == 0 {
+        return beyond_range(nondaily, energy);
+    }
+    beyond_range(daily, energy)
+}
+
+// The row that sends a notice back, of those that its point decides; 0 if none does.
+fn check(p: &[i64], x: Reading, nondaily: u64, daily: u64) -> u64
+    requires { ⌜ Laid (now p) × InRange x × (nondaily ≤ 2000000) × (daily ≤ 2000000) ⌝ }
+    ensures { λ r. ⌜ r ≡ least (rowsOf x nondaily daily (pointFrom (now (p .entry)))) ⌝ }
+{
+    let kind = numbers::get(p, 1);
+    if !point::fits_kind(kind, x.start, x.end) {
+        return 6;
+    }
+    let append = appends(p, x.start);
+    if append & (append_day(p) != x.start) {
+        return 7;
+    }
+    let spans = numbers::get(p, 5) as usize;
+    if !point::no_off(p, spans, x.start, x.end) {
+        return 8;
+    }
+    if unusual(kind, nondaily, daily, x.energy) & (x.confirmed == 0) {
+        return 9;
+    }
+    if append & (48 <= numbers::get(p, 6)) {
+        return 16;
+    }
+    0
+}
+
+// The record in its place: an append behind the others, a replacement in the place of its predecessor, a recut in the
+// place of its predecessor and of all later records.
+fn enter_record(p: &mut [i64], x: Reading) -> Kept
+    requires { ⌜ Laid (now p) × InRange x × MayEnter 48 (entryFrom x) (pointFrom (now p)) ⌝ }
+    ensures { λ r. ⌜ Recorded (now (p .entry)) x r (now (p .exit)) ⌝ }
+{
+    let n = numbers::get(p, 6) as usize;
+    let j = row_of(p, x.start);
+    if j == n {
+        rows::append_record(p, n, x.start, x.end, x.energy, x.quality);
+        return Kept {
+            which: 1,
+            removed: 0,
+        };
+    }
+    let end = numbers::get(p, 48 + 4 * j + 1);
+    if end == x.end {
+        rows::put_record(p, j, x.start, x.end, x.energy, x.quality);
+        return Kept {
+            which: 2,
+            removed: 0,
+        };
+    }
+    rows::cut_records(p, j, n);
+    rows::append_record(p, j, x.start, x.end, x.energy, x.quality);
+    Kept {
+        which: 3,
+        removed: (n - j - 1) as u64,
+    }
+}
+
+// The pending request, once the entry stands: by the notice's own end its User is registered from the next day on, or the
+// request lapses, or it stays.
+fn settle_request(p: &mut [i64], x: Reading) -> Settled
+    requires { ⌜ Laid (now p) × InRange x ⌝ }
+    ensures { λ r. ⌜ SettledTo (now (p .entry)) x r (now (p .exit)) ⌝ }
+{
+    let n = numbers::get(p, 4) as usize;
+    let user = numbers::get(p, 7);
+    let first = numbers::get(p, 8);
+    let last = numbers::get(p, 9);
+    let latest = numbers::get(p, 14 + 2 * n);
+    let end = x.end;
+    if (user != 0) & (first <= end) & (end <= last) & (latest < end + 1) {
+        rows::append_registration(p, n, end + 1, user);
+        rows::clear_pending(p);
+        return Settled { user, lapsed: 0 };
+    }
+    if (user != 0) & (last < end) {
+        rows::clear_pending(p);
+        return Settled { user: 0, lapsed: 1 };
+    }
+    Settled { user: 0, lapsed: 0 }
+}
+
+// A notice on its point's part, which a refusal leaves as found.
+fn enter(p: &mut [i64], x: Reading, nondaily: u64, daily: u64) -> EnergyAnswer
+    requires { ⌜ Laid (now p) × InRange x × (nondaily ≤ 2000000) × (daily ≤ 2000000) ⌝ }
+    ensures { λ r. ⌜ (energyNumbers r ≡ energyPart x nondaily daily (now (p .entry)) .0) × (now (p .exit) ≡ energyPart x nondaily daily (now (p .entry)) .1) ⌝ }
+{
+    let row = check(p, x, nondaily, daily);
+    if row != 0 {
+        return EnergyAnswer::Refused(row);
+    }
+    let kept = enter_record(p, x);
+    let settled = settle_request(p, x);
+    EnergyAnswer::Entered {
+        which: kept.which,
+        removed: kept.removed,
+        user: settled.user,
+        lapsed: settled.lapsed,
+    }
+}
+
+// On any table and any numbers.
+pub fn energy(t: &mut [i64], n: EnergyNotice) -> EnergyAnswer
+    ensures { λ r. ⌜ (energyNumbers r ≡ energyCall (now (t .entry)) n .0) × (now (t .exit) ≡ energyCall (now (t .entry)) n .1) ⌝ }
+{
+    if !table::sound(t) {
+        return EnergyAnswer::Refused(1);
+    }
+    let x = read(n);
+    if !in_range(x) {
+        return EnergyAnswer::Refused(2);
+    }
+    let i = table::index_of(t, x.mirn);
+    if i == 32 {
+        return EnergyAnswer::Refused(4);
+    }
+    let nondaily = numbers::get_energy(t, 1);
+    let daily = numbers::get_energy(t, 2);
+    let a = 8 + 240 * i;
+    let b = a + 240;
+    enter(&mut t[a..b], x, nondaily, daily)
+}
