@@ -18,7 +18,7 @@ first-on-requires : tie.Need-first-on-requires
 first-on-requires c κs = search needs
 
 returns : tie.Need-returns
-returns c = 
+returns c =
     let d = c .before .before in
     ap dayIf (c .first-on .ensures) ∙ append-first (d .before .before .before .pre) _ _ _ (d .before .before .get .ensures .0) (d .before .get2 .ensures .0) (d .if1 .taken) (c .before .get3 .ensures .0)
 
@@ -44,7 +44,7 @@ first-on-requires-2 : tie.Need-first-on-requires-2
 first-on-requires-2 c κs = search needs
 
 returns-2 : tie.Need-returns-2
-returns-2 c = 
+returns-2 c =
     let d = c .before .before in
     ap dayIf (c .first-on2 .ensures) ∙ append-next (d .before .before .before .pre) _ _ _ (d .before .before .get .ensures .0) (d .before .get2 .ensures .0) (d .if1 .left) (c .before .get4 .ensures .0)
 

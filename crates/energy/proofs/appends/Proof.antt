@@ -14,7 +14,7 @@ get-requires : tie.Need-get-requires
 get-requires c κs = search needs
 
 returns : tie.Need-returns
-returns c = 
+returns c =
     let ok = c .before .before .pre in
     let recs = pointFrom (c .before .before .args .p .now) .recs in
     ap₂ eqb (c .before .row-of .ensures .0) (c .get .ensures .0 ∙ count-recs ok) ∙ appends-is recs (c .before .before .args .start)

@@ -13,7 +13,7 @@ fits-kind-requires : tie.Need-fits-kind-requires
 fits-kind-requires c κs = search needs
 
 returns : tie.Need-returns
-returns c = 
+returns c =
     let z = c .before .before .before in
     sent-6 (z .args .x) (z .args .nondaily) (z .args .daily) (pointFrom (z .args .p .now)) (sym (row6-is (z .pre .0) (z .args .x) _ (c .before .before .get .ensures .0) (c .before .fits-kind .ensures)) ∙ c .if1 .taken)
 
@@ -24,7 +24,7 @@ append-day-requires : tie.Need-append-day-requires
 append-day-requires c κs = search needs
 
 returns-2 : tie.Need-returns-2
-returns-2 c = 
+returns-2 c =
     let o = c .before .before .before .before in
     let z = o .before .before .before in
     let x = z .args .x in
@@ -40,7 +40,7 @@ no-off-requires : tie.Need-no-off-requires
 no-off-requires c κs = search needs
 
 returns-3 : tie.Need-returns-3
-returns-3 c = 
+returns-3 c =
     let n = c .before .before .before in
     let o = n .before .before .before .before in
     let z = o .before .before .before in
@@ -55,7 +55,7 @@ unusual-requires : tie.Need-unusual-requires
 unusual-requires c κs = search needs
 
 returns-4 : tie.Need-returns-4
-returns-4 c = 
+returns-4 c =
     let m = c .before .before .before in
     let n = m .before .before .before in
     let o = n .before .before .before .before in
@@ -71,7 +71,7 @@ get-requires-3 : tie.Need-get-requires-3
 get-requires-3 c κs = search needs
 
 returns-5 : tie.Need-returns-5
-returns-5 c = 
+returns-5 c =
     let m = c .before .before .before .before .before in
     let n = m .before .before .before in
     let o = n .before .before .before .before in
@@ -86,7 +86,7 @@ returns-5 c =
     (sym (row16-is ok x (n .before .before .before .appends .ensures) _ (c .before .get3 .ensures .0)) ∙ c .if5 .taken)
 
 returns-6 : tie.Need-returns-6
-returns-6 c = 
+returns-6 c =
     let m = c .before .before .before .before .before in
     let n = m .before .before .before in
     let o = n .before .before .before .before in

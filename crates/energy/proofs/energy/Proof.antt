@@ -31,7 +31,7 @@ same-length : tie.Need-same-length
 same-length c = search needs
 
 returns : tie.Need-returns
-returns c = 
+returns c =
     let s = c .before .before .before in
     let t = s .args .t .now in
     answered (energyCall t (s .args .n)) _ t (energy-unsound t (s .args .n) (sym (c .before .sound .ensures) ∙ not-true _ (c .if1 .taken))) t refl
@@ -46,7 +46,7 @@ same-length-2 : tie.Need-same-length-2
 same-length-2 c = search needs
 
 returns-2 : tie.Need-returns-2
-returns-2 c = 
+returns-2 c =
     let r = c .before .before in
     let s = start (r .before) in
     let t = s .args .t .now in
@@ -54,7 +54,7 @@ returns-2 c =
     (energy-range t (s .args .n) (sound-is (r .before)) _ (r .read .ensures) (sym (c .before .in-range .ensures) ∙ not-true _ (c .if2 .taken))) t refl
 
 index-of-requires : tie.Need-index-of-requires
-index-of-requires c κs = 
+index-of-requires c κs =
     let e = c .before .before .before .before in
     sound-long (start e .args .t .now) (sound-is e)
 
@@ -62,7 +62,7 @@ same-length-3 : tie.Need-same-length-3
 same-length-3 c = search needs
 
 returns-3 : tie.Need-returns-3
-returns-3 c = 
+returns-3 c =
     let l = c .before .before .before in
     let r = l .before .before in
     let s = start (r .before) in
@@ -71,12 +71,12 @@ returns-3 c =
     (energy-missing t (s .args .n) (sound-is (r .before)) _ (r .read .ensures) (in-range-here l) _ (c .before .index-of .ensures .0) (c .if3 .taken)) t refl
 
 get-energy-requires : tie.Need-get-energy-requires
-get-energy-requires c κs = 
+get-energy-requires c κs =
     let e = c .before .before .before .before .before .before .before in
     omega (arith, sound-long (start e .args .t .now) (sound-is e))
 
 get-energy-requires-2 : tie.Need-get-energy-requires-2
-get-energy-requires-2 c κs = 
+get-energy-requires-2 c κs =
     let e = c .before .before .before .before .before .before .before .before .before in
     omega (arith, sound-long (start e .args .t .now) (sound-is e))
 
@@ -99,13 +99,13 @@ part-enter-start : tie.Need-part-enter-start
 part-enter-start c = search needs
 
 part-enter-end : tie.Need-part-enter-end
-part-enter-end c = 
+part-enter-end c =
     let o = c .before .before .before .before in
     let e = o .before .before .before .before .before .before in
     omega (arith, o .before .index-of .ensures .1, o .if3 .left, sound-long (start e .args .t .now) (sound-is e))
 
 enter-requires : tie.Need-enter-requires
-enter-requires c κs = 
+enter-requires c κs =
     let g2 = c .before in
     let g1 = g2 .before .before in
     let o = g1 .before .before in
@@ -122,7 +122,7 @@ same-length-4 : tie.Need-same-length-4
 same-length-4 c = search needs
 
 returns-4 : tie.Need-returns-4
-returns-4 c = 
+returns-4 c =
     let g2 = c .before .before .before in
     let g1 = g2 .before .before in
     let o = g1 .before .before in

@@ -10,19 +10,19 @@ same-length : tie.Need-same-length
 same-length c = search needs
 
 returns : tie.Need-returns
-returns c = 
+returns c =
     let k = c .before in
     let s = k .before .before in
     refused (s .pre .0) (s .args .x) (s .pre .1) (s .args .nondaily) (s .args .daily) _ (k .check .ensures) (c .if1 .taken)
 
 enter-record-requires : tie.Need-enter-record-requires
-enter-record-requires c κs = 
+enter-record-requires c κs =
     let k = c .before .before in
     let s = k .before .before in
     (s .pre .0, s .pre .1, may (s .pre .0) (s .args .x) (s .pre .1) (s .args .nondaily) (s .args .daily) _ (k .check .ensures) (c .before .if1 .left))
 
 settle-request-requires : tie.Need-settle-request-requires
-settle-request-requires c κs = 
+settle-request-requires c κs =
     let r = c .before .before in
     let l = r .before .before in
     let k = l .before in
@@ -33,7 +33,7 @@ same-length-2 : tie.Need-same-length-2
 same-length-2 c = search needs
 
 returns-2 : tie.Need-returns-2
-returns-2 c = 
+returns-2 c =
     let r = c .before .before .before .before in
     let l = r .before .before in
     let k = l .before in

@@ -12,7 +12,7 @@ row-of-requires : tie.Need-row-of-requires
 row-of-requires c κs = search needs
 
 append-record-requires : tie.Need-append-record-requires
-append-record-requires c κs = 
+append-record-requires c κs =
     let b = c .before in
     let r = b .before in
     let g = r .before .before in
@@ -24,7 +24,7 @@ same-length : tie.Need-same-length
 same-length c = search needs
 
 returns : tie.Need-returns
-returns c = 
+returns c =
     let b = c .before .before .before in
     let r = b .before in
     let g = r .before .before in
@@ -50,7 +50,7 @@ same-length-2 : tie.Need-same-length-2
 same-length-2 c = search needs
 
 returns-2 : tie.Need-returns-2
-returns-2 c = 
+returns-2 c =
     let f = c .before .before .before in
     let d = f .before .before in
     let b = d .before .before in
@@ -75,7 +75,7 @@ same-length-3 : tie.Need-same-length-3
 same-length-3 c = search needs
 
 returns-3 : tie.Need-returns-3
-returns-3 c = 
+returns-3 c =
     let u = c .before .before .before .before in
     let f = u .before .before in
     let d = f .before .before in

@@ -32,7 +32,7 @@ add-append-registration : tie.Need-add-append-registration
 add-append-registration c = search needs
 
 append-registration-requires : tie.Need-append-registration-requires
-append-registration-requires c κs = 
+append-registration-requires c κs =
     let g5 = c .before .before in
     let g4 = g5 .before .before in
     let g3 = g4 .before .before in
@@ -49,7 +49,7 @@ same-length : tie.Need-same-length
 same-length c = search needs
 
 returns : tie.Need-returns
-returns c = 
+returns c =
     let b = c .before .before .before .before .before .before in
     let g5 = b .before in
     let g4 = g5 .before .before in
@@ -66,7 +66,7 @@ same-length-2 : tie.Need-same-length-2
 same-length-2 c = search needs
 
 returns-2 : tie.Need-returns-2
-returns-2 c = 
+returns-2 c =
     let d = c .before .before .before in
     let b = d .before in
     let g5 = b .before in
@@ -81,7 +81,7 @@ same-length-3 : tie.Need-same-length-3
 same-length-3 c = search needs
 
 returns-3 : tie.Need-returns-3
-returns-3 c = 
+returns-3 c =
     let b = c .before in
     let g5 = b .before in
     let g4 = g5 .before .before in

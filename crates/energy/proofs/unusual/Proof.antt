@@ -9,7 +9,7 @@ beyond-range-requires : tie.Need-beyond-range-requires
 beyond-range-requires c κs = search needs
 
 returns : tie.Need-returns
-returns c = 
+returns c =
     let s = c .before .before .args in
     c .beyond-range .ensures ∙ beyond-first (s .nondaily) (s .daily) (s .kind) (energyOf (s .energy)) (c .before .if1 .taken)
 
@@ -17,7 +17,7 @@ beyond-range-requires-2 : tie.Need-beyond-range-requires-2
 beyond-range-requires-2 c κs = search needs
 
 returns-2 : tie.Need-returns-2
-returns-2 c = 
+returns-2 c =
     let s = c .before .before .args in
     c .beyond-range2 .ensures ∙ beyond-second (s .nondaily) (s .daily) (s .kind) (energyOf (s .energy)) (c .before .if1 .left)
 
