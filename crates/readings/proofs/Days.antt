@@ -10,12 +10,12 @@ use lib.Dec.{eqb, leb}
 use lib.IntN.{ℤ, pos, _+ℤ_, _-ℤ_}
 use Rattle.numbers.specs.Search.{isSome, firstFrom}
 use Rattle.numbers.specs.Sums.{sumFrom}
-use Rattle.numbers.proofs.Integers.{up, dn, eqZ, minus-fact}
+use Rattle.numbers.proofs.Integers.{eqZ, minus-fact}
 use Rattle.numbers.proofs.Search.{first-here, first-later}
 use Rattle.daybook.specs.Book.{Entry, Point, filled}
 use Rattle.daybook.specs.Queries.{someFilled, allFilled}
-use Rattle.daybook.proofs.Lists.{entryOn, pointOf}
-use Rattle.layout.specs.Layout.{numAt, pointFrom}
+use Rattle.daybook.proofs.Lists.{pointOf}
+use Rattle.layout.specs.Layout.{numAt}
 use Rattle.readings.specs.Readings.{pointAt, Readable, daysBefore, filledDays}
 use Rattle.readings.specs.Records.{recordOf, partBetween, countOf}
 use Rattle.readings.proofs.Records.{dayOf, before-up, days-by-rows}
@@ -107,3 +107,13 @@ module _ (p : Point) where
       go : (t : Bool) → filled p d ≡ t → eqb (filledDays p d 1) 1 ≡ filled p d
       go true e = rw e refl
       go false e = rw e refl
+
+  -- the seven days before day g
+  pub no-week : (g : ℕ) → g < 7 → false ≡ (leb 7 g && allFilled p (g - 7) 7)
+  no-week g h = sym (ap (λ t. t && allFilled p (g - 7) 7) (lt-leb 7 g h))
+
+  pub week-is : (g : ℕ) → 7 ≤ g → eqb (filledDays p (g - 7) (g - (g - 7))) 7 ≡ (leb 7 g && allFilled p (g - 7) 7)
+  week-is g h =
+      let e : g - (g - 7) ≡ 7 = omega arith in
+      ap (λ n. eqb (filledDays p (g - 7) n) 7) e
+      ∙ sym (ap (λ t. t && allFilled p (g - 7) 7) (le-leb 7 g h) ∙ all-filled (g - 7) 7)

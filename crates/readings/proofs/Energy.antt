@@ -1,5 +1,5 @@
 -- A record's energy between two days as the code has it, and the energy of days by records. Assumes nothing.
-use mathlib.Core.Path.{_≡_, refl, sym, ap, ap₂, _∙_}
+use mathlib.Core.Path.{_≡_, refl, sym, ap₂, _∙_}
 use mathlib.Core.Option.{Option, none, some}
 use mathlib.Core.List.{List}
 use Prim.Native.Nat.{ℕ, suc, _+_, _-_, _≤_, _<_}
@@ -57,7 +57,7 @@ module _ {e : Entry} (ok : RecordOk e) {x y u n i j r s : ℕ} (c : Parts e x y 
 
 -- ---- the days' energy
 
-share-day : (o : Option Entry) (d : ℕ)
+pub share-day : (o : Option Entry) (d : ℕ)
     → maybe (pos 0) (λ e. share (e .energy) (suc (e .end) - e .start) (d - e .start)) o ≡ dayOf partialOf o d
 unfolding dayOf partialOf share
 share-day none d = refl

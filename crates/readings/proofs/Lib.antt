@@ -5,3 +5,5 @@ pub mod Records
 pub mod Energy
 pub mod Days
 pub mod Users
+pub mod Shares
+pub mod Weights

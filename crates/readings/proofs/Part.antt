@@ -2,8 +2,8 @@
 use mathlib.Core.Path.{_≡_, refl, subst, _∙_}
 use mathlib.Core.Bool.{Bool, true, false}
 use mathlib.Core.Option.{Option}
-use mathlib.Core.List.{List}
-use Prim.Native.Nat.{ℕ, zero, suc, _+_, _-_, _*_, _/_, _≤_, _<_}
+use mathlib.Core.List.{List, _∷_}
+use Prim.Native.Nat.{ℕ, zero, suc, _+_, _-_, _/_, _≤_, _<_}
 use native.Mathlib.Omega.{arith}
 use borrow.Author.Tests.{leb-true, eqb-true, eqb-false}
 use lib.Dec.{eqb}
@@ -60,22 +60,18 @@ pub record RecordOk (e : Entry) : Type 0 where
   pub ends : e .end ≤ 39999
   pub small : biasOf (e .energy) ≤ 2000000
 
+pub first-ok : {kind from : ℕ} {offs : List (ℕ × Option ℕ)} {x : Entry} {l : List Entry} → Recs kind offs from (x ∷ l) → RecordOk x
+first-ok {kind} {x = x} (rec a b c e t g r) =
+    record { order = fits-le kind (x .start) (x .end) b; ends = c; small = leb-true _ _ (energy-same (x .energy) ∙ e) }
+
 row-ok : {kind from : ℕ} {offs : List (ℕ × Option ℕ)} (f : ℕ → Entry) (n k : ℕ) → Recs kind offs from (rowsAt f k n)
     → (i : ℕ) → k ≤ i → i < k + n → RecordOk (f i)
 unfolding rowsAt
 row-ok f zero k r i h l = absurd (omega arith)
-row-ok {kind} f (suc n) k (rec a b d e t g r) i h l = go (eqb k i) refl (row-ok f n (suc k) r i)
+row-ok f (suc n) k (rec a b c e t g r) i h l = go (eqb k i) refl (row-ok f n (suc k) r i)
   where
-    this : RecordOk (f k)
-    this =
-        record {
-          order = fits-le kind (f k .start) (f k .end) b;
-          ends = d;
-          small = leb-true _ _ (energy-same (f k .energy) ∙ e);
-        }
-
     go : (t : Bool) → eqb k i ≡ t → (suc k ≤ i → i < suc k + n → RecordOk (f i)) → RecordOk (f i)
-    go true q ih = subst (λ j. RecordOk (f j)) (eqb-true k i q) this
+    go true q ih = subst (λ j. RecordOk (f j)) (eqb-true k i q) (first-ok (rec a b c e t g r))
     go false q ih = let s : ¬ (k ≡ i) = eqb-false k i q in ih (omega arith) (omega arith)
 
 pub record-ok : {p : List ℤ} → Readable p → (k : ℕ) → k < numAt p 6 → RecordOk (recordOf p k)

@@ -1,7 +1,7 @@
 -- Energies that are raised, so that they are naturals: their bounds and their differences. Assumes nothing.
 use mathlib.Core.Path.{_≡_, refl, sym, ap, ap₂, _∙_}
 use mathlib.Core.Bool.{Bool, true, false}
-use Prim.Native.Nat.{ℕ, suc, _+_, _-_, _*_, _/_, _≤_, _<_}
+use Prim.Native.Nat.{ℕ, _+_, _-_, _*_, _≤_, _<_}
 use native.Mathlib.Nat.{div-le-of-le-mul, le-div-iff-mul-le, mul-le-mul-right, mul-add, mul-comm}
 use native.Mathlib.Omega.{arith}
 use borrow.Author.Tests.{leb-true, leb-false}
@@ -21,6 +21,9 @@ raise a m b h = eqZ _ _ (omega (arith, sub-fact (a + b - m) b, sub-fact a m))
 -- the same number, raised by m
 pub raised-same : (a b m : ℕ) → subℕ a m ≡ subℕ b m → a ≡ b
 raised-same a b m e = omega (arith, sub-fact a m, sub-fact b m, ap up e, ap dn e)
+
+pub pos-same : {a b : ℕ} → pos a ≡ pos b → a ≡ b
+pos-same e = cc
 
 -- ---- a loop that adds up, from index 0 on
 
@@ -52,7 +55,7 @@ module _ (u n k : ℕ) (p : 0 < n) (l : k ≤ n) where
   )
 
 -- so two of them differ by at most 1,000,000
-parts-near : (u n i j : ℕ) → u ≤ 2000000 → 0 < n → i ≤ n → j ≤ n → raisedPart u n i ≤ raisedPart u n j + 1000000
+pub parts-near : (u n i j : ℕ) → u ≤ 2000000 → 0 < n → i ≤ n → j ≤ n → raisedPart u n i ≤ raisedPart u n j + 1000000
 parts-near u n i j s p h k = go (leb u 1000000) refl
   where
     go : (t : Bool) → leb u 1000000 ≡ t → raisedPart u n i ≤ raisedPart u n j + 1000000

@@ -2,12 +2,12 @@
 -- two prefixes, by the one telescope. Assumes nothing.
 use mathlib.Core.Path.{_≡_, refl, sym, ap, ap₂, _∙_}
 use mathlib.Core.Option.{Option, none, some}
-use mathlib.Core.List.{List, [], _∷_}
-use Prim.Native.Nat.{ℕ, zero, suc, _+_, _-_, _≤_, _<_, min}
+use mathlib.Core.List.{List}
+use Prim.Native.Nat.{ℕ, zero, suc, _+_, _-_, _≤_, _<_}
 use native.Mathlib.Omega.{arith}
 use lib.IntN.{ℤ, pos, _+ℤ_, _-ℤ_, +ℤ-idl, +ℤ-idr}
 use Rattle.numbers.specs.Sums.{sumFrom}
-use Rattle.numbers.proofs.Integers.{up, dn, eqZ, minus-fact}
+use Rattle.numbers.proofs.Integers.{eqZ, minus-fact}
 use Rattle.numbers.proofs.Sums.{sum-same, sum-zero, sum-plus, telescope}
 use Rattle.daybook.specs.Book.{Entry, fill}
 use Rattle.daybook.specs.Queries.{sumOf}

@@ -14,7 +14,7 @@ use Rattle.daybook.specs.Queries.{active}
 use Rattle.daybook.proofs.Lists.{userOn, inSpan, offOn, pointOf}
 use Rattle.daybook.proofs.Registrations.{user-none, user-known}
 use Rattle.daybook.proofs.Steps.{overlaps, someOverlap}
-use Rattle.layout.specs.Layout.{numAt, pointFrom, pointNumbers}
+use Rattle.layout.specs.Layout.{numAt, pointFrom}
 use Rattle.layout.proofs.Cells.{cell-offs}
 use Rattle.point.specs.Tests.{regStart, regUser, noOff}
 use Rattle.point.proofs.Readers.{no-off-is}
@@ -29,9 +29,9 @@ abbrev pub userLeft : List ℤ → ℕ → ℕ → ℕ → ℕ → ℕ
 userLeft p g n j u = userOn u (rowsAt (regRow p) j (n - j)) g
 
 module _ (p : List ℤ) (g n j u : ℕ) where
-  pub user-more : j < n → userLeft p g n j u ≡ userLeft p g n (j + 1) (cond (leb (regStart p j) g) (regUser p j) u)
+  pub user-more : (v : ℕ) → j < n → v ≡ cond (leb (regStart p j) g) (regUser p j) u → userLeft p g n (j + 1) v ≡ userLeft p g n j u
   unfolding userOn rowsAt
-  user-more l = let m : n - j ≡ suc (n - (j + 1)) = omega arith in rw (m, add-one j)
+  user-more v l e = let m : n - j ≡ suc (n - (j + 1)) = omega arith in rw (m, add-one j, e)
 
   pub user-end : n ≤ j → userLeft p g n j u ≡ u
   unfolding userOn rowsAt
@@ -85,3 +85,7 @@ kind-is p = refl
 pub base-is : (p : List ℤ) → numAt p 3 ≡ pointAt p .facts .base
 unfolding pointAt pointOf pointFrom
 base-is p = refl
+
+pub base-few : {p : List ℤ} → Readable p → numAt p 3 ≤ 10000
+unfolding pointFrom
+base-few r = part-well r .factsOk .baseOk

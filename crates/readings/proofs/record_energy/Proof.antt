@@ -1,10 +1,10 @@
-use Prim.Native.Nat.{suc, _+_, _-_}
+use Prim.Native.Nat.{_+_, _-_}
 use mathlib.Core.Path.{_≡_, sym, ap₂, _∙_}
 use native.Mathlib.Omega.{arith}
 use Rattle.readings.specs.Readings.{daysBefore}
 use Rattle.readings.specs.Records.{recordOf, partialOf}
 use Rattle.readings.proofs.Part.{part-counted, RecordOk, record-ok}
-use Rattle.readings.proofs.Records.{part-none, before-most}
+use Rattle.readings.proofs.Records.{part-none}
 use Rattle.readings.proofs.Energy.{Parts, parts-near, parts-are}
 use borrow.Author.Needs.{needs}
 use Rattle.readings.proofs.record_energy.Statement.{statement}
