@@ -22,7 +22,8 @@ week-filled-requires c κs = search needs
 sub-share-on : tie.Need-sub-share-on
 sub-share-on c =
     let s = c .before .before .before .before in
-    week-long (pointAt (s .args .p .now)) (s .args .g) (sym (c .before .week-filled .ensures) ∙ c .if2 .taken)
+    let l = week-long (pointAt (s .args .p .now)) (s .args .g) (sym (c .before .week-filled .ensures) ∙ c .if2 .taken) in
+    search needs
 
 share-on-requires-2 : tie.Need-share-on-requires-2
 share-on-requires-2 c κs = search needs

@@ -1,6 +1,7 @@
 use Prim.Native.Nat.{_+_, _-_}
 use mathlib.Core.Path.{_≡_, sym, ap₂, _∙_}
 use native.Mathlib.Omega.{arith}
+use Rattle.daybook.specs.Book.{Entry}
 use Rattle.readings.specs.Readings.{daysBefore}
 use Rattle.readings.specs.Records.{recordOf, partialOf}
 use Rattle.readings.proofs.Part.{part-counted, RecordOk, record-ok}
@@ -11,16 +12,27 @@ use Rattle.readings.proofs.record_energy.Statement.{statement}
 use Rattle.readings.proofs.record_energy.Tie as tie
 
 -- the record that is read, and its days before x and before y
-row : (c : tie.Start) → RecordOk (recordOf (c .args .p .now) (c .args .k))
-row c = record-ok (c .pre .0) (c .args .k) (c .pre .1)
+abbrev read : tie.Start → Entry
+read s = recordOf (s .args .p .now) (s .args .k)
 
-before-x : (c : tie.After-days-before) → c .days-before .result ≡ daysBefore (recordOf (c .before .before .before .args .p .now) (c .before .before .before .args .k) .start) (recordOf (c .before .before .before .args .p .now) (c .before .before .before .args .k) .end) (c .before .before .before .args .x)
-unfolding recordOf
-before-x c = c .days-before .ensures .0 ∙ ap₂ (λ a b. daysBefore a b (c .before .before .before .args .x)) (c .before .before .get .ensures .0) (c .before .get2 .ensures .0)
+row : (s : tie.Start) → RecordOk (read s)
+row s = record-ok (s .pre .0) (s .args .k) (s .pre .1)
 
-before-y : (c : tie.After-days-before2) → c .days-before2 .result ≡ daysBefore (recordOf (c .before .before .before .before .args .p .now) (c .before .before .before .before .args .k) .start) (recordOf (c .before .before .before .before .args .p .now) (c .before .before .before .before .args .k) .end) (c .before .before .before .before .args .y)
+before-x : (c : tie.After-days-before)
+    → let s : tie.Start = c .before .before .before in
+    c .days-before .result ≡ daysBefore (read s .start) (read s .end) (s .args .x)
 unfolding recordOf
-before-y c = c .days-before2 .ensures .0 ∙ ap₂ (λ a b. daysBefore a b (c .before .before .before .before .args .y)) (c .before .before .before .get .ensures .0) (c .before .before .get2 .ensures .0)
+before-x c =
+    c .days-before .ensures .0
+    ∙ ap₂ (λ a b. daysBefore a b (c .before .before .before .args .x)) (c .before .before .get .ensures .0) (c .before .get2 .ensures .0)
+
+before-y : (c : tie.After-days-before2)
+    → let s : tie.Start = c .before .before .before .before in
+    c .days-before2 .result ≡ daysBefore (read s .start) (read s .end) (s .args .y)
+unfolding recordOf
+before-y c =
+    c .days-before2 .ensures .0
+    ∙ ap₂ (λ a b. daysBefore a b (c .before .before .before .before .args .y)) (c .before .before .before .get .ensures .0) (c .before .before .get2 .ensures .0)
 
 mul-at : tie.Need-mul-at
 mul-at c = let h = part-counted (c .pre .0) in search needs
@@ -48,7 +60,7 @@ days-before-requires-2 c κs = let h = row (c .before .before .before) in omega 
 returns : tie.Need-returns
 returns c =
     let s = c .before .before .before .before .before in
-    (sym (part-none partialOf (s .args .x) (s .args .y) (recordOf (s .args .p .now) (s .args .k)) (sym (before-x (c .before .before)) ∙ c .if1 .taken ∙ before-y (c .before))), search needs)
+    (sym (part-none partialOf (s .args .x) (s .args .y) (read s) (sym (before-x (c .before .before)) ∙ c .if1 .taken ∙ before-y (c .before))), search needs)
 
 add-get-energy : tie.Need-add-get-energy
 add-get-energy c = let h = part-counted (c .before .before .before .before .before .pre .0) in search needs
@@ -74,7 +86,12 @@ unfolding recordOf
 partial-energy-requires-2 c κs = let h = row (c .before .before .before .before .before .before .before) in omega arith
 
 -- what is at hand where the two parts have been read
-parts : (c : tie.After-partial-energy2) → Parts (recordOf (c .before .before .before .before .before .before .before .before .args .p .now) (c .before .before .before .before .before .before .before .before .args .k)) (c .before .before .before .before .before .before .before .before .args .x) (c .before .before .before .before .before .before .before .before .args .y) (c .before .before .get-energy .result) (c .before .before .before .before .before .before .get2 .result + 1 - c .before .before .before .before .before .before .before .get .result) (c .before .before .before .before .before .days-before .result) (c .before .before .before .before .days-before2 .result) (c .partial-energy2 .result) (c .before .partial-energy .result)
+parts : (c : tie.After-partial-energy2)
+    → let d : tie.After-days-before2 = c .before .before .before .before in
+    let s : tie.Start = d .before .before .before .before in
+    Parts (read s) (s .args .x) (s .args .y) (c .before .before .get-energy .result)
+    (d .before .before .get2 .result + 1 - d .before .before .before .get .result)
+    (d .before .days-before .result) (d .days-before2 .result) (c .partial-energy2 .result) (c .before .partial-energy .result)
 unfolding recordOf
 parts c =
     let d = c .before .before .before .before in
