@@ -1,6 +1,6 @@
 -- The FRO and the status of a day, by registrations and off spans. Assumes nothing.
 use mathlib.Core.Path.{_≡_, refl, sym, ap, ap₂, subst, _∙_}
-use mathlib.Core.Bool.{Bool, true, false, not, _&&_, _||_, cond, and-true}
+use mathlib.Core.Bool.{Bool, true, false, not, _&&_, _||_, cond, and-true, Bool·not-not}
 use mathlib.Core.Option.{Option, none, some}
 use mathlib.Core.List.{List, [], _∷_}
 use Prim.Native.Nat.{ℕ, suc, _+_, _-_, _≤_, _<_}
@@ -66,11 +66,7 @@ off-is {p} r g h =
     ap not
     (ap₂ (λ p n. noOff p n g g) (sym (part-laid r)) (subst (λ t. numAt t 5 ≡ length (pointFrom p .offs)) (part-laid r) (cell-offs (roomOf p) (pointFrom p)))
     ∙ no-off-is (part-well r) g g (omega arith))
-    ∙ twice (someOverlap g g (pointFrom p .offs)) ∙ off-day (pointFrom p .offs) g
-  where
-    twice : (t : Bool) → not (not t) ≡ t
-    twice true = refl
-    twice false = refl
+    ∙ Bool·not-not (someOverlap g g (pointFrom p .offs)) ∙ off-day (pointFrom p .offs) g
 
 -- ---- facts
 
