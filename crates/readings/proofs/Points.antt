@@ -1,6 +1,6 @@
 -- The points of a sound table: each part is readable, and a sum over the points goes by parts. Assumes nothing.
 use mathlib.Core.Path.{_≡_, refl, ap, ap₂, _∙_}
-use mathlib.Core.Bool.{true}
+use mathlib.Core.Bool.{true, false}
 use mathlib.Core.List.{List, map}
 use Prim.Native.Nat.{ℕ, zero, suc, _+_, _*_, _≤_, _<_}
 use native.Mathlib.Omega.{arith}
@@ -11,9 +11,10 @@ use lib.IntN.{ℤ, pos, _+ℤ_}
 use Rattle.numbers.specs.Sums.{sumFrom}
 use Rattle.numbers.proofs.Bools.{both}
 use Rattle.numbers.proofs.Rows.{all-at}
-use Rattle.daybook.specs.Book.{Point}
+use Rattle.daybook.specs.Book.{Point, Book}
 use Rattle.daybook.specs.Queries.{sumOf}
 use Rattle.daybook.proofs.Lists.{pointOf, bookOf}
+use Rattle.layout.specs.Calls.{ofTable}
 use Rattle.layout.specs.Layout.{standard, partOf, numAt, pointsFrom, registerOf, tableBook}
 use Rattle.layout.specs.Sound.{partSound, sound}
 use Rattle.readings.specs.Readings.{pointAt, Readable}
@@ -45,3 +46,14 @@ module _ (f : Point → ℤ) (t : List ℤ) where
   pub points-sum : sumOf f (tableBook standard t .points) ≡ sumFrom (λ k. f (pointAt (partOf standard t k))) 0 (numAt t 0)
   unfolding tableBook bookOf registerOf
   points-sum = sum-from (numAt t 0) 0
+
+-- ---- a query of a table
+
+module _ {A : Type 0} (refusal : A) (query : Book → A) (t : List ℤ) where
+  pub query-unsound : sound standard t ≡ false → ofTable refusal query standard t ≡ refusal
+  unfolding ofTable
+  query-unsound e = rw e
+
+  pub query-sound : sound standard t ≡ true → ofTable refusal query standard t ≡ query (tableBook standard t)
+  unfolding ofTable
+  query-sound e = rw e
