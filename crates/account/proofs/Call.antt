@@ -2,7 +2,7 @@
 use mathlib.Core.Path.{_≡_, refl, sym, ap, ap₂, _∙_}
 use mathlib.Core.Bool.{Bool, true, false, not, _&&_, and-false}
 use mathlib.Core.List.{List, [], _∷_}
-use Prim.Native.Nat.{ℕ, suc, _+_, _-_, _≤_}
+use Prim.Native.Nat.{ℕ, _+_, _-_, _≤_}
 use native.Mathlib.Numerals.{add-one}
 use native.Mathlib.Omega.{arith}
 use borrow.Author.Tests.{leb-true}
@@ -15,8 +15,7 @@ use Rattle.numbers.proofs.Bools.{both}
 use Rattle.calendar.specs.Calendar.{isDay}
 use Rattle.calendar.proofs.Dates.{within-natural, day-natural}
 use Rattle.daybook.specs.declared.AccountQuery.{AccountQuery}
-use Rattle.daybook.specs.Book.{Book}
-use Rattle.daybook.specs.Notices.{Numbers, decide, least, isUser}
+use Rattle.daybook.specs.Notices.{decide, least, isUser}
 use Rattle.daybook.specs.Queries.{ownShare, accountOf, accountRows, account}
 use Rattle.daybook.proofs.Rows.{above, least-first, least-skip}
 use Rattle.layout.specs.Layout.{standard, partOf, numAt, tableBook}

@@ -2,19 +2,19 @@
 use mathlib.Core.Path.{_≡_, refl, sym, ap, ap₂, subst, _∙_}
 use mathlib.Core.Bool.{Bool, true, false, cond}
 use mathlib.Core.List.{List, _∷_}
-use Prim.Native.Nat.{ℕ, zero, suc, _+_, _-_, _≤_, _<_, min, max}
+use Prim.Native.Nat.{ℕ, zero, suc, _+_, _-_, _≤_, _<_}
 use native.Mathlib.Numerals.{add-one}
 use native.Mathlib.Omega.{arith}
 use borrow.Author.Tests.{ltb-true, ltb-false, lt-ltb, le-ltb, eqb-true, eqb-false, eq-eqb, ne-eqb}
 use lib.Dec.{ltb, eqb}
 use lib.IntN.{ℤ, pos, _+ℤ_, +ℤ-idl, +ℤ-idr}
 use Rattle.numbers.specs.Sums.{sumFrom}
-use Rattle.numbers.proofs.Sums.{sum-same, sum-zero, sum-split}
+use Rattle.numbers.proofs.Sums.{sum-same, sum-if, sum-split}
 use Rattle.daybook.specs.Book.{dayShare}
 use Rattle.daybook.specs.Queries.{ownShare}
 use Rattle.daybook.proofs.Lists.{userOn, pointOf}
 use Rattle.daybook.proofs.Registrations.{user-before, user-since}
-use Rattle.daybook.proofs.Well.{Regs, noreg, reg}
+use Rattle.daybook.proofs.Well.{Regs, reg}
 use Rattle.layout.specs.Layout.{numAt, pointFrom}
 use Rattle.point.specs.Tests.{regStart, regUser}
 use Rattle.point.proofs.Rows.{rowsAt, regRow}
@@ -112,10 +112,6 @@ module _ (f : ℕ → ℤ) (u : ℕ) (p : List ℤ) (x y j : ℕ) where
   pub own-other : ¬ (regUser p j ≡ u) → ownIn f u p x y j ≡ pos 0
   unfolding ownIn
   own-other e = rw (ne-eqb (regUser p j) u e)
-
-sum-if : (t : Bool) (f : ℕ → ℤ) (a n : ℕ) → sumFrom (λ d. cond t (f d) (pos 0)) a n ≡ cond t (sumFrom f a n) (pos 0)
-sum-if true f a n = refl
-sum-if false f a n = sum-zero _ a n (λ d h k. refl)
 
 module _ (f : ℕ → ℤ) (u x y : ℕ) (xy : x ≤ y) (p : List ℤ) where
   -- What day d has if User w is the one, and the days from a to b - 1.

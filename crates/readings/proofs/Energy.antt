@@ -11,13 +11,13 @@ use Rattle.numbers.specs.Shares.{partialEnergy, share}
 use Rattle.numbers.specs.Sums.{sumFrom}
 use Rattle.numbers.proofs.Naturals.{bias-is}
 use Rattle.numbers.proofs.Sums.{sum-same}
+use Rattle.numbers.proofs.Shares.{energies-near, raised-difference}
 use Rattle.daybook.specs.Book.{Entry, dayShare}
 use Rattle.daybook.proofs.Lists.{entryOn, pointOf}
 use Rattle.layout.specs.Layout.{numAt, pointFrom}
 use Rattle.readings.specs.Readings.{pointAt, Readable, daysBefore}
 use Rattle.readings.specs.Records.{recordOf, partBetween, partialOf}
 use Rattle.readings.proofs.Part.{RecordOk}
-use Rattle.readings.proofs.Raised.{energies-near, raised-difference}
 use Rattle.readings.proofs.Records.{dayOf, before-most, days-by-rows}
 
 -- What the code has at hand of an entry: its raised energy u, its n days, those before x and before y, and the raised

@@ -1,5 +1,5 @@
 -- The points of a sound table: each part is readable, and a sum over the points goes by parts. Assumes nothing.
-use mathlib.Core.Path.{_≡_, refl, ap, ap₂, _∙_}
+use mathlib.Core.Path.{_≡_, refl, ap, _∙_}
 use mathlib.Core.Bool.{true, false}
 use mathlib.Core.List.{List, map}
 use Prim.Native.Nat.{ℕ, zero, suc, _+_, _*_, _≤_, _<_}
@@ -7,7 +7,7 @@ use native.Mathlib.Omega.{arith}
 use borrow.Author.Tests.{leb-true}
 use lib.ListN.{length, drop, length-take, length-drop}
 use lib.Seq.{drop-drop}
-use lib.IntN.{ℤ, pos, _+ℤ_}
+use lib.IntN.{ℤ, _+ℤ_}
 use Rattle.numbers.specs.Sums.{sumFrom}
 use Rattle.numbers.proofs.Bools.{both}
 use Rattle.numbers.proofs.Rows.{all-at}
@@ -16,7 +16,7 @@ use Rattle.daybook.specs.Queries.{sumOf}
 use Rattle.daybook.proofs.Lists.{pointOf, bookOf}
 use Rattle.layout.specs.Calls.{ofTable}
 use Rattle.layout.specs.Layout.{standard, partOf, numAt, pointsFrom, registerOf, tableBook}
-use Rattle.layout.specs.Sound.{partSound, sound}
+use Rattle.layout.specs.Sound.{sound}
 use Rattle.readings.specs.Readings.{pointAt, Readable}
 
 pub part-readable : (t : List ℤ) → sound standard t ≡ true → (i : ℕ) → i < numAt t 0 → Readable (partOf standard t i)

@@ -1,19 +1,17 @@
 -- The share of one day is an energy: it lies from -1,000,000 to 1,000,000. Assumes nothing.
-use mathlib.Core.Path.{_≡_, refl, sym, ap, _∙_}
-use mathlib.Core.Bool.{Bool, true, false}
+use mathlib.Core.Path.{_≡_, sym, ap, _∙_}
 use mathlib.Core.Option.{Option}
 use mathlib.Core.List.{List}
 use Prim.Native.Nat.{ℕ, suc, _+_, _-_, _≤_, _<_}
 use native.Mathlib.Omega.{arith}
-use borrow.Author.Tests.{ltb-true, ltb-false}
-use lib.Dec.{ltb}
-use lib.IntN.{ℤ, subℕ, _-ℤ_, +ℤ-idr}
+use lib.IntN.{ℤ, subℕ, _-ℤ_}
 use Rattle.numbers.specs.Naturals.{biasOf, energyOf}
 use Rattle.numbers.specs.Shares.{partialEnergy}
 use Rattle.numbers.specs.Sums.{sumFrom}
-use Rattle.numbers.proofs.Integers.{up, dn, sub-fact, sub-minus}
+use Rattle.numbers.proofs.Integers.{up, dn, sub-fact, sub-minus, raise, sub-near}
 use Rattle.numbers.proofs.Naturals.{bias-is}
-use Rattle.numbers.proofs.Shares.{raisedPart, raised-partial}
+use Rattle.numbers.proofs.Sums.{sum-one}
+use Rattle.numbers.proofs.Shares.{raisedPart, raised-partial, raised-near}
 use Rattle.daybook.specs.Book.{Entry, fill, dayShare}
 use Rattle.daybook.proofs.Apart.{Place, inside, under, over, place}
 use Rattle.daybook.proofs.Lists.{entryOn, pointOf}
@@ -22,25 +20,17 @@ use Rattle.layout.specs.Layout.{pointFrom}
 use Rattle.readings.specs.Readings.{pointAt, Readable}
 use Rattle.readings.specs.Records.{partialOf}
 use Rattle.readings.proofs.Part.{part-well, RecordOk, first-ok}
-use Rattle.readings.proofs.Raised.{raise, parts-near}
 use Rattle.readings.proofs.Records.{dayOf}
 use Rattle.readings.proofs.Energy.{share-day}
 
 abbrev Small : ℤ → Type 0
 Small z = (up z ≤ 1000000) × (dn z ≤ 1000000)
 
-near-small : (a b : ℕ) → a ≤ b + 1000000 → b ≤ a + 1000000 → Small (subℕ a b)
-near-small a b h k = go (ltb a b) refl
-  where
-    go : (t : Bool) → ltb a b ≡ t → Small (subℕ a b)
-    go true e = let l : a < b = ltb-true a b e in rw e (omega arith, omega arith)
-    go false e = let l : b ≤ a = ltb-false a b e in rw e (omega arith, omega arith)
-
 -- two of an entry's parts differ by an energy
 part-small : {e : Entry} → RecordOk e → (i j : ℕ) → i ≤ suc (e .end) - e .start → j ≤ suc (e .end) - e .start → Small (partialOf e j -ℤ partialOf e i)
 unfolding partialOf
 part-small {e} ok i j h k =
-    rw (part i h, part j k, sub-minus (raisedPart u n j) (raisedPart u n i) 1000000) (near-small (raisedPart u n j) (raisedPart u n i) (parts-near u n j i (ok .small) l k h) (parts-near u n i j (ok .small) l h k))
+    rw (part i h, part j k, sub-minus (raisedPart u n j) (raisedPart u n i) 1000000) (sub-near (raisedPart u n j) (raisedPart u n i) 1000000 (raised-near u n j i (ok .small) l k h) (raised-near u n i j (ok .small) l h k))
   where
     u : ℕ
     u = biasOf (e .energy)
@@ -74,14 +64,10 @@ module _ {p : List ℤ} (ok : Readable p) (d r : ℕ) where
   unfolding pointAt pointOf dayShare
   share-small = rw (share-day (entryOn (pointFrom p .recs) d) d) (day-small (part-well ok .recsOk) d)
 
-  sum-one : sumFrom (dayShare (pointAt p)) d (d + 1 - d) ≡ dayShare (pointAt p) d
-  unfolding sumFrom
-  sum-one = let e : d + 1 - d ≡ 1 = omega arith in rw e (+ℤ-idr (dayShare (pointAt p) d))
-
   pub one-share : subℕ r 2000000000 ≡ sumFrom (dayShare (pointAt p)) d (d + 1 - d)
       → (1999000000 ≤ r) × ((subℕ (r - 1999000000) 1000000 ≡ dayShare (pointAt p) d) × (r - 1999000000 ≤ 2000000))
   one-share e =
-      let q : subℕ r 2000000000 ≡ dayShare (pointAt p) d = e ∙ sum-one in
+      let q : subℕ r 2000000000 ≡ dayShare (pointAt p) d = e ∙ sum-one (dayShare (pointAt p)) d in
       let low : 1999000000 ≤ r = omega (arith, share-small, sub-fact r 2000000000, ap up q, ap dn q) in
       let high : r ≤ 2001000000 = omega (arith, share-small, sub-fact r 2000000000, ap up q, ap dn q) in
       let m : r - 1999000000 ≡ r + 1000000 - 2000000000 = omega arith in

@@ -1,13 +1,13 @@
-use Prim.Native.Nat.{_+_, _-_, _*_, _≤_}
+use Prim.Native.Nat.{_-_, _*_, _≤_}
 use mathlib.Core.Path.{_≡_, sym, ap, subst, _∙_}
 use native.Mathlib.Omega.{arith}
 use lib.IntN.{subℕ}
 use Rattle.numbers.specs.Sums.{sumFrom}
-use Rattle.numbers.proofs.Sums.{sum-none}
+use Rattle.numbers.proofs.Sums.{sum-none, sum-turn}
+use Rattle.numbers.proofs.Integers.{raise}
 use Rattle.daybook.specs.Book.{dayShare}
 use Rattle.readings.specs.Readings.{pointAt}
 use Rattle.readings.proofs.Part.{part-counted}
-use Rattle.readings.proofs.Raised.{raise, sum-turn}
 use Rattle.account.specs.Registrations.{ownIn}
 use Rattle.account.proofs.Registrations.{own-by-rows}
 use borrow.Author.Needs.{needs}

@@ -1,10 +1,7 @@
-use Prim.Native.Nat.{suc, _-_}
-use mathlib.Core.Path.{_≡_, ap, ap₂, sym, _∙_}
-use native.Mathlib.Numerals.{add-one}
+use Prim.Native.Nat.{_-_}
+use mathlib.Core.Path.{sym, _∙_}
 use native.Mathlib.Omega.{arith}
-use Rattle.numbers.specs.Sums.{sumFrom}
 use Rattle.readings.proofs.Part.{part-counted}
-use Rattle.account.specs.Registrations.{startIn}
 use Rattle.account.proofs.Registrations.{next-later, own-other, own-same}
 use borrow.Author.Needs.{needs}
 use Rattle.account.proofs.registration_energy.Statement.{statement}

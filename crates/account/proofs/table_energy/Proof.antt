@@ -5,12 +5,11 @@ use mir.Syntax.{w64}
 use mir.ValLaws.{toZ-ofZ}
 use lib.IntN.{subℕ}
 use Rattle.numbers.specs.Sums.{sumFrom}
-use Rattle.numbers.proofs.Sums.{sum-none}
+use Rattle.numbers.proofs.Sums.{sum-none, sum-turn}
 use Rattle.daybook.specs.Queries.{ownShare}
 use Rattle.layout.specs.Layout.{standard, partOf}
 use Rattle.table.proofs.Laws.{sound-long}
 use Rattle.readings.specs.Readings.{pointAt, Readable}
-use Rattle.readings.proofs.Raised.{sum-turn}
 use Rattle.readings.proofs.Points.{part-readable}
 use Rattle.account.proofs.Call.{table-sum}
 use borrow.Author.Needs.{sfits-of, needs}

@@ -3,10 +3,10 @@ use mathlib.Core.Path.{_≡_, sym, ap, subst, _∙_}
 use native.Mathlib.Omega.{arith}
 use lib.IntN.{subℕ}
 use Rattle.numbers.specs.Sums.{sumFrom}
-use Rattle.numbers.proofs.Sums.{sum-none}
+use Rattle.numbers.proofs.Sums.{sum-none, sum-turn}
+use Rattle.numbers.proofs.Integers.{raise}
 use Rattle.readings.specs.Records.{recordOf, partBetween, partialOf}
 use Rattle.readings.proofs.Part.{part-counted}
-use Rattle.readings.proofs.Raised.{raise, sum-turn}
 use Rattle.readings.proofs.Energy.{energy-by-rows}
 use borrow.Author.Needs.{needs}
 use Rattle.readings.proofs.energy_between.Statement.{statement}

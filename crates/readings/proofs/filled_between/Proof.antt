@@ -3,10 +3,10 @@ use mathlib.Core.Path.{_≡_, sym, ap, _∙_}
 use native.Mathlib.Omega.{arith}
 use lib.IntN.{pos}
 use Rattle.numbers.specs.Sums.{sumFrom}
-use Rattle.numbers.proofs.Sums.{sum-none}
+use Rattle.numbers.proofs.Sums.{sum-none, count-turn}
+use Rattle.numbers.proofs.Integers.{pos-same}
 use Rattle.readings.specs.Records.{recordOf, partBetween, countOf}
 use Rattle.readings.proofs.Part.{part-counted}
-use Rattle.readings.proofs.Raised.{count-turn, pos-same}
 use Rattle.readings.proofs.Days.{filled-by-rows}
 use borrow.Author.Needs.{needs}
 use Rattle.readings.proofs.filled_between.Statement.{statement}
