@@ -104,13 +104,16 @@ pub sum-if : (t : Bool) (f : ℕ → ℤ) (a n : ℕ) → sumFrom (λ d. cond t 
 sum-if true f a n = refl
 sum-if false f a n = sum-zero _ a n (λ d h k. refl)
 
--- ---- a loop that adds up, from index 0 on
+-- ---- a loop that adds up, from index 0 on: one more term, and the end
 
-module _ (f : ℕ → ℤ) (n acc u : ℕ) where
+module _ (f : ℕ → ℤ) (m k acc : ℕ) where
   -- terms raised by m
-  pub sum-turn : (m : ℕ) → sumFrom f 0 n ≡ subℕ acc (m * n) → subℕ u m ≡ f n → sumFrom f 0 (n + 1) ≡ subℕ (acc + u) (m * (n + 1))
-  sum-turn m h e = let z : n ≡ 0 + n = omega arith in sum-raised f m 0 n acc u h (e ∙ ap f z)
+  pub sum-turn : (u : ℕ) → sumFrom f 0 k ≡ subℕ acc (m * k) → subℕ u m ≡ f k → sumFrom f 0 (k + 1) ≡ subℕ (acc + u) (m * (k + 1))
+  sum-turn u h e = let z : k ≡ 0 + k = omega arith in sum-raised f m 0 k acc u h (e ∙ ap f z)
 
-  -- naturals
-  pub count-turn : sumFrom f 0 n ≡ pos acc → pos u ≡ f n → sumFrom f 0 (n + 1) ≡ pos (acc + u)
-  count-turn h e = let z : n ≡ 0 + n = omega arith in sum-more f 0 n ∙ ap₂ _+ℤ_ h (sym (e ∙ ap f z))
+  pub sum-end : (n : ℕ) → sumFrom f 0 k ≡ subℕ acc (m * k) → k ≡ n → subℕ acc (m * n) ≡ sumFrom f 0 n
+  sum-end n h e = rw (← e) (sym h)
+
+-- naturals
+pub count-turn : (f : ℕ → ℤ) (k acc u : ℕ) → sumFrom f 0 k ≡ pos acc → pos u ≡ f k → sumFrom f 0 (k + 1) ≡ pos (acc + u)
+count-turn f k acc u h e = let z : k ≡ 0 + k = omega arith in sum-more f 0 k ∙ ap₂ _+ℤ_ h (sym (e ∙ ap f z))

@@ -30,7 +30,8 @@ Small z = (up z ≤ 1000000) × (dn z ≤ 1000000)
 part-small : {e : Entry} → RecordOk e → (i j : ℕ) → i ≤ suc (e .end) - e .start → j ≤ suc (e .end) - e .start → Small (partialOf e j -ℤ partialOf e i)
 unfolding partialOf
 part-small {e} ok i j h k =
-    rw (part i h, part j k, sub-minus (raisedPart u n j) (raisedPart u n i) 1000000) (sub-near (raisedPart u n j) (raisedPart u n i) 1000000 (raised-near u n j i (ok .small) l k h) (raised-near u n i j (ok .small) l h k))
+    rw (part i h, part j k, sub-minus (raisedPart u n j) (raisedPart u n i) 1000000)
+    (sub-near (raisedPart u n j) (raisedPart u n i) 1000000 (raised-near u n j i (ok .small) l k h) (raised-near u n i j (ok .small) l h k))
   where
     u : ℕ
     u = biasOf (e .energy)

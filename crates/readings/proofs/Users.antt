@@ -33,13 +33,12 @@ module _ (p : List ℤ) (g n j u : ℕ) where
   unfolding userOn rowsAt
   user-more v l e = let m : n - j ≡ suc (n - (j + 1)) = omega arith in rw (m, add-one j, e)
 
-  pub user-end : n ≤ j → userLeft p g n j u ≡ u
-  unfolding userOn rowsAt
-  user-end l = let m : n - j ≡ 0 = omega arith in rw m
-
-pub fro-is : (p : List ℤ) (g : ℕ) → userLeft p g (numAt p 4) 0 0 ≡ pointAt p .fro g
-unfolding pointAt pointOf
-fro-is p g = let m : numAt p 4 - 0 ≡ numAt p 4 = omega arith in rw m (ap (λ l. userOn 0 l g) (sym (regs-of p)))
+  pub user-end : n ≤ j → n ≡ numAt p 4 → userLeft p g n j u ≡ userLeft p g n 0 0 → u ≡ pointAt p .fro g
+  unfolding userOn rowsAt pointAt pointOf
+  user-end l e h =
+      let m : n - j ≡ 0 = omega arith in
+      let k : n - 0 ≡ numAt p 4 = omega arith in
+      (rw m at h) ∙ ap (λ i. userOn 0 (rowsAt (regRow p) 0 i) g) k ∙ ap (λ l. userOn 0 l g) (sym (regs-of p))
 
 pub fro-few : {p : List ℤ} → Readable p → (g : ℕ) → pointAt p .fro g ≤ 16
 unfolding pointAt pointOf

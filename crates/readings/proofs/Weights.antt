@@ -45,17 +45,21 @@ module _ (p : Point) (g a b : ℕ) where
 
 -- ---- a daily point's gas
 
+-- The test of the seven days before g gives t.
+abbrev pub Week : Point → ℕ → Bool → Type 0
+Week p g t = (leb 7 g && allFilled p (g - 7) 7) ≡ t
+
 module _ (p : Point) (g : ℕ) where
   pub gas-day : filled p g ≡ true → dayShare p g ≡ dailyGas g p
   unfolding dailyGas
   gas-day e = rw e
 
   module _ (no : filled p g ≡ false) where
-    pub gas-week : (leb 7 g && allFilled p (g - 7) 7) ≡ true → dayShare p (g - 7) ≡ dailyGas g p
+    pub gas-week : Week p g true → dayShare p (g - 7) ≡ dailyGas g p
     unfolding dailyGas
     gas-week e = rw (no, e)
 
-    module _ (nor : (leb 7 g && allFilled p (g - 7) 7) ≡ false) where
+    module _ (nor : Week p g false) where
       pub gas-before : filled p (g - 1) ≡ true → dayShare p (g - 1) ≡ dailyGas g p
       unfolding dailyGas
       gas-before e = rw (no, nor, e)
@@ -64,7 +68,7 @@ module _ (p : Point) (g : ℕ) where
       unfolding dailyGas
       gas-none e = rw (no, nor, e)
 
-  pub week-long : (leb 7 g && allFilled p (g - 7) 7) ≡ true → 7 ≤ g
+  pub week-long : Week p g true → 7 ≤ g
   week-long e = leb-true 7 g (both _ _ e .0)
 
   pub metered-gas : (active g p && eqb (p .facts .kind) 1) ≡ true → dailyGas g p ≡ meteredOf g p

@@ -1,9 +1,9 @@
 use Prim.Native.Nat.{_-_, _*_, _≤_}
-use mathlib.Core.Path.{_≡_, sym, ap, subst, _∙_}
+use mathlib.Core.Path.{_≡_, ap, _∙_}
 use native.Mathlib.Omega.{arith}
 use lib.IntN.{subℕ}
 use Rattle.numbers.specs.Sums.{sumFrom}
-use Rattle.numbers.proofs.Sums.{sum-none, sum-turn}
+use Rattle.numbers.proofs.Sums.{sum-none, sum-turn, sum-end}
 use Rattle.numbers.proofs.Integers.{raise}
 use Rattle.daybook.specs.Book.{dayShare}
 use Rattle.readings.specs.Readings.{pointAt}
@@ -42,7 +42,7 @@ loop-less c = search needs
 loop-again : tie.Need-loop-again Inv-loop μ-loop
 loop-again c =
     let l = c .before .before .loop in
-    (search needs, search needs, sum-turn _ (l .j) (l .sum) _ 2000000000 (l .inv .2) (c .registration-energy .ensures .0))
+    (search needs, search needs, sum-turn _ 2000000000 (l .j) (l .sum) _ (l .inv .2) (c .registration-energy .ensures .0))
 
 add-result : tie.Need-add-result Inv-loop μ-loop
 add-result c = let h = part-counted (c .before .before .before .pre .0) in search needs
@@ -61,7 +61,7 @@ returns c =
     let h = part-counted (s .pre .0) in
     let e : l .j ≡ n = omega arith in (
       raise (l .sum) (2000000000 * n) 16000000000 (omega arith)
-          ∙ sym (subst (λ k. sumFrom (ownIn (dayShare (pointAt (s .args .p .now))) (s .args .user) (s .args .p .now) (s .args .x) (s .args .y)) 0 k ≡ subℕ (l .sum) (2000000000 * k)) e (l .inv .2))
+          ∙ sum-end _ 2000000000 (l .j) (l .sum) n (l .inv .2) e
           ∙ ap (sumFrom _ 0) (c .before .before .get .ensures .0)
           ∙ own-by-rows (s .pre .0) (s .args .user) (s .args .x) (s .args .y) (s .pre .1) (s .pre .2),
       omega arith,

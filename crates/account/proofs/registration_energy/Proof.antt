@@ -41,9 +41,10 @@ energy-between-requires c κs =
 returns-2 : tie.Need-returns-2
 returns-2 c =
     let s = c .before .before .before .before .before in
-    let h = part-counted (s .pre .0) in (
+    let h = part-counted (s .pre .0) in
+    let same = sym (c .before .before .before .before .get .ensures .0) ∙ c .before .before .before .if1 .left in (
       c .energy-between .ensures .0
-          ∙ own-same _ (s .args .user) (s .args .p .now) (s .args .x) (s .args .y) (s .args .j) (sym (c .before .before .before .before .get .ensures .0) ∙ c .before .before .before .if1 .left) (c .before .before .start-in .ensures) (c .before .start-in2 .ensures),
+          ∙ own-same _ (s .args .user) (s .args .p .now) (s .args .x) (s .args .y) (s .args .j) same (c .before .before .start-in .ensures) (c .before .start-in2 .ensures),
       omega arith,
     )
 

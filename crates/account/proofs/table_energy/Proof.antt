@@ -5,7 +5,7 @@ use mir.Syntax.{w64}
 use mir.ValLaws.{toZ-ofZ}
 use lib.IntN.{subℕ}
 use Rattle.numbers.specs.Sums.{sumFrom}
-use Rattle.numbers.proofs.Sums.{sum-none, sum-turn}
+use Rattle.numbers.proofs.Sums.{sum-none, sum-turn, sum-end}
 use Rattle.daybook.specs.Queries.{ownShare}
 use Rattle.layout.specs.Layout.{standard, partOf}
 use Rattle.table.proofs.Laws.{sound-long}
@@ -55,7 +55,7 @@ loop-again c =
     let s = c .before .before .before .before .before in (
       search needs,
       search needs,
-      sum-turn _ (l .i) (l .sum) _ 16000000000 (l .inv .2)
+      sum-turn _ 16000000000 (l .i) (l .sum) _ (l .inv .2)
           (c .point-energy .ensures .0 ∙ ap (λ p. sumFrom (ownShare (s .args .user) (pointAt p)) (s .args .a) (s .args .b + 1 - s .args .a)) (c .before .part .ensures .0)),
     )
 
@@ -72,7 +72,7 @@ returns c =
     let n = c .before .before .before .get .result in
     let e : l .i ≡ n = omega arith in
     toZ-ofZ w64 _ (sfits-of (c .difference .ok)) ∙ c .difference .ensures
-    ∙ sym (subst (λ k. sumFrom (λ i. sumFrom (ownShare (s .args .user) (pointAt (partOf standard (s .args .t .now) i))) (s .args .a) (s .args .b + 1 - s .args .a)) 0 k ≡ subℕ (l .sum) (16000000000 * k)) e (l .inv .2))
+    ∙ sum-end _ 16000000000 (l .i) (l .sum) n (l .inv .2) e
     ∙ ap (sumFrom _ 0) (c .before .before .before .get .ensures .0)
     ∙ table-sum (s .args .t .now) (s .args .user) (s .args .a) (s .args .b)
 

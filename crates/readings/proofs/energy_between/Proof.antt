@@ -1,9 +1,9 @@
 use Prim.Native.Nat.{_-_, _*_, _≤_}
-use mathlib.Core.Path.{_≡_, sym, ap, subst, _∙_}
+use mathlib.Core.Path.{_≡_, ap, _∙_}
 use native.Mathlib.Omega.{arith}
 use lib.IntN.{subℕ}
 use Rattle.numbers.specs.Sums.{sumFrom}
-use Rattle.numbers.proofs.Sums.{sum-none, sum-turn}
+use Rattle.numbers.proofs.Sums.{sum-none, sum-turn, sum-end}
 use Rattle.numbers.proofs.Integers.{raise}
 use Rattle.readings.specs.Records.{recordOf, partBetween, partialOf}
 use Rattle.readings.proofs.Part.{part-counted}
@@ -40,7 +40,7 @@ loop-less c = search needs
 loop-again : tie.Need-loop-again Inv-loop μ-loop
 loop-again c =
     let l = c .before .before .loop in
-    (search needs, search needs, sum-turn _ (l .k) (l .sum) _ 1000000 (l .inv .2) (c .record-energy .ensures .0))
+    (search needs, search needs, sum-turn _ 1000000 (l .k) (l .sum) _ (l .inv .2) (c .record-energy .ensures .0))
 
 add-result : tie.Need-add-result Inv-loop μ-loop
 add-result c = let h = part-counted (c .before .before .before .pre .0) in search needs
@@ -59,7 +59,7 @@ returns c =
     let h = part-counted (s .pre .0) in
     let e : l .k ≡ n = omega arith in (
       raise (l .sum) (1000000 * n) 2000000000 (omega arith)
-          ∙ sym (subst (λ k. sumFrom (λ i. partBetween partialOf (s .args .x) (s .args .y) (recordOf (s .args .p .now) i)) 0 k ≡ subℕ (l .sum) (1000000 * k)) e (l .inv .2))
+          ∙ sum-end _ 1000000 (l .k) (l .sum) n (l .inv .2) e
           ∙ ap (sumFrom _ 0) (c .before .before .get .ensures .0)
           ∙ energy-by-rows (s .pre .0) (s .args .x) (s .args .y) (s .pre .1),
       omega arith,

@@ -1,9 +1,8 @@
 use Prim.Native.Nat.{_-_, _≤_}
-use mathlib.Core.Path.{_≡_, refl, sym, ap, _∙_}
+use mathlib.Core.Path.{_≡_, refl, _∙_}
 use native.Mathlib.Omega.{arith}
-use Rattle.readings.specs.Readings.{pointAt}
 use Rattle.readings.proofs.Part.{part-counted}
-use Rattle.readings.proofs.Users.{userLeft, user-more, user-end, fro-is, fro-few}
+use Rattle.readings.proofs.Users.{userLeft, user-more, user-end, fro-few}
 use borrow.Author.Needs.{needs}
 use Rattle.readings.proofs.fro_on.Statement.{statement}
 use Rattle.readings.proofs.fro_on.Tie as tie
@@ -39,10 +38,8 @@ returns : tie.Need-returns Inv-loop μ-loop
 returns c =
     let l = c .before .loop in
     let s = c .before .before .before in
-    let e : l .user ≡ pointAt (s .args .p .now) .fro (s .args .g) =
-    sym (user-end (s .args .p .now) (s .args .g) _ (l .j) (l .user) (omega arith)) ∙ l .inv .1
-    ∙ ap (λ n. userLeft (s .args .p .now) (s .args .g) n 0 0) (c .before .before .get .ensures .0) ∙ fro-is (s .args .p .now) (s .args .g)
-    in (e, omega (arith, fro-few (s .pre) (s .args .g)))
+    let e = user-end (s .args .p .now) (s .args .g) _ (l .j) (l .user) (omega arith) (c .before .before .get .ensures .0) (l .inv .1) in
+    (e, omega (arith, e, fro-few (s .pre) (s .args .g)))
 
 pub fro-on-spec : {M : Type 1} → statement M
 fro-on-spec =

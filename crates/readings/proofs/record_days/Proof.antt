@@ -49,8 +49,10 @@ returns c =
     let s = c .before .before .before .before in
     let h = row s in
     let starts = c .before .before .before .get .ensures .0 in
-    let ends = c .before .before .get2 .ensures .0 in (
-      ap₂ (λ j i. pos (j - i)) (c .before .days-before .ensures .0 ∙ ap₂ (λ a b. daysBefore a b (s .args .y)) starts ends) (c .days-before2 .ensures .0 ∙ ap₂ (λ a b. daysBefore a b (s .args .x)) starts ends)
+    let ends = c .before .before .get2 .ensures .0 in
+    let j = c .before .days-before .ensures .0 ∙ ap₂ (λ a b. daysBefore a b (s .args .y)) starts ends in
+    let i = c .days-before2 .ensures .0 ∙ ap₂ (λ a b. daysBefore a b (s .args .x)) starts ends in (
+      ap₂ (λ j i. pos (j - i)) j i
           ∙ count-is (recordOf (s .args .p .now) (s .args .k)) (s .args .x) (s .args .y) (s .pre .2),
       omega arith,
     )

@@ -3,6 +3,7 @@ use mathlib.Core.Bool.{_&&_}
 use native.Mathlib.Omega.{arith}
 use borrow.Author.Tests.{not-true, not-false}
 use lib.Dec.{eqb}
+use Rattle.daybook.specs.Book.{Point}
 use Rattle.daybook.specs.Queries.{active}
 use Rattle.readings.specs.Readings.{pointAt}
 use Rattle.readings.proofs.Part.{part-counted}
@@ -12,8 +13,13 @@ use borrow.Author.Needs.{needs}
 use Rattle.readings.proofs.weight.Statement.{statement}
 use Rattle.readings.proofs.weight.Tie as tie
 
--- what the test decides
-test-is : (c : tie.After-get) → (c .before .active .result && eqb (c .get .result) 0) ≡ (active (c .before .before .args .g) (pointAt (c .before .before .args .p .now)) && eqb (pointAt (c .before .before .args .p .now) .facts .kind) 0)
+-- the point, and what the test decides
+abbrev point : tie.Start → Point
+point s = pointAt (s .args .p .now)
+
+test-is : (c : tie.After-get)
+    → let s : tie.Start = c .before .before in
+    (c .before .active .result && eqb (c .get .result) 0) ≡ (active (s .args .g) (point s) && eqb (point s .facts .kind) 0)
 test-is c = ap₂ (λ a k. a && eqb k 0) (c .before .active .ensures) (c .get .ensures .0 ∙ kind-is (c .before .before .args .p .now))
 
 active-requires : tie.Need-active-requires
@@ -26,7 +32,7 @@ returns : tie.Need-returns
 returns c =
     let t = c .before in
     let s = t .before .before in
-    (weight-none (pointAt (s .args .p .now)) (s .args .g) (s .args .a) (s .args .b) (sym (test-is t) ∙ not-true _ (c .if1 .taken)), search needs)
+    (weight-none (point s) (s .args .g) (s .args .a) (s .args .b) (sym (test-is t) ∙ not-true _ (c .if1 .taken)), search needs)
 
 add-filled-between : tie.Need-add-filled-between
 add-filled-between c = search needs
@@ -41,9 +47,10 @@ returns-2 : tie.Need-returns-2
 returns-2 c =
     let i = c .before .before .before in
     let s = i .before .before .before in
-    let h = base-few (s .pre .0) in (
+    let h = base-few (s .pre .0) in
+    let none = sym (c .before .before .filled-between .ensures) ∙ c .before .if2 .taken in (
       c .get2 .ensures .0 ∙ base-is (s .args .p .now)
-          ∙ weight-base (pointAt (s .args .p .now)) (s .args .g) (s .args .a) (s .args .b) (sym (test-is (i .before)) ∙ not-false _ (i .if1 .left)) (sym (c .before .before .filled-between .ensures) ∙ c .before .if2 .taken),
+          ∙ weight-base (point s) (s .args .g) (s .args .a) (s .args .b) (sym (test-is (i .before)) ∙ not-false _ (i .if1 .left)) none,
       omega arith,
     )
 
@@ -56,7 +63,8 @@ returns-3 c =
     let s = i .before .before .before in
     let h = part-counted (s .pre .0) in (
       c .measured .ensures .0
-          ∙ weight-measured (pointAt (s .args .p .now)) (s .args .g) (s .args .a) (s .args .b) (sym (test-is (i .before)) ∙ not-false _ (i .if1 .left)) (λ e. c .before .if2 .left (c .before .before .filled-between .ensures ∙ e)),
+          ∙ weight-measured (point s) (s .args .g) (s .args .a) (s .args .b) (sym (test-is (i .before)) ∙ not-false _ (i .if1 .left))
+          (λ e. c .before .if2 .left (c .before .before .filled-between .ensures ∙ e)),
       omega arith,
     )
 
