@@ -59,8 +59,11 @@ dailyGas g p =
     cond (filled p g) (dayShare p g) weekBefore
 
 -- TDM sums the active daily points.
+unfoldable pub meteredOf : ℕ → Point → ℤ
+meteredOf g p = cond (active g p && eqb (p .facts .kind) 1) (dailyGas g p) (pos 0)
+
 unfoldable pub tdmOf : ℕ → Book → ℤ
-tdmOf g B = sumOf (λ p. cond (active g p && eqb (p .facts .kind) 1) (dailyGas g p) (pos 0)) (B .points)
+tdmOf g B = sumOf (meteredOf g) (B .points)
 
 -- A negative number counts 0.
 abbrev pub atLeast0 : ℤ → ℕ

@@ -1,0 +1,2 @@
+-- What an allocation is told, and what it leaves of the answer table.
+pub mod Allocate
