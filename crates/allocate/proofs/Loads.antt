@@ -76,22 +76,22 @@ and-where : (p : Bool) {x y : Bool} → (p ≡ true → x ≡ y) → (p && x) �
 and-where true f = f refl
 and-where false f = refl
 
+-- days are naturals
+pub same-order : (x y : ℤ) → isDay x ≡ true → isDay y ≡ true → (leb (natOf x) (natOf y) ≡ leZ x y) × (ltb (natOf x) (natOf y) ≡ ltZ x y)
+same-order (pos x) (pos y) e f = (refl, refl)
+same-order (pos x) (negsuc y) e f = let z : _≡_ {A = ℕ} 0 1 = cc in absurd (omega arith)
+same-order (negsuc x) y e f = let z : _≡_ {A = ℕ} 0 1 = cc in absurd (omega arith)
+
+window-is : (x y : ℕ) → leb y (x + 399) ≡ leb (y - x) 399
+window-is x y = go (leb y (x + 399)) refl
+  where
+    go : (t : Bool) → leb y (x + 399) ≡ t → t ≡ leb (y - x) 399
+    go true e = sym (le-leb (y - x) 399 (omega (arith, leb-true y (x + 399) e)))
+    go false e = sym (lt-leb (y - x) 399 (omega (arith, leb-false y (x + 399) e)))
+
 module _ (g a b : ℤ) where
   abbrev areDays : Bool
   areDays = isDay g && isDay a && isDay b
-
-  -- days are naturals
-  same-order : (x y : ℤ) → isDay x ≡ true → isDay y ≡ true → (leb (natOf x) (natOf y) ≡ leZ x y) × (ltb (natOf x) (natOf y) ≡ ltZ x y)
-  same-order (pos x) (pos y) e f = (refl, refl)
-  same-order (pos x) (negsuc y) e f = let z : _≡_ {A = ℕ} 0 1 = cc in absurd (omega arith)
-  same-order (negsuc x) y e f = let z : _≡_ {A = ℕ} 0 1 = cc in absurd (omega arith)
-
-  window-is : (x y : ℕ) → leb y (x + 399) ≡ leb (y - x) 399
-  window-is x y = go (leb y (x + 399)) refl
-    where
-      go : (t : Bool) → leb y (x + 399) ≡ t → t ≡ leb (y - x) 399
-      go true e = sym (le-leb (y - x) 399 (omega (arith, leb-true y (x + 399) e)))
-      go false e = sym (lt-leb (y - x) 399 (omega (arith, leb-false y (x + 399) e)))
 
   in-order : areDays ≡ true → (leb (natOf a) (natOf b) ≡ leZ a b) × (ltb (natOf b) (natOf g) ≡ ltZ b g)
   in-order e =

@@ -64,7 +64,7 @@ product-small load acc a b = omega (arith, mul-le-mul a b)
 pub nothing-yet : (load s : ℕ) → (load * 0) / s ≡ 0
 nothing-yet load s = rw (mul-zero load) (zero-div s)
 
-share-is : (load s acc x : ℕ) → 0 < s → pos ((load * (acc + x)) / s - (load * acc) / s) ≡ floorPart (pos load) s (acc + x) -ℤ floorPart (pos load) s acc
+pub share-is : (load s acc x : ℕ) → 0 < s → pos ((load * (acc + x)) / s - (load * acc) / s) ≡ floorPart (pos load) s (acc + x) -ℤ floorPart (pos load) s acc
 unfolding floorPart
 share-is load s acc x p =
     eqZ _ _ (omega (arith, part-up load acc x s p, minus-fact (pos ((load * (acc + x)) / s)) (pos ((load * acc) / s))))
