@@ -21,7 +21,8 @@ use Rattle.daybook.proofs.Rows.{above, least-first, least-skip}
 use Rattle.layout.specs.Layout.{standard, partOf, numAt, tableBook}
 use Rattle.layout.specs.Sound.{sound}
 use Rattle.readings.specs.Readings.{pointAt}
-use Rattle.readings.proofs.Points.{points-sum, query-unsound, query-sound}
+use Rattle.table.proofs.Calls.{query-unsound, query-sound}
+use Rattle.readings.proofs.Points.{points-sum}
 use Rattle.account.specs.Account.{accountCall}
 
 -- ---- row 2

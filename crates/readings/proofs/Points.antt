@@ -1,7 +1,7 @@
--- The points of a sound table: each part is readable, and a sum over the points goes by parts. Assumes nothing.
+-- The points of a sound table, part by part: each is readable. Assumes nothing.
 use mathlib.Core.Path.{_≡_, refl, ap, _∙_}
-use mathlib.Core.Bool.{true, false}
-use mathlib.Core.List.{List, map}
+use mathlib.Core.Bool.{true}
+use mathlib.Core.List.{List, _∷_, map}
 use Prim.Native.Nat.{ℕ, zero, suc, _+_, _*_, _≤_, _<_}
 use native.Mathlib.Omega.{arith}
 use borrow.Author.Tests.{leb-true}
@@ -11,12 +11,12 @@ use lib.IntN.{ℤ, _+ℤ_}
 use Rattle.numbers.specs.Sums.{sumFrom}
 use Rattle.numbers.proofs.Bools.{both}
 use Rattle.numbers.proofs.Rows.{all-at}
-use Rattle.daybook.specs.Book.{Point, Book}
+use Rattle.daybook.specs.Book.{Point}
 use Rattle.daybook.specs.Queries.{sumOf}
 use Rattle.daybook.proofs.Lists.{pointOf, bookOf}
-use Rattle.layout.specs.Calls.{ofTable}
 use Rattle.layout.specs.Layout.{standard, partOf, numAt, pointsFrom, registerOf, tableBook}
 use Rattle.layout.specs.Sound.{sound}
+use Rattle.point.proofs.Rows.{rowsAt}
 use Rattle.readings.specs.Readings.{pointAt, Readable}
 
 pub part-readable : (t : List ℤ) → sound standard t ≡ true → (i : ℕ) → i < numAt t 0 → Readable (partOf standard t i)
@@ -34,26 +34,28 @@ part-readable t e i h =
       short = omega arith;
     }
 
-module _ (f : Point → ℤ) (t : List ℤ) where
-  sum-from : (n i : ℕ) → sumOf f (map pointOf (pointsFrom standard n (drop (8 + 240 * i) t))) ≡ sumFrom (λ k. f (pointAt (partOf standard t k))) i n
-  unfolding sumOf pointsFrom sumFrom pointAt partOf
-  sum-from zero i = refl
-  sum-from (suc n) i =
-      let e : 8 + 240 * i + 240 ≡ 8 + 240 * suc i = omega arith in
-      ap (λ z. f (pointAt (partOf standard t i)) +ℤ z)
-      (ap (λ l. sumOf f (map pointOf (pointsFrom standard n l))) (drop-drop 240 (8 + 240 * i) t ∙ ap (λ k. drop k t) e) ∙ sum-from n (suc i))
+-- ---- the points by index
 
-  pub points-sum : sumOf f (tableBook standard t .points) ≡ sumFrom (λ k. f (pointAt (partOf standard t k))) 0 (numAt t 0)
-  unfolding tableBook bookOf registerOf
-  points-sum = sum-from (numAt t 0) 0
+abbrev pub partPoint : List ℤ → ℕ → Point
+partPoint t i = pointAt (partOf standard t i)
 
--- ---- a query of a table
+points-from : (t : List ℤ) (n i : ℕ) → map pointOf (pointsFrom standard n (drop (8 + 240 * i) t)) ≡ rowsAt (partPoint t) i n
+unfolding pointsFrom rowsAt pointAt partOf
+points-from t zero i = refl
+points-from t (suc n) i =
+    let e : 8 + 240 * i + 240 ≡ 8 + 240 * suc i = omega arith in
+    ap (λ l. partPoint t i ∷ l)
+    (ap (λ l. map pointOf (pointsFrom standard n l)) (drop-drop 240 (8 + 240 * i) t ∙ ap (λ k. drop k t) e) ∙ points-from t n (suc i))
 
-module _ {A : Type 0} (refusal : A) (query : Book → A) (t : List ℤ) where
-  pub query-unsound : sound standard t ≡ false → ofTable refusal query standard t ≡ refusal
-  unfolding ofTable
-  query-unsound e = rw e
+pub points-are : (t : List ℤ) → tableBook standard t .points ≡ rowsAt (partPoint t) 0 (numAt t 0)
+unfolding tableBook bookOf registerOf
+points-are t = points-from t (numAt t 0) 0
 
-  pub query-sound : sound standard t ≡ true → ofTable refusal query standard t ≡ query (tableBook standard t)
-  unfolding ofTable
-  query-sound e = rw e
+module _ (f : Point → ℤ) where
+  sum-rows : (p : ℕ → Point) (i n : ℕ) → sumOf f (rowsAt p i n) ≡ sumFrom (λ k. f (p k)) i n
+  unfolding sumOf sumFrom rowsAt
+  sum-rows p i zero = refl
+  sum-rows p i (suc n) = ap (λ z. f (p i) +ℤ z) (sum-rows p (suc i) n)
+
+  pub points-sum : (t : List ℤ) → sumOf f (tableBook standard t .points) ≡ sumFrom (λ k. f (partPoint t k)) 0 (numAt t 0)
+  points-sum t = ap (sumOf f) (points-are t) ∙ sum-rows (partPoint t) 0 (numAt t 0)
