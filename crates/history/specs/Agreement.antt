@@ -12,7 +12,6 @@ use Rattle.daybook.specs.declared.AllocationQuery.{AllocationQuery}
 use Rattle.daybook.specs.Book.{Entry, Point, Book, filled, dayShare}
 use Rattle.daybook.specs.Notices.{Numbers}
 use Rattle.daybook.specs.Queries.{sumOf, accountOf, allocate}
-use Rattle.daybook.proofs.Lists.{Lists}
 use Rattle.daybook.proofs.Covering.{covering}
 use Rattle.layout.specs.Layout.{standard, partOf, pointFrom, tableBook}
 use Rattle.layout.specs.Sound.{sound}

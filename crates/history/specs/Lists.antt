@@ -1,8 +1,10 @@
 -- Lists of calls on a lent table, each on the table that the one before left.
 use mathlib.Core.List.{List, [], _∷_}
 use lib.IntN.{ℤ}
+use Rattle.daybook.specs.declared.Ranges.{Ranges}
 use Rattle.daybook.specs.Notices.{Numbers}
-use Rattle.daybook.specs.Calls.{Call, fresh!, open!, energy!, status!, request!, withdraw!, account!, allocate!, Answer}
+use Rattle.daybook.specs.Calls.{Call, fresh!, open!, energy!, status!, request!, withdraw!, account!, allocate!, State, Answer}
+use Rattle.layout.specs.Layout.{standard}
 use Rattle.opening.specs.Opening.{freshCall, openCall}
 use Rattle.energy.specs.Energy.{energyCall}
 use Rattle.status.specs.Status.{statusCall}
@@ -32,3 +34,7 @@ tableRun (c ∷ cs) t = tableRun cs (tableStep c t .1)
 unfoldable pub tableAnswers : List Call → List ℤ → List Answer
 tableAnswers [] t = []
 tableAnswers (c ∷ cs) t = let r : Answer × List ℤ = tableStep c t in r .0 ∷ tableAnswers cs (r .1)
+
+-- The state that an accepted fresh begins: the two ranges, and no points.
+abbrev pub freshState : Ranges → State
+freshState n = record { edition = standard; book = record { nondaily = n .nondaily; daily = n .daily; points = [] } }
