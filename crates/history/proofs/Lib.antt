@@ -1,2 +1,3 @@
+pub mod Accounts
 pub mod Entries
 pub mod Theorem
