@@ -4,4 +4,5 @@ pub mod Runs
 pub mod Accounts
 pub mod Entries
 pub mod Points
+pub mod SoundTables
 pub mod Theorem

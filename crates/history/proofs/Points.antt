@@ -1,34 +1,23 @@
 -- Point i of a sound table's book is the point of its part's lists, and on a filled day one registration of those covers
 -- the day. Assumes nothing.
-use mathlib.Core.Path.{_≡_, refl, subst}
-use mathlib.Core.Bool.{true, false≢true}
-use mathlib.Core.Option.{Option, none, some, Option·none-ne-some, Option·some-injective}
+use mathlib.Core.Path.{_≡_, subst}
+use mathlib.Core.Bool.{true}
+use mathlib.Core.Option.{some, Option·none-ne-some, Option·some-injective}
 use mathlib.Core.List.{List, _∷_, map}
 use Prim.Native.Nat.{ℕ, zero, suc, _+_, _≤_}
 use native.Mathlib.Omega.{arith}
 use lib.IntN.{ℤ}
 use lib.ListN.{drop}
-use Rattle.numbers.specs.Search.{isSome}
-use Rattle.daybook.specs.Book.{Entry, Point, filled}
-use Rattle.daybook.proofs.Lists.{Lists, entryOn, pointOf, bookOf}
+use Rattle.daybook.specs.Book.{Point, filled}
+use Rattle.daybook.proofs.Lists.{Lists, pointOf, bookOf}
 use Rattle.daybook.proofs.Well.{Well, Points, point}
-use Rattle.daybook.proofs.Apart.{recs-apart, stands}
-use Rattle.daybook.proofs.Registrations.{user-known}
 use Rattle.daybook.proofs.Covering.{covering-one}
 use Rattle.layout.specs.Layout.{standard, placeOf, partOf, numAt, pointFrom, pointsFrom, registerOf, tableBook}
 use Rattle.layout.specs.Sound.{sound}
 use Rattle.layout.proofs.Mirns.{next}
 use Rattle.layout.proofs.TableSound.{sound-lays, standard-fits}
 use Rattle.history.specs.Agreement.{pointNo, OneUser}
-
--- no day before the install day is filled
-filled-from : {room : ℕ} {q : Lists} → Well room q → (d : ℕ) → filled (pointOf q) d ≡ true → q .facts .install ≤ d
-unfolding pointOf
-filled-from {q = q} w d f = go (entryOn (q .recs) d) refl f
-  where
-    go : (o : Option Entry) → entryOn (q .recs) d ≡ o → isSome o ≡ true → q .facts .install ≤ d
-    go none e f = absurd (false≢true f)
-    go (some x) e f = let k = stands (recs-apart (w .recsOk)) d x e in omega (arith, k .low, k .since)
+use Rattle.history.proofs.Accounts.{installed-user, filled-installed}
 
 first-well : {room : ℕ} {q : Lists} {qs : List Lists} → Points room (q ∷ qs) → Well room q
 first-well (point w n r) = w
@@ -55,8 +44,8 @@ module _ (t : List ℤ) where
   one-of-lists : (i d : ℕ) → Well 48 (listsAt i) → filled (pointOf (listsAt i)) d ≡ true → OneUser t i (pointOf (listsAt i)) d
   unfolding pointOf
   one-of-lists i d w f =
-      let h : listsAt i .facts .install ≤ d = filled-from w d f in
-      let known = user-known (w .regsOk) (w .regsStart) d h in
+      let h : listsAt i .facts .install ≤ d = filled-installed w d f in
+      let known = installed-user w d h in
       let row = covering-one (w .regsOk) (w .regsStart) d h in
       record { userLow = known .0; userHigh = known .1; since = row .0; started = row .1; oneRow = row .2 }
 
