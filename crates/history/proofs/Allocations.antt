@@ -1,16 +1,15 @@
 -- An allocation that is given hands out its net section load, no more and no less: the points' shares add up to it, and so
 -- do the sixteen Users' totals. Assumes nothing.
 use mathlib.Core.Path.{_≡_, refl, sym, _∙_, ap, ap₂}
-use mathlib.Core.Bool.{Bool, true, false, not, cond, _&&_, false≢true}
+use mathlib.Core.Bool.{Bool, true, false}
 use mathlib.Core.List.{List, [], _∷_, _++_, map}
 use Prim.Native.Nat.{ℕ, zero, suc, _+_, _-_, _≤_, _<_}
 use native.Mathlib.Nat.{add-zero, zero-add, add-assoc}
 use native.Mathlib.Omega.{arith}
-use lib.Dec.{leb, eqb}
+use lib.Dec.{eqb}
 use lib.ListN.{length, length-append, length-map, length-replicate, replicate}
 use lib.IntN.{ℤ, pos, _+ℤ_, _-ℤ_, +ℤ-idl, +ℤ-idr, +ℤ-invr}
-use borrow.Author.Tests.{leb-true, eqb-false, ne-eqb}
-use Rattle.numbers.specs.Naturals.{natOf}
+use borrow.Author.Tests.{leb-true, eqb-true, eqb-false, not-false}
 use Rattle.numbers.specs.Sums.{sumFrom}
 use Rattle.numbers.specs.Shares.{floorPart}
 use Rattle.numbers.proofs.Bools.{both}
@@ -88,9 +87,11 @@ module _ (g a b nsl S : ℕ) where
           owned (user .0) (user .1)
       go false e = rw (idle-weight (pointOf q) e, add-zero C, +ℤ-invr (part nsl S C)) nothing
 
+  abbrev shares : ℕ → List Lists → List ℤ
+  shares C qs = split nsl S C (map (weight g a b) (map pointOf qs))
+
   users-add : {room : ℕ} {qs : List Lists} → Points room qs → (C : ℕ)
-      → sumFrom (λ u. totalOf g u (map pointOf qs) (split nsl S C (map (weight g a b) (map pointOf qs)))) 1 16
-      ≡ added (split nsl S C (map (weight g a b) (map pointOf qs)))
+      → sumFrom (λ u. totalOf g u (map pointOf qs) (shares C qs)) 1 16 ≡ added (shares C qs)
   unfolding totalOf split sumOf
   users-add nopoint C = sum-zero _ 1 16 (λ u i j. refl)
   users-add (point {q = q} w d r) C =
@@ -101,49 +102,43 @@ users-are : (f : ℕ → ℤ) → added (map f users) ≡ sumFrom f 1 16
 unfolding sumOf sumFrom
 users-are f = refl
 
--- ---- what is given
+-- ---- an allocation that is given
 
 not-refused : {X : Type 0} (r k : ℕ) (x : X) (w : Numbers × X) → refused (decide r k x w .0) ≡ false → r ≡ 0
 unfolding decide
 not-refused zero k x w h = refl
-not-refused (suc r) k x w h = absurd (false≢true (sym (rw (ne-eqb (suc r) 0 (λ (e : suc r ≡ 0). omega arith)) at h)))
+not-refused (suc r) k x w h = eqb-true (suc r) 0 (not-false _ h)
 
-totals : AllocationQuery → Book → Numbers
-totals n B = map (λ u. totalOf (natOf (n .gasday)) u (B .points) (pointShares n B)) users
+module _ (n : AllocationQuery) (room : ℕ) (B : Book) (h : refused (allocate n room B .0) ≡ false) where
+  no-row : least (allocateRows n room B) ≡ 0
+  unfolding allocate
+  no-row = not-refused _ 17 [] _ h
 
-table : AllocationQuery → Book → List ℤ
-table n B = pointShares n B ++ replicate (32 - length (B .points)) (pos 0)
+  some-weight : 0 < total (weights n B)
+  unfolding allocateRows
+  some-weight =
+      let row15 : eqb (total (weights n B)) 0 ≡ false = least-none _ _ _ (least-none _ _ _ no-row .1) .0 in
+      omega (arith, eqb-false (total (weights n B)) 0 row15)
 
--- Some point has a weight, and the answer is the load, the totals and the table.
-given : (n : AllocationQuery) (room : ℕ) (B : Book) → refused (allocate n room B .0) ≡ false
-    → (0 < total (weights n B)) × (allocate n room B ≡ (pos 0 ∷ pos (nslOf n B) ∷ totals n B, table n B))
-unfolding allocate allocateRows decide totals table
-given n room B h =
-    let none : least (allocateRows n room B) ≡ 0 = not-refused _ 17 [] _ h in
-    let weighty : eqb (total (weights n B)) 0 ≡ false = least-none _ _ _ (least-none _ _ _ none .1) .0 in
-    (omega (arith, eqb-false (total (weights n B)) 0 weighty), ap (λ r. decide r 17 [] (pos (nslOf n B) ∷ totals n B, table n B)) none)
-
--- The shares are the load.
-shares-whole : (n : AllocationQuery) (B : Book) → 0 < total (weights n B) → added (pointShares n B) ≡ pos (nslOf n B)
-unfolding pointShares
-shares-whole n B p = split-whole (nslOf n B) (weights n B) p
+  shares-whole : added (pointShares n B) ≡ pos (nslOf n B)
+  unfolding pointShares
+  shares-whole = split-whole (nslOf n B) (weights n B) some-weight
 
 module _ {R : Register} (ok : WellFormed standard R) (n : AllocationQuery) (room : ℕ)
     (h : refused (allocate n room (bookOf R) .0) ≡ false)
   where
     pub totals-add-up : added (totalsIn (allocate n room (bookOf R) .0)) ≡ loadIn (allocate n room (bookOf R) .0)
-    unfolding bookOf weights pointShares totals
+    unfolding allocate decide bookOf weights pointShares
     totals-add-up =
-        rw (given n room (bookOf R) h .1)
-        (users-are _ ∙ users-add _ _ _ _ _ (ok .pointsOk) 0 ∙ shares-whole n (bookOf R) (given n room (bookOf R) h .0))
+        rw (no-row n room (bookOf R) h) (users-are _ ∙ users-add _ _ _ _ _ (ok .pointsOk) 0 ∙ shares-whole n room (bookOf R) h)
 
     pub shares-add-up : added (allocate n room (bookOf R) .1) ≡ loadIn (allocate n room (bookOf R) .0)
-    unfolding table
+    unfolding allocate decide
     shares-add-up =
-        rw (given n room (bookOf R) h .1)
-        (added-zeros (pointShares n (bookOf R)) (32 - length (bookOf R .points)) ∙ shares-whole n (bookOf R) (given n room (bookOf R) h .0))
+        rw (no-row n room (bookOf R) h)
+        (added-zeros (pointShares n (bookOf R)) (32 - length (bookOf R .points)) ∙ shares-whole n room (bookOf R) h)
 
     pub shares-32 : length (allocate n room (bookOf R) .1) ≡ 32
-    unfolding bookOf weights pointShares table
+    unfolding allocate decide bookOf weights pointShares
     shares-32 =
-        rw (given n room (bookOf R) h .1) (simp (length-append, split-length, length-map, length-replicate) (omega (arith, ok .pointsFew)))
+        rw (no-row n room (bookOf R) h) (simp (length-append, split-length, length-map, length-replicate) (omega (arith, ok .pointsFew)))
