@@ -3,6 +3,7 @@ pub mod Steps
 pub mod Runs
 pub mod Accounts
 pub mod Entries
+pub mod Allocations
 pub mod Points
 pub mod SoundTables
 pub mod Theorem
