@@ -6,24 +6,28 @@ use mathlib.Core.List.{List, [], _∷_}
 use Prim.Native.Nat.{ℕ, suc, _≤_, _<_}
 use native.Mathlib.Omega.{arith}
 use lib.IntN.{ℤ, pos, _+ℤ_}
-use lib.ListN.{getD}
+use lib.ListN.{length, getD}
 use borrow.Author.Tests.{le-leb}
 use Rattle.numbers.specs.Sums.{sumFrom, sumOver}
 use Rattle.numbers.proofs.Bools.{join}
 use Rattle.numbers.proofs.Sums.{sum-same}
+use Rattle.daybook.specs.declared.AllocationQuery.{AllocationQuery}
 use Rattle.daybook.specs.Book.{Entry, Point, Book, dayShare}
-use Rattle.daybook.specs.Notices.{least, decide}
-use Rattle.daybook.specs.Queries.{sumOf, accountOf, accountRows, account}
+use Rattle.daybook.specs.Notices.{least, Numbers, decide}
+use Rattle.daybook.specs.Queries.{sumOf, accountOf, accountRows, account, allocate}
 use Rattle.daybook.proofs.Well.{WellFormed}
 use Rattle.daybook.proofs.Rows.{least-skip, decide-taken}
 use Rattle.layout.specs.Layout.{standard, registerOf, tableBook}
 use Rattle.layout.specs.Sound.{sound}
+use Rattle.layout.specs.Calls.{refused}
 use Rattle.layout.proofs.TableSound.{sound-lays, standard-fits}
 use Rattle.account.specs.Account.{accountCall}
-use Rattle.history.specs.Agreement.{pointNo, query, accountFrom, Stands, Agrees}
+use Rattle.allocate.specs.Allocate.{allocateCall}
+use Rattle.history.specs.Agreement.{pointNo, query, accountFrom, loadIn, totalsIn, added, Stands, Allocated, Agrees}
 use Rattle.history.proofs.Steps.{of-sound}
 use Rattle.history.proofs.Accounts.{account-splits, accounts-add-up}
 use Rattle.history.proofs.Entries.{entry-stands}
+use Rattle.history.proofs.Allocations.{totals-add-up, shares-add-up, shares-32}
 use Rattle.history.proofs.Points.{point-at, one-user}
 
 module _ (t : List ℤ) (s : sound standard t ≡ true) where
@@ -70,3 +74,34 @@ module _ (t : List ℤ) (s : sound standard t ≡ true) where
   entries-stand i p d e at =
       let (w, is) = point-at t s i p at in
       subst (λ p. p .entry d ≡ some e → Stands p d e) is (entry-stands w d e)
+
+  -- ---- allocations
+
+  allocated : (n : AllocationQuery) (room : ℕ) → Allocated t B n room
+  unfolding allocateCall tableBook
+  allocated n room =
+      record {
+        asBook = is;
+        overUsers = subst (Given (λ w. added (totalsIn (w .0)) ≡ loadIn (w .0))) (sym is) (totals-add-up ok n room);
+        overPoints = subst (Given (λ w. added (w .1) ≡ loadIn (w .0))) (sym is) (shares-add-up ok n room);
+        all32 = subst (Given (λ w. length (w .1) ≡ 32)) (sym is) (shares-32 ok n room);
+      }
+    where
+      is : allocateCall t n room ≡ allocate n room B
+      is = of-sound t s _ _
+
+      Given : (Numbers × List ℤ → Type 0) → Numbers × List ℤ → Type 0
+      Given P w = refused (w .0) ≡ false → P w
+
+  pub sound-agrees : Agrees t B
+  sound-agrees =
+      record {
+        isSound = s;
+        book = refl;
+        oneUser = λ i p d e. one-user t s i p e d;
+        accounts = account-given;
+        accountsSplit = accounts-split;
+        accountsAddUp = accounts-sum;
+        entries = entries-stand;
+        allocations = allocated;
+      }
