@@ -35,7 +35,7 @@ module _ (nsl S : ℕ) where
   abbrev part : ℕ → ℤ
   part k = floorPart (pos nsl) S k
 
-  -- With the part of the C before them, the shares make the part of all: they telescope.
+  -- Added to the part of the C before them, the shares make the part of all: they telescope.
   split-adds : (C : ℕ) (ts : List ℕ) → part C +ℤ added (split nsl S C ts) ≡ part (C + total ts)
   unfolding split total sumOf
   split-adds C [] = +ℤ-idr (part C) ∙ ap part (sym (add-zero C))
@@ -61,7 +61,7 @@ split-whole nsl ts p =
     S : ℕ
     S = total ts
 
--- Zeros behind them add nothing.
+-- Zeros behind a list add nothing.
 added-zeros : (xs : List ℤ) (k : ℕ) → added (xs ++ replicate k (pos 0)) ≡ added xs
 unfolding sumOf
 added-zeros [] zero = refl
@@ -120,9 +120,9 @@ module _ (n : AllocationQuery) (room : ℕ) (B : Book) (h : refused (allocate n 
       let row15 : eqb (total (weights n B)) 0 ≡ false = least-none _ _ _ (least-none _ _ _ no-row .1) .0 in
       omega (arith, eqb-false (total (weights n B)) 0 row15)
 
-  shares-whole : added (pointShares n B) ≡ pos (nslOf n B)
+  shares-load : added (pointShares n B) ≡ pos (nslOf n B)
   unfolding pointShares
-  shares-whole = split-whole (nslOf n B) (weights n B) some-weight
+  shares-load = split-whole (nslOf n B) (weights n B) some-weight
 
 module _ {R : Register} (ok : WellFormed standard R) (n : AllocationQuery) (room : ℕ)
     (h : refused (allocate n room (bookOf R) .0) ≡ false)
@@ -130,13 +130,13 @@ module _ {R : Register} (ok : WellFormed standard R) (n : AllocationQuery) (room
     pub totals-add-up : added (totalsIn (allocate n room (bookOf R) .0)) ≡ loadIn (allocate n room (bookOf R) .0)
     unfolding allocate decide bookOf weights pointShares
     totals-add-up =
-        rw (no-row n room (bookOf R) h) (users-are _ ∙ users-add _ _ _ _ _ (ok .pointsOk) 0 ∙ shares-whole n room (bookOf R) h)
+        rw (no-row n room (bookOf R) h) (users-are _ ∙ users-add _ _ _ _ _ (ok .pointsOk) 0 ∙ shares-load n room (bookOf R) h)
 
     pub shares-add-up : added (allocate n room (bookOf R) .1) ≡ loadIn (allocate n room (bookOf R) .0)
     unfolding allocate decide
     shares-add-up =
         rw (no-row n room (bookOf R) h)
-        (added-zeros (pointShares n (bookOf R)) (32 - length (bookOf R .points)) ∙ shares-whole n room (bookOf R) h)
+        (added-zeros (pointShares n (bookOf R)) (32 - length (bookOf R .points)) ∙ shares-load n room (bookOf R) h)
 
     pub shares-32 : length (allocate n room (bookOf R) .1) ≡ 32
     unfolding allocate decide bookOf weights pointShares
