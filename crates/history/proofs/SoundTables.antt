@@ -43,8 +43,10 @@ module _ (t : List ℤ) (s : sound standard t ≡ true) where
     no-row : least (accountRows (query u a c)) ≡ 0
     unfolding accountRows least
     no-row =
-        least-skip 2 _ []
-        (ap not (join (join (join (join (le-leb 1 u low) (le-leb u 16 high)) (join (le-leb 0 a (omega arith)) (le-leb a 39999 (omega arith)))) (join (le-leb 0 c (omega arith)) (le-leb c 39999 k))) (le-leb a c h)))
+        let user = join (le-leb 1 u low) (le-leb u 16 high) in
+        let from = join (le-leb 0 a (omega arith)) (le-leb a 39999 (omega arith)) in
+        let to = join (le-leb 0 c (omega arith)) (le-leb c 39999 k) in
+        least-skip 2 _ [] (ap not (join (join (join user from) to) (le-leb a c h)))
 
     account-given : accountCall t (query u a c) ≡ pos 0 ∷ accountOf u a c B ∷ []
     unfolding accountCall account

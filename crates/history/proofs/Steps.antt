@@ -102,7 +102,7 @@ withdraw-notice n =
 abbrev pub stateOf : List ℤ → State
 stateOf t = record { edition = standard; book = tableBook standard t }
 
--- A table's answer and what it is left as, beside the book's: the table is sound, and answer and state are the same.
+-- An answer and the table left, v, beside the book's answer and state, w: the table is sound, and both are the same.
 pub record Follows (v : Answer × List ℤ) (w : Answer × State) : Type 0 where
   pub isSound : sound standard (v .1) ≡ true
   pub same : (v .0, stateOf (v .1)) ≡ w
@@ -111,6 +111,7 @@ module _ (t : List ℤ) (s : sound standard t ≡ true) where
   abbrev B : Book
   B = tableBook standard t
 
+  -- what a sound table makes of a call: the book's step, or its answer
   on-sound : (k : ℕ) (step : Book → Numbers × Book) → onTable k step standard t ≡ leaves standard t (step B)
   unfolding onTable
   on-sound k step = rw s
@@ -123,10 +124,11 @@ module _ (t : List ℤ) (s : sound standard t ≡ true) where
   unfolding ofTable
   of-sound refusal query = rw s
 
+  -- a notice leaves a sound table with the book after it
   notice-holds : {step : Book → Numbers × Book} {lists : Register → Numbers × Register} → Notice step lists
       → Holds (leaves standard t (step B) .1) (step B .1)
   unfolding tableBook
-  notice-holds {step} {lists} c = go (refused (step B .0)) refl
+  notice-holds {step} c = go (refused (step B .0)) refl
     where
       R : Register
       R = registerOf standard t
@@ -139,13 +141,16 @@ module _ (t : List ℤ) (s : sound standard t ≡ true) where
       go false e =
           subst (λ B. Holds (written standard t B) B) (sym (ap (λ w. w .1) (c .is R ok))) (written-holds (c .keeps R ok) t)
 
+  -- the book's answer and state, with nothing for an answer table
+  abbrev noted : Numbers × Book → Answer × State
+  noted w = ((w .0, []), record { edition = standard; book = w .1 })
+
   follows : {step : Book → Numbers × Book} {lists : Register → Numbers × Register} → Notice step lists → (v : Numbers × List ℤ)
-      → v ≡ leaves standard t (step B)
-      → Follows ((v .0, []), v .1) ((step B .0, []), record { edition = standard; book = step B .1 })
+      → v ≡ leaves standard t (step B) → Follows ((v .0, []), v .1) (noted (step B))
   follows {step} c v e =
       let h : Holds (leaves standard t (step B) .1) (step B .1) = notice-holds c in
-      subst (λ (v : Numbers × List ℤ). Follows ((v .0, []), v .1) ((step B .0, []), record { edition = standard; book = step B .1 })) (sym e)
-      (record { isSound = h .isSound; same = ap {B = Answer × State} (λ B′. ((step B .0, []), record { edition = standard; book = B′ })) (h .book) })
+      subst (λ (v : Numbers × List ℤ). Follows ((v .0, []), v .1) (noted (step B))) (sym e)
+      (record { isSound = h .isSound; same = ap (λ B′. noted (step B .0, B′)) (h .book) })
 
   pub step-agrees : (c : Call) → Follows (tableStep c t) (step c (stateOf t))
   unfolding tableStep step openCall energyCall statusCall requestCall withdrawCall accountCall allocateCall
