@@ -102,6 +102,10 @@ withdraw-notice n =
 abbrev pub stateOf : List ℤ → State
 stateOf t = record { edition = standard; book = tableBook standard t }
 
+-- The book's answer and state after a notice: it has nothing for an answer table.
+abbrev noted : Numbers × Book → Answer × State
+noted w = ((w .0, []), record { edition = standard; book = w .1 })
+
 -- An answer and the table left, v, beside the book's answer and state, w: the table is sound, and both are the same.
 pub record Follows (v : Answer × List ℤ) (w : Answer × State) : Type 0 where
   pub isSound : sound standard (v .1) ≡ true
@@ -140,10 +144,6 @@ module _ (t : List ℤ) (s : sound standard t ≡ true) where
       go true e = record { isSound = s; book = sym (c .sentBack B e) }
       go false e =
           subst (λ B. Holds (written standard t B) B) (sym (ap (λ w. w .1) (c .is R ok))) (written-holds (c .keeps R ok) t)
-
-  -- the book's answer and state, with nothing for an answer table
-  abbrev noted : Numbers × Book → Answer × State
-  noted w = ((w .0, []), record { edition = standard; book = w .1 })
 
   follows : {step : Book → Numbers × Book} {lists : Register → Numbers × Register} → Notice step lists → (v : Numbers × List ℤ)
       → v ≡ leaves standard t (step B) → Follows ((v .0, []), v .1) (noted (step B))
