@@ -13,8 +13,7 @@ use borrow.Author.Tests.{leb-true, eqb-true, eqb-false, not-false}
 use Rattle.numbers.specs.Sums.{sumFrom}
 use Rattle.numbers.specs.Shares.{floorPart}
 use Rattle.numbers.proofs.Bools.{both}
-use Rattle.numbers.proofs.Integers.{eqZ, add-fact, minus-fact}
-use Rattle.numbers.proofs.Sums.{sum-zero, sum-plus}
+use Rattle.numbers.proofs.Sums.{sum-zero, sum-plus, sum-shift, telescope}
 use Rattle.numbers.proofs.Floor.{floor-all, floor-none}
 use Rattle.daybook.specs.declared.AllocationQuery.{AllocationQuery}
 use Rattle.daybook.specs.Book.{Point, Book}
@@ -30,33 +29,44 @@ use Rattle.history.proofs.Accounts.{Owned, nothing, owned, counted-once
 
 -- ---- the split of a load by weights
 
+-- The weight of the first i of the points with these weights, and C of those before them.
+unfoldable upTo : ℕ → List ℕ → ℕ → ℕ
+upTo C ts zero = C
+upTo C [] (suc i) = C
+upTo C (t ∷ ts) (suc i) = upTo (C + t) ts i
+
+upTo-all : (C : ℕ) (ts : List ℕ) → upTo C ts (length ts) ≡ C + total ts
+unfolding upTo total
+upTo-all C [] = sym (add-zero C)
+upTo-all C (t ∷ ts) = upTo-all (C + t) ts ∙ add-assoc C t (total ts)
+
 module _ (nsl S : ℕ) where
   -- The part of the load that weights of k together get.
   abbrev part : ℕ → ℤ
   part k = floorPart (pos nsl) S k
 
-  -- Added to the part of the C before them, the shares make the part of all: they telescope.
-  split-adds : (C : ℕ) (ts : List ℕ) → part C +ℤ added (split nsl S C ts) ≡ part (C + total ts)
-  unfolding split total sumOf
-  split-adds C [] = +ℤ-idr (part C) ∙ ap part (sym (add-zero C))
-  split-adds C (t ∷ ts) =
-      next (part C) (part (C + t)) (added (split nsl S (C + t) ts)) ∙ split-adds (C + t) ts ∙ ap part (add-assoc C t (total ts))
-    where
-      next : (x y z : ℤ) → x +ℤ ((y -ℤ x) +ℤ z) ≡ y +ℤ z
-      next x y z = eqZ _ _ (omega (arith, add-fact x ((y -ℤ x) +ℤ z), add-fact (y -ℤ x) z, minus-fact y x, add-fact y z))
+  abbrev nth : ℕ → List ℕ → ℕ → ℤ
+  nth C ts i = part (upTo C ts (suc i)) -ℤ part (upTo C ts i)
+
+  -- The shares by index.
+  split-sum : (C : ℕ) (ts : List ℕ) → added (split nsl S C ts) ≡ sumFrom (nth C ts) 0 (length ts)
+  unfolding split sumOf sumFrom upTo
+  split-sum C [] = refl
+  split-sum C (t ∷ ts) =
+      ap (λ z. (part (C + t) -ℤ part C) +ℤ z) (split-sum (C + t) ts ∙ sym (sum-shift (nth C (t ∷ ts)) 0 (length ts)))
 
   split-length : (C : ℕ) (ts : List ℕ) → length (split nsl S C ts) ≡ length ts
   unfolding split
   split-length C [] = refl
   split-length C (t ∷ ts) = ap suc (split-length (C + t) ts)
 
+-- They telescope, from no weight to all of it.
 split-whole : (nsl : ℕ) (ts : List ℕ) → 0 < total ts → added (split nsl (total ts) 0 ts) ≡ pos nsl
+unfolding upTo
 split-whole nsl ts p =
-    sym (+ℤ-idl _)
-    ∙ ap (λ z. z +ℤ added (split nsl S 0 ts)) (sym (floor-none (pos nsl) S p))
-    ∙ split-adds nsl S 0 ts
-    ∙ ap (part nsl S) (zero-add S)
-    ∙ floor-all (pos nsl) S p
+    split-sum nsl S 0 ts ∙ telescope (λ i. part nsl S (upTo 0 ts i)) 0 (length ts)
+    ∙ ap₂ _-ℤ_ (ap (part nsl S) (ap (upTo 0 ts) (zero-add (length ts)) ∙ upTo-all 0 ts ∙ zero-add S) ∙ floor-all (pos nsl) S p) (floor-none (pos nsl) S p)
+    ∙ +ℤ-idr (pos nsl)
   where
     S : ℕ
     S = total ts
