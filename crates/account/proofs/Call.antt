@@ -67,7 +67,7 @@ table-sum t u a b = rw (add-one b) (sym (points-sum (λ p. sumOver (ownShare u p
 module _ (t : List ℤ) (n : AccountQuery) where
   pub unsound-ends : sound standard t ≡ false → pos 1 ∷ pos 0 ∷ [] ≡ accountCall t n
   unfolding accountCall
-  unsound-ends e = sym (query-unsound _ (account n) t e)
+  unsound-ends e = sym (query-unsound _ (account n) standard t e)
 
   module _ (s : sound standard t ≡ true) where
     decided : (r : ℕ) → least (accountRows n) ≡ r
@@ -75,7 +75,7 @@ module _ (t : List ℤ) (n : AccountQuery) where
     unfolding accountCall account
     decided r e =
         ap (λ r. decide r 1 (tableBook standard t) (accountOf (natOf (n .user)) (natOf (n .from)) (natOf (n .to)) (tableBook standard t) ∷ [], tableBook standard t) .0) (sym e)
-        ∙ sym (query-sound _ (account n) t s)
+        ∙ sym (query-sound _ (account n) standard t s)
 
     pub range-ends : inRange n ≡ false → pos 2 ∷ pos 0 ∷ [] ≡ accountCall t n
     unfolding accountRows decide above

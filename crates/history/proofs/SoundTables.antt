@@ -21,10 +21,10 @@ use Rattle.layout.specs.Layout.{standard, registerOf, tableBook}
 use Rattle.layout.specs.Sound.{sound}
 use Rattle.layout.specs.Calls.{refused}
 use Rattle.layout.proofs.TableSound.{sound-lays, standard-fits}
+use Rattle.table.proofs.Calls.{query-sound}
 use Rattle.account.specs.Account.{accountCall}
 use Rattle.allocate.specs.Allocate.{allocateCall}
 use Rattle.history.specs.Agreement.{pointNo, query, accountFrom, loadIn, totalsIn, added, Stands, Allocated, Agrees}
-use Rattle.history.proofs.Steps.{of-sound}
 use Rattle.history.proofs.Accounts.{account-splits, accounts-add-up}
 use Rattle.history.proofs.Entries.{entry-stands}
 use Rattle.history.proofs.Allocations.{totals-add-up, shares-add-up, shares-32}
@@ -51,7 +51,7 @@ module _ (t : List ℤ) (s : sound standard t ≡ true) where
     account-given : accountCall t (query u a c) ≡ pos 0 ∷ accountOf u a c B ∷ []
     unfolding accountCall account
     account-given =
-        of-sound t s _ _ ∙ ap (λ r. decide r 1 B (accountOf u a c B ∷ [], B) .0) no-row
+        query-sound _ _ standard t s ∙ ap (λ r. decide r 1 B (accountOf u a c B ∷ [], B) .0) no-row
         ∙ ap (λ w. w .0) (decide-taken 1 B (accountOf u a c B ∷ [], B))
 
     account-from : accountFrom t u a c ≡ accountOf u a c B
@@ -90,7 +90,7 @@ module _ (t : List ℤ) (s : sound standard t ≡ true) where
       }
     where
       is : allocateCall t n room ≡ allocate n room B
-      is = of-sound t s _ _
+      is = query-sound _ _ standard t s
 
       Given : (Numbers × List ℤ → Type 0) → Numbers × List ℤ → Type 0
       Given P w = refused (w .0) ≡ false → P w

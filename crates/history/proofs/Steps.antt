@@ -24,11 +24,12 @@ use Rattle.daybook.proofs.StatusStep.{status-step, status-keeps}
 use Rattle.daybook.proofs.TransferStep.{request-step, request-keeps, withdraw-step, withdraw-keeps}
 use Rattle.layout.specs.Layout.{tableLength, standard, registerOf, tableBook, written}
 use Rattle.layout.specs.Sound.{sound}
-use Rattle.layout.specs.Calls.{refused, leaves, onTable, ofTable}
+use Rattle.layout.specs.Calls.{refused, leaves, onTable}
 use Rattle.layout.proofs.Tables.{written-is, book-of-layout}
 use Rattle.layout.proofs.TableSound.{sound-lays, standard-fits}
 use Rattle.layout.proofs.SoundTable.{lays-sound}
 use Rattle.table.proofs.Laws.{sound-long}
+use Rattle.table.proofs.Calls.{query-sound}
 use Rattle.opening.specs.Opening.{freshCall, openCall}
 use Rattle.energy.specs.Energy.{energyCall}
 use Rattle.status.specs.Status.{statusCall}
@@ -115,7 +116,7 @@ module _ (t : List ℤ) (s : sound standard t ≡ true) where
   abbrev B : Book
   B = tableBook standard t
 
-  -- what a sound table makes of a call: the book's step, or its answer
+  -- what a sound table makes of a notice: the book's step
   on-sound : (k : ℕ) (step : Book → Numbers × Book) → onTable k step standard t ≡ leaves standard t (step B)
   unfolding onTable
   on-sound k step = rw s
@@ -123,10 +124,6 @@ module _ (t : List ℤ) (s : sound standard t ≡ true) where
   fresh-sound : (n : Ranges) → freshCall t n ≡ leaves standard t (fresh n B)
   unfolding freshCall
   fresh-sound n = rw (le-leb tableLength (length t) (sound-long t s .0))
-
-  pub of-sound : {A : Type 0} (refusal : A) (query : Book → A) → ofTable refusal query standard t ≡ query B
-  unfolding ofTable
-  of-sound refusal query = rw s
 
   -- a notice leaves a sound table with the book after it
   notice-holds : {step : Book → Numbers × Book} {lists : Register → Numbers × Register} → Notice step lists
@@ -160,5 +157,5 @@ module _ (t : List ℤ) (s : sound standard t ≡ true) where
   step-agrees (status! n) = follows (status-notice n) _ (on-sound 0 (status n))
   step-agrees (request! n holidays) = follows (request-notice n holidays) _ (on-sound 2 (request n holidays))
   step-agrees (withdraw! n) = follows (withdraw-notice n) _ (on-sound 0 (withdraw n))
-  step-agrees (account! n) = record { isSound = s; same = ap (λ a. ((a, []), stateOf t)) (of-sound _ _) }
-  step-agrees (allocate! n room) = record { isSound = s; same = ap (λ a. (a, stateOf t)) (of-sound _ _) }
+  step-agrees (account! n) = record { isSound = s; same = ap (λ a. ((a, []), stateOf t)) (query-sound _ _ standard t s) }
+  step-agrees (allocate! n room) = record { isSound = s; same = ap (λ a. (a, stateOf t)) (query-sound _ _ standard t s) }

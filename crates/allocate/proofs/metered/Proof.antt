@@ -6,12 +6,11 @@ use lib.ListN.{length}
 use lib.IntN.{subℕ}
 use borrow.Author.Needs.{needs}
 use Rattle.numbers.specs.Sums.{sumFrom}
-use Rattle.numbers.proofs.Sums.{sum-none}
+use Rattle.numbers.proofs.Sums.{sum-none, sum-turn}
 use Rattle.daybook.specs.Queries.{meteredOf, tdmOf}
 use Rattle.layout.specs.Layout.{standard, numAt}
 use Rattle.table.proofs.Laws.{sound-long}
 use Rattle.readings.specs.Readings.{pointAt, Readable}
-use Rattle.readings.proofs.Raised.{sum-turn}
 use Rattle.readings.proofs.Points.{partPoint, part-readable, points-sum}
 use Rattle.allocate.proofs.metered.Statement.{statement}
 use Rattle.allocate.proofs.metered.Tie as tie
@@ -65,7 +64,7 @@ loop-again c =
     let s = c .before .before .before .before .before in
     let k = c .before .before .before .loop in
     let is = c .metered .ensures .0 ∙ ap (λ p. meteredOf (s .args .g) (pointAt p)) (c .before .part .ensures .0) in
-    (omega arith, k .inv .1, omega (arith, c .metered .ensures .1), sum-turn (λ i. meteredOf (s .args .g) (partPoint (s .args .t .now) i)) (k .i) (k .sum) (c .metered .result) 1000000 (k .inv .3) is)
+    (omega arith, k .inv .1, omega (arith, c .metered .ensures .1), sum-turn (λ i. meteredOf (s .args .g) (partPoint (s .args .t .now) i)) 1000000 (k .i) (k .sum) (c .metered .result) (k .inv .3) is)
 
 -- src/lib.rt:176:1
 returns : tie.Need-returns Inv-loop μ-loop
