@@ -1,19 +1,20 @@
 -- Numbers and words of a line, byte by byte as the code goes. Assumes nothing.
 use mathlib.Core.Path.{_≡_, refl, sym, ap, _∙_}
 use mathlib.Core.Bool.{Bool, true, false, cond, _&&_}
-use mathlib.Core.List.{List, [], _∷_, _++_}
+use mathlib.Core.List.{List, [], _∷_, _++_, append-assoc, append-nil}
 use mathlib.Core.Option.{Option, none, some}
 use Prim.Native.Nat.{ℕ, zero, suc, _+_, _*_, _-_, _^_, _≤_, _<_}
+use native.Mathlib.Nat.{add-zero}
 use native.Mathlib.Numerals.{add-one}
 use native.Mathlib.Omega.{arith}
-use borrow.Author.Tests.{lt-leb, le-leb, le-ltb, lt-ltb, leb-true, leb-false, eq-eqb, ne-eqb}
+use borrow.Author.Tests.{lt-leb, le-leb, le-ltb, lt-ltb, leb-true, leb-false, ltb-true, ltb-false, ne-eqb}
 use lib.Dec.{eqb, leb, ltb}
 use lib.IntN.{ℤ, pos, subℕ}
-use lib.ListN.{length, take, drop, getD, drop-of-length-le}
-use lib.Seq.{drop-cons, drop-length}
+use lib.ListN.{length, take, drop, getD, set, length-take, length-drop, take-append-drop, drop-of-length-le}
+use lib.Seq.{drop-cons, drop-drop, getD-take, getD-drop, take-suc-set}
 use Rattle.numbers.specs.Search.{maybe}
 use Rattle.numbers.proofs.Bools.{both}
-use Rattle.journal.specs.Text.{isDigit, digitsAfter, digitsOf, capped, nonNegative, negative, numberOf, wordsOf, begun, numbersOf}
+use Rattle.journal.specs.Text.{isDigit, digitsAfter, digitsOf, capped, nonNegative, negative, numberOf, wordsOf, begun, numbersOf, Ended}
 use Rattle.journal.specs.Names.{sameBytes}
 
 -- ---- digits
@@ -133,3 +134,58 @@ word-first (a ∷ []) (b ∷ s) h u e =
     rw (ne-eqb a 32 (u 0 (omega arith)), e (omega arith)) (begun-break a s (wordsOf s))
 word-first (a ∷ b ∷ w) s h u e =
     rw (ne-eqb a 32 (u 0 (omega arith)), word-first (b ∷ w) s (omega arith) (λ k l. u (suc k) (omega arith)) e, ne-eqb b 32 (u 1 (omega arith)))
+
+module _ (line : List ℕ) (i e : ℕ) (h : i < length line) (begins : getD line i 0 ≡ 32 → ⊥) (ends : Ended line i e) where
+  pub word-moves : i < e
+  word-moves = go (ltb i e) refl
+    where
+      go : (t : Bool) → ltb i e ≡ t → i < e
+      go true q = ltb-true i e q
+      go false q =
+          let l : e ≤ i = ltb-false i e q in
+          let same : e ≡ i = omega (arith, ends .from) in
+          let k : e < length line = omega arith in
+          absurd (begins (rw same at (ends .stops k)))
+
+  pub word-next : wordsOf (drop i line) ≡ take (e - i) (drop i line) ∷ wordsOf (drop e line)
+  word-next =
+      let m : i < e = word-moves in
+      let w : e ≤ length line = ends .within in
+      let size : length (take (e - i) (drop i line)) ≡ e - i = simp (length-take, length-drop) (omega arith) in
+      let there : i + (e - i) ≡ e = omega arith in
+      let rest : drop (e - i) (drop i line) ≡ drop e line = drop-drop (e - i) i line ∙ ap (λ (k : ℕ). drop k line) there in
+      let unbroken : (k : ℕ) → k < length (take (e - i) (drop i line)) → getD (take (e - i) (drop i line)) k 0 ≡ 32 → ⊥ = λ k l q.
+          let n : k < e - i = omega arith in
+          ends .unbroken (i + k) (omega arith) (omega arith) (rw (getD-take, getD-drop) at q) in
+      let stops : 0 < length (drop e line) → getD (drop e line) 0 0 ≡ 32 = λ l.
+          rw (getD-drop, add-zero) (ends .stops (omega (arith, length-drop e line))) in
+      ap wordsOf (sym (take-append-drop (e - i) (drop i line)) ∙ ap (λ (s : List ℕ). take (e - i) (drop i line) ++ s) rest) ∙ word-first (take (e - i) (drop i line)) (drop e line) (omega arith) unbroken stops
+
+-- ---- the numbers of a line
+
+-- numbers read, with what is left of the line read behind them
+abbrev pub behind : List ℤ → Option (List ℤ) → Option (List ℤ)
+behind xs o = maybe none (λ ys. some (xs ++ ys)) o
+
+pub behind-nothing : (o : Option (List ℤ)) → behind [] o ≡ o
+behind-nothing none = refl
+behind-nothing (some ys) = refl
+
+behind-one : (t : List ℤ) (n : ℕ) (x : ℤ) (o : Option (List ℤ)) → n < length t → behind (take n t) (maybe none (λ xs. some (x ∷ xs)) o) ≡ behind (take (n + 1) (set t n x)) o
+behind-one t n x none h = refl
+behind-one t n x (some ys) h = rw (add-one n, take-suc-set, append-assoc)
+
+-- at the line's end
+pub numbers-end : (line : List ℕ) (i : ℕ) (xs : List ℤ) → length line ≤ i → some xs ≡ behind xs (numbersOf (wordsOf (drop i line)))
+unfolding numbersOf wordsOf
+numbers-end line i xs h = rw (drop-of-length-le line h, append-nil)
+
+-- a word that is a number, and one that is none
+module _ (line : List ℕ) (i e : ℕ) (h : i < length line) (begins : getD line i 0 ≡ 32 → ⊥) (ends : Ended line i e) (t : List ℤ) (n : ℕ) where
+  pub numbers-more : (x : ℤ) → numberOf (take (e - i) (drop i line)) ≡ some x → n < length t → behind (take n t) (numbersOf (wordsOf (drop i line))) ≡ behind (take (n + 1) (set t n x)) (numbersOf (wordsOf (drop e line)))
+  unfolding numbersOf
+  numbers-more x q l = rw (word-next line i e h begins ends, q) (behind-one t n x (numbersOf (wordsOf (drop e line))) l)
+
+  pub numbers-none : numberOf (take (e - i) (drop i line)) ≡ none → behind (take n t) (numbersOf (wordsOf (drop i line))) ≡ none
+  unfolding numbersOf
+  numbers-none q = rw (word-next line i e h begins ends, q)
