@@ -14,7 +14,7 @@ pub record Ready (s : Standing) : Type 0 where
 
 -- The buffers: the register's, a line's, that of a line's numbers and the output's.
 pub record Sized (t : List ℤ) (line : List ℕ) (nums : List ℤ) (out : List ℕ) : Type 0 where
-  pub t : length t ≡ 7704
-  pub line : length line ≡ 8192
-  pub nums : length nums ≡ 4096
-  pub out : length out ≡ 16384
+  pub of-t : length t ≡ 7704
+  pub of-line : length line ≡ 8192
+  pub of-nums : length nums ≡ 4096
+  pub of-out : length out ≡ 16384

@@ -130,17 +130,24 @@ fn flush(out: &[u8], s: Standing) -> Standing
     r
 }
 
+// The line that the buffer holds.
+fn play_filled(t: &mut [i64], line: &[u8], nums: &mut [i64], out: &mut [u8], s: Standing) -> Standing
+    requires { ⌜ Ready s × Sized (now t) (now line) (now nums) (now out) ⌝ }
+    ensures { λ r. ⌜ (r .lent ≤ 7704) × (r .at ≤ s .at + 2048) ⌝ }
+{
+    let filled = s.filled;
+    if 8192 < filled {
+        return unknown(out, s);
+    }
+    play(t, &line[0..filled], nums, out, s)
+}
+
 // The line has ended.
 fn end_line(t: &mut [i64], line: &[u8], nums: &mut [i64], out: &mut [u8], s: Standing) -> Standing
     requires { ⌜ Ready s × Sized (now t) (now line) (now nums) (now out) ⌝ }
     ensures { λ r. ⌜ Ready r ⌝ }
 {
-    let filled = s.filled;
-    let mut r = if filled <= 8192 {
-        play(t, &line[0..filled], nums, out, s)
-    } else {
-        unknown(out, s)
-    };
+    let mut r = play_filled(t, line, nums, out, s);
     r.lines = std::num::wrapping_add_u64(s.lines, 1);
     r.filled = 0;
     if 14336 < r.at {
