@@ -71,10 +71,10 @@ fn magnitude(s: &[u8], at: usize) -> u64
 fn non_negative(m: u64) -> Parsed
     ensures { λ r. ⌜ valueOf r ≡ nonNegative m ⌝ }
 {
-    if m < 0x8000_0000_0000_0000 {
-        return Parsed::Value(numbers::integer(m));
+    if 0x8000_0000_0000_0000 <= m {
+        return Parsed::Nothing;
     }
-    Parsed::Nothing
+    Parsed::Value(numbers::integer(m))
 }
 
 fn negative(m: u64) -> Parsed
