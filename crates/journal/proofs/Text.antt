@@ -155,10 +155,10 @@ module _ (line : List ℕ) (i e : ℕ) (h : i < length line) (begins : getD line
       let there : i + (e - i) ≡ e = omega arith in
       let rest : drop (e - i) (drop i line) ≡ drop e line = drop-drop (e - i) i line ∙ ap (λ (k : ℕ). drop k line) there in
       let unbroken : (k : ℕ) → k < length (take (e - i) (drop i line)) → getD (take (e - i) (drop i line)) k 0 ≡ 32 → ⊥ = λ k l q.
-          let n : k < e - i = omega arith in
-          ends .unbroken (i + k) (omega arith) (omega arith) (rw (getD-take, getD-drop) at q) in
+      let n : k < e - i = omega arith in
+      ends .unbroken (i + k) (omega arith) (omega arith) (rw (getD-take, getD-drop) at q) in
       let stops : 0 < length (drop e line) → getD (drop e line) 0 0 ≡ 32 = λ l.
-          rw (getD-drop, add-zero) (ends .stops (omega (arith, length-drop e line))) in
+      rw (getD-drop, add-zero) (ends .stops (omega (arith, length-drop e line))) in
       ap wordsOf (sym (take-append-drop (e - i) (drop i line)) ∙ ap (λ (s : List ℕ). take (e - i) (drop i line) ++ s) rest) ∙ word-first (take (e - i) (drop i line)) (drop e line) (omega arith) unbroken stops
 
 -- ---- the numbers of a line

@@ -131,7 +131,13 @@ fn flush(out: &[u8], s: Standing) -> Standing
 }
 
 // The line that the buffer holds.
-fn play_filled(t: &mut [i64], line: &[u8], nums: &mut [i64], out: &mut [u8], s: Standing) -> Standing
+fn play_filled(
+    t: &mut [i64],
+    line: &[u8],
+    nums: &mut [i64],
+    out: &mut [u8],
+    s: Standing,
+) -> Standing
     requires { ⌜ Ready s × Sized (now t) (now line) (now nums) (now out) ⌝ }
     ensures { λ r. ⌜ (r .lent ≤ 7704) × (r .at ≤ s .at + 2048) ⌝ }
 {
@@ -172,7 +178,14 @@ fn keep(line: &mut [u8], s: Standing, b: u8) -> Standing
     r
 }
 
-fn byte(t: &mut [i64], line: &mut [u8], nums: &mut [i64], out: &mut [u8], s: Standing, b: u8) -> Standing
+fn byte(
+    t: &mut [i64],
+    line: &mut [u8],
+    nums: &mut [i64],
+    out: &mut [u8],
+    s: Standing,
+    b: u8,
+) -> Standing
     requires { ⌜ Ready s × Sized (now t) (now line) (now nums) (now out) ⌝ }
     ensures { λ r. ⌜ Ready r ⌝ }
 {
@@ -182,7 +195,14 @@ fn byte(t: &mut [i64], line: &mut [u8], nums: &mut [i64], out: &mut [u8], s: Sta
     keep(line, s, b)
 }
 
-fn walk(t: &mut [i64], line: &mut [u8], nums: &mut [i64], out: &mut [u8], s: Standing, chunk: &[u8]) -> Standing
+fn walk(
+    t: &mut [i64],
+    line: &mut [u8],
+    nums: &mut [i64],
+    out: &mut [u8],
+    s: Standing,
+    chunk: &[u8],
+) -> Standing
     requires { ⌜ Ready s × Sized (now t) (now line) (now nums) (now out) ⌝ }
     ensures { λ r. ⌜ Ready r ⌝ }
 {
