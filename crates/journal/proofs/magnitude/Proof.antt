@@ -17,10 +17,10 @@ abbrev μ-loop : tie.MeasureT-loop
 μ-loop s at n₀ i₀ n i = length s - i
 
 returns : tie.Need-returns Inv-loop μ-loop
-returns c = sym (digits-missing (c .before .before .args .s .now) (c .before .before .args .at) (c .if1 .taken))
+returns c = sym (digits-missing (c .before .before .args .s .now) (c .before .before .args .at) (omega arith))
 
 loop-holds : tie.Need-loop-holds Inv-loop μ-loop
-loop-holds c = (search needs, search needs, digits-start (c .before .before .args .s .now) (c .before .before .args .at) (c .if1 .left))
+loop-holds c = (search needs, search needs, digits-start (c .before .before .args .s .now) (c .before .before .args .at) (omega arith))
 
 shared-slice-read-wide : tie.Need-shared-slice-read-wide Inv-loop μ-loop
 shared-slice-read-wide c = search needs
@@ -47,7 +47,9 @@ mul-n : tie.Need-mul-n Inv-loop μ-loop
 mul-n c = search needs
 
 sub-n : tie.Need-sub-n Inv-loop μ-loop
-sub-n c = digit-bounds _ (sym (c .before .before .is-digit .ensures) ∙ not-false _ (c .before .if2 .left)) .0
+sub-n c =
+    let d = digit-bounds (c .before .before .before .wide .result) (sym (c .before .before .is-digit .ensures) ∙ not-false _ (c .before .if2 .left)) in
+    omega arith
 
 add-n : tie.Need-add-n Inv-loop μ-loop
 add-n c =

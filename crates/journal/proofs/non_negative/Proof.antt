@@ -1,3 +1,4 @@
+use native.Mathlib.Omega.{arith}
 use borrow.Author.Needs.{needs}
 use mathlib.Core.Path.{ap, _∙_}
 use mathlib.Core.Option.{some}
@@ -7,7 +8,7 @@ use Rattle.journal.proofs.non_negative.Statement.{statement}
 use Rattle.journal.proofs.non_negative.Tie as tie
 
 returns : tie.Need-returns
-returns c = non-negative-large (c .before .args .m) (c .if1 .taken)
+returns c = non-negative-large (c .before .args .m) (omega arith)
 
 integer-requires : tie.Need-integer-requires
 integer-requires c κs = search needs
