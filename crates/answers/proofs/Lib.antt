@@ -1,2 +1,2 @@
--- What the proofs of this crate cite.
-pub mod Digits
+-- Laws of the lines of a journal.
+pub mod Lines

@@ -1,8 +1,15 @@
 // The calls of a journal. Each takes the numbers of its line, runs the register's call and writes the answer as a row of
 // numbers at place `at` of the output; it answers the place after the row, or `at` where the line has another count of
 // numbers and is no call. A row takes at most 2,048 bytes.
-ghost use Prim.Native.Nat.{_+_, _*_, _<_, _≤_};
-ghost use lib.ListN.{length};
+ghost use mathlib.Core.List.{map};
+ghost use mathlib.Core.Path.{_≡_};
+ghost use Prim.Native.Nat.{_+_, _<_, _≤_};
+ghost use lib.IntN.{pos};
+ghost use lib.ListN.{length, set};
+ghost use Rattle.daybook.specs.Calls.{noticeNumbers};
+ghost use Rattle.printing.specs.Rows.{rowOf, Printed};
+ghost use Rattle.answers.specs.Sums.{sumsOf};
+ghost use Rattle.answers.specs.Lines.{rangesOf, openingOf, energyOf, statusOf, requestOf, withdrawalOf, dateOf, num, freshLine, openLine, energyLine, statusLine, requestLine, withdrawLine, dateLine, lookLine, pokeLine, tableLine, Played};
 use calendar::DateAnswer;
 use calendar::YearMonthDay;
 use daybook::EnergyAnswer;
@@ -14,113 +21,87 @@ use daybook::RequestAnswer;
 use daybook::StatusNotice;
 use daybook::TransferRequest;
 use daybook::Withdrawal;
-
-fn copy(text: &[u8], out: &mut [u8], at: usize)
-    requires { ⌜ at + length (now text) ≤ length (now out) ⌝ }
-{
-    let mut i = 0;
-    while i < text.len() {
-        out[at + i] = text[i];
-        i += 1;
-    }
-}
-
-// A number in base ten, and the byte after it.
-fn put(out: &mut [u8], at: usize, n: u64, after: u8) -> usize
-    requires { ⌜ at + 21 ≤ length (now out) ⌝ }
-    ensures { λ r. ⌜ (at < r) × (r ≤ at + 21) ⌝ }
-{
-    let mut text = [0u8; 20];
-    let k = io::decimal(n, &mut text);
-    copy(&text[..k], out, at);
-    let end = at + k;
-    out[end] = after;
-    end + 1
-}
-
-// A row of numbers, separated by single spaces.
-pub fn row(out: &mut [u8], at: usize, xs: &[u64]) -> usize
-    requires { ⌜ at + 21 * length (now xs) ≤ length (now out) ⌝ }
-    ensures { λ r. ⌜ (at ≤ r) × (r ≤ at + 21 * length (now (xs .entry))) ⌝ }
-{
-    let mut end = at;
-    let mut i = 0;
-    while i < xs.len() {
-        let after = if i + 1 == xs.len() { b'\n' } else { b' ' };
-        end = put(out, end, xs[i], after);
-        i += 1;
-    }
-    end
-}
-
-// The row of a line that is no call.
-pub fn unknown(out: &mut [u8], at: usize, line: u64) -> usize
-    requires { ⌜ at + 2048 ≤ length (now out) ⌝ }
-    ensures { λ r. ⌜ (at < r) × (r ≤ at + 2048) ⌝ }
-{
-    out[at] = b'?';
-    out[at + 1] = b' ';
-    put(out, at + 2, line, b'\n')
-}
+use printing::row;
 
 fn notice(out: &mut [u8], at: usize, a: NoticeAnswer) -> usize
     requires { ⌜ at + 2048 ≤ length (now out) ⌝ }
-    ensures { λ r. ⌜ (at < r) × (r ≤ at + 2048) ⌝ }
+    ensures { λ r. ⌜ (r ≤ at + 2048) × Printed (now (out .entry)) at (rowOf (noticeNumbers a)) (now (out .exit)) r ⌝ }
 {
     match a {
-        NoticeAnswer::Entered => put(out, at, 0, b'\n'),
-        NoticeAnswer::Refused(r) => put(out, at, r, b'\n'),
+        NoticeAnswer::Entered => row(out, at, &[0]),
+        NoticeAnswer::Refused(r) => row(out, at, &[r]),
+    }
+}
+
+fn to_ranges(nums: &[i64]) -> Ranges
+    requires { ⌜ 2 ≤ length (now nums) ⌝ }
+    ensures { λ r. ⌜ r ≡ rangesOf (now (nums .entry)) ⌝ }
+{
+    Ranges {
+        nondaily: nums[0],
+        daily: nums[1],
     }
 }
 
 pub fn fresh(t: &mut [i64], nums: &[i64], out: &mut [u8], at: usize) -> usize
     requires { ⌜ at + 2048 ≤ length (now out) ⌝ }
-    ensures { λ r. ⌜ (at ≤ r) × (r ≤ at + 2048) ⌝ }
+    ensures { λ r. ⌜ Played (freshLine (now (t .entry)) (now (nums .entry))) (now (t .entry)) (now (out .entry)) at (now (t .exit)) (now (out .exit)) r ⌝ }
 {
     if nums.len() != 2 {
         return at;
     }
-    let n = Ranges {
-        nondaily: nums[0],
-        daily: nums[1],
-    };
+    let n = to_ranges(nums);
     let a = opening::fresh(t, n);
     notice(out, at, a)
 }
 
-pub fn open(t: &mut [i64], nums: &[i64], out: &mut [u8], at: usize) -> usize
-    requires { ⌜ at + 2048 ≤ length (now out) ⌝ }
-    ensures { λ r. ⌜ (at ≤ r) × (r ≤ at + 2048) ⌝ }
+fn to_opening(nums: &[i64]) -> Opening
+    requires { ⌜ 5 ≤ length (now nums) ⌝ }
+    ensures { λ r. ⌜ r ≡ openingOf (now (nums .entry)) ⌝ }
 {
-    if nums.len() != 5 {
-        return at;
-    }
-    let n = Opening {
+    Opening {
         mirn: nums[0],
         kind: nums[1],
         user: nums[2],
         install: nums[3],
         base: nums[4],
-    };
+    }
+}
+
+pub fn open(t: &mut [i64], nums: &[i64], out: &mut [u8], at: usize) -> usize
+    requires { ⌜ at + 2048 ≤ length (now out) ⌝ }
+    ensures { λ r. ⌜ Played (openLine (now (t .entry)) (now (nums .entry))) (now (t .entry)) (now (out .entry)) at (now (t .exit)) (now (out .exit)) r ⌝ }
+{
+    if nums.len() != 5 {
+        return at;
+    }
+    let n = to_opening(nums);
     let a = opening::open(t, n);
     notice(out, at, a)
 }
 
-pub fn energy(t: &mut [i64], nums: &[i64], out: &mut [u8], at: usize) -> usize
-    requires { ⌜ at + 2048 ≤ length (now out) ⌝ }
-    ensures { λ r. ⌜ (at ≤ r) × (r ≤ at + 2048) ⌝ }
+fn to_energy(nums: &[i64]) -> EnergyNotice
+    requires { ⌜ 6 ≤ length (now nums) ⌝ }
+    ensures { λ r. ⌜ r ≡ energyOf (now (nums .entry)) ⌝ }
 {
-    if nums.len() != 6 {
-        return at;
-    }
-    let n = EnergyNotice {
+    EnergyNotice {
         mirn: nums[0],
         start: nums[1],
         end: nums[2],
         energy: nums[3],
         quality: nums[4],
         confirmed: nums[5],
-    };
+    }
+}
+
+pub fn energy(t: &mut [i64], nums: &[i64], out: &mut [u8], at: usize) -> usize
+    requires { ⌜ at + 2048 ≤ length (now out) ⌝ }
+    ensures { λ r. ⌜ Played (energyLine (now (t .entry)) (now (nums .entry))) (now (t .entry)) (now (out .entry)) at (now (t .exit)) (now (out .exit)) r ⌝ }
+{
+    if nums.len() != 6 {
+        return at;
+    }
+    let n = to_energy(nums);
     match energy::energy(t, n) {
         EnergyAnswer::Entered {
             which,
@@ -132,26 +113,45 @@ pub fn energy(t: &mut [i64], nums: &[i64], out: &mut [u8], at: usize) -> usize
     }
 }
 
+fn to_status(nums: &[i64]) -> StatusNotice
+    requires { ⌜ 3 ≤ length (now nums) ⌝ }
+    ensures { λ r. ⌜ r ≡ statusOf (now (nums .entry)) ⌝ }
+{
+    StatusNotice {
+        mirn: nums[0],
+        day: nums[1],
+        on: nums[2],
+    }
+}
+
 pub fn status(t: &mut [i64], nums: &[i64], out: &mut [u8], at: usize) -> usize
     requires { ⌜ at + 2048 ≤ length (now out) ⌝ }
-    ensures { λ r. ⌜ (at ≤ r) × (r ≤ at + 2048) ⌝ }
+    ensures { λ r. ⌜ Played (statusLine (now (t .entry)) (now (nums .entry))) (now (t .entry)) (now (out .entry)) at (now (t .exit)) (now (out .exit)) r ⌝ }
 {
     if nums.len() != 3 {
         return at;
     }
-    let n = StatusNotice {
-        mirn: nums[0],
-        day: nums[1],
-        on: nums[2],
-    };
+    let n = to_status(nums);
     let a = status::status(t, n);
     notice(out, at, a)
+}
+
+fn to_request(nums: &[i64]) -> TransferRequest
+    requires { ⌜ 5 ≤ length (now nums) ⌝ }
+    ensures { λ r. ⌜ r ≡ requestOf (now (nums .entry)) ⌝ }
+{
+    TransferRequest {
+        mirn: nums[0],
+        user: nums[1],
+        proposed: nums[2],
+        nochange: nums[3],
+    }
 }
 
 // The fifth number counts the holidays that follow it.
 pub fn request(t: &mut [i64], nums: &[i64], out: &mut [u8], at: usize) -> usize
     requires { ⌜ at + 2048 ≤ length (now out) ⌝ }
-    ensures { λ r. ⌜ (at ≤ r) × (r ≤ at + 2048) ⌝ }
+    ensures { λ r. ⌜ Played (requestLine (now (t .entry)) (now (nums .entry))) (now (t .entry)) (now (out .entry)) at (now (t .exit)) (now (out .exit)) r ⌝ }
 {
     if nums.len() < 5 {
         return at;
@@ -159,12 +159,7 @@ pub fn request(t: &mut [i64], nums: &[i64], out: &mut [u8], at: usize) -> usize
     if numbers::get(nums, 4) + 5 != nums.len() as u64 {
         return at;
     }
-    let n = TransferRequest {
-        mirn: nums[0],
-        user: nums[1],
-        proposed: nums[2],
-        nochange: nums[3],
-    };
+    let n = to_request(nums);
     match transfer::request(t, n, &nums[5..]) {
         RequestAnswer::Entered { first, last } => {
             let a = first.0;
@@ -175,33 +170,47 @@ pub fn request(t: &mut [i64], nums: &[i64], out: &mut [u8], at: usize) -> usize
     }
 }
 
+fn to_withdrawal(nums: &[i64]) -> Withdrawal
+    requires { ⌜ 2 ≤ length (now nums) ⌝ }
+    ensures { λ r. ⌜ r ≡ withdrawalOf (now (nums .entry)) ⌝ }
+{
+    Withdrawal {
+        mirn: nums[0],
+        user: nums[1],
+    }
+}
+
 pub fn withdraw(t: &mut [i64], nums: &[i64], out: &mut [u8], at: usize) -> usize
     requires { ⌜ at + 2048 ≤ length (now out) ⌝ }
-    ensures { λ r. ⌜ (at ≤ r) × (r ≤ at + 2048) ⌝ }
+    ensures { λ r. ⌜ Played (withdrawLine (now (t .entry)) (now (nums .entry))) (now (t .entry)) (now (out .entry)) at (now (t .exit)) (now (out .exit)) r ⌝ }
 {
     if nums.len() != 2 {
         return at;
     }
-    let n = Withdrawal {
-        mirn: nums[0],
-        user: nums[1],
-    };
+    let n = to_withdrawal(nums);
     let a = transfer::withdraw(t, n);
     notice(out, at, a)
 }
 
-pub fn date(nums: &[i64], out: &mut [u8], at: usize) -> usize
+fn to_date(nums: &[i64]) -> YearMonthDay
+    requires { ⌜ 3 ≤ length (now nums) ⌝ }
+    ensures { λ r. ⌜ r ≡ dateOf (now (nums .entry)) ⌝ }
+{
+    YearMonthDay {
+        year: nums[0],
+        month: nums[1],
+        day: nums[2],
+    }
+}
+
+pub fn date(t: &[i64], nums: &[i64], out: &mut [u8], at: usize) -> usize
     requires { ⌜ at + 2048 ≤ length (now out) ⌝ }
-    ensures { λ r. ⌜ (at ≤ r) × (r ≤ at + 2048) ⌝ }
+    ensures { λ r. ⌜ Played (dateLine (now (t .entry)) (now (nums .entry))) (now (t .entry)) (now (out .entry)) at (now (t .entry)) (now (out .exit)) r ⌝ }
 {
     if nums.len() != 3 {
         return at;
     }
-    let d = YearMonthDay {
-        year: nums[0],
-        month: nums[1],
-        day: nums[2],
-    };
+    let d = to_date(nums);
     match calendar::date(d) {
         DateAnswer::OnDay(day) => {
             let n = day.0;
@@ -217,7 +226,9 @@ struct Checksum {
     s2: u64,
 }
 
-fn sums(t: &[i64]) -> Checksum {
+fn sums(t: &[i64]) -> Checksum
+    ensures { λ r. ⌜ (r .s1 ≡ sumsOf (now (t .entry)) .0) × (r .s2 ≡ sumsOf (now (t .entry)) .1) ⌝ }
+{
     let mut s1: u64 = 0;
     let mut s2: u64 = 0;
     let mut i = 0;
@@ -231,7 +242,7 @@ fn sums(t: &[i64]) -> Checksum {
 
 pub fn look(t: &[i64], nums: &[i64], out: &mut [u8], at: usize) -> usize
     requires { ⌜ at + 2048 ≤ length (now out) ⌝ }
-    ensures { λ r. ⌜ (at ≤ r) × (r ≤ at + 2048) ⌝ }
+    ensures { λ r. ⌜ Played (lookLine (now (t .entry)) (now (nums .entry))) (now (t .entry)) (now (out .entry)) at (now (t .entry)) (now (out .exit)) r ⌝ }
 {
     if nums.len() != 1 {
         return at;
@@ -241,10 +252,18 @@ pub fn look(t: &[i64], nums: &[i64], out: &mut [u8], at: usize) -> usize
     row(out, at, &[part.len() as u64, s.s1, s.s2])
 }
 
+// A line's number i, at a place of a table.
+fn put(t: &mut [i64], place: usize, nums: &[i64], i: usize)
+    requires { ⌜ (place < length (now t)) × (i < length (now nums)) ⌝ }
+    ensures { λ _. ⌜ now (t .exit) ≡ set (now (t .entry)) place (num (now (nums .entry)) i) ⌝ }
+{
+    t[place] = nums[i];
+}
+
 // Sets one number of the register.
 pub fn poke(t: &mut [i64], nums: &[i64], out: &mut [u8], at: usize) -> usize
     requires { ⌜ (7688 ≤ length (now t)) × (at + 2048 ≤ length (now out)) ⌝ }
-    ensures { λ r. ⌜ (at ≤ r) × (r ≤ at + 2048) ⌝ }
+    ensures { λ r. ⌜ Played (pokeLine (now (t .entry)) (now (nums .entry))) (now (t .entry)) (now (out .entry)) at (now (t .exit)) (now (out .exit)) r ⌝ }
 {
     if nums.len() != 2 {
         return at;
@@ -253,14 +272,14 @@ pub fn poke(t: &mut [i64], nums: &[i64], out: &mut [u8], at: usize) -> usize
     if 7688 <= place {
         return at;
     }
-    t[place as usize] = nums[1];
+    put(t, place as usize, nums, 1);
     row(out, at, &[0])
 }
 
 // The sums of the register, and of the sixteen numbers past it.
 pub fn table(t: &[i64], nums: &[i64], out: &mut [u8], at: usize) -> usize
     requires { ⌜ (7688 ≤ length (now t)) × (at + 2048 ≤ length (now out)) ⌝ }
-    ensures { λ r. ⌜ (at ≤ r) × (r ≤ at + 2048) ⌝ }
+    ensures { λ r. ⌜ Played (tableLine (now (t .entry)) (now (nums .entry))) (now (t .entry)) (now (out .entry)) at (now (t .entry)) (now (out .exit)) r ⌝ }
 {
     if nums.len() != 0 {
         return at;

@@ -38,7 +38,7 @@ fn answer(call: Call, t: &mut [i64], lent: usize, nums: &[i64], out: &mut [u8], 
     ensures { λ r. ⌜ (at ≤ r) × (r ≤ at + 2048) ⌝ }
 {
     match call {
-        Call::Date => answers::date(nums, out, at),
+        Call::Date => answers::date(t, nums, out, at),
         Call::Look => answers::look(&t[0..lent], nums, out, at),
         Call::Poke => answers::poke(t, nums, out, at),
         Call::Table => answers::table(t, nums, out, at),
@@ -59,7 +59,7 @@ fn lend(nums: &[i64], out: &mut [u8], s: Standing) -> Standing
         return s;
     }
     let at = s.at;
-    let end = answers::row(out, at, &[0]);
+    let end = printing::row(out, at, &[0]);
     let mut r = s;
     r.lent = n as usize;
     r.at = end;
@@ -113,7 +113,7 @@ fn unknown(out: &mut [u8], s: Standing) -> Standing
     let at = s.at;
     let number = std::num::wrapping_add_u64(s.lines, 1);
     let mut r = s;
-    r.at = answers::unknown(out, at, number);
+    r.at = printing::unknown(out, at, number);
     r
 }
 

@@ -42,8 +42,8 @@ digits-within (suc f) (suc (suc k)) n h w =
     let more : 10 ≤ n = omega arith in
     let below : n / 10 < 10 ^ suc k = omega (arith, w .1, pow-suc 10 (suc k)) in
     let fewest : 1 < suc k → 10 ^ (suc k - 1) ≤ n / 10 = λ l.
-        let same : suc k - 1 ≡ k = omega arith in
-        rw same (omega (arith, pow-suc 10 k)) in
+    let same : suc k - 1 ≡ k = omega arith in
+    rw same (omega (arith, pow-suc 10 k)) in
     rw (le-ltb n 10 more, digits-within f (suc k) (n / 10) (omega arith) (omega arith, below, fewest))
 
 pub decimal-is : (n k : ℕ) → n < 2 ^ 64 → Fewest 10 1 n k → digits 10 k n ≡ decimalOf n
