@@ -1,2 +1,3 @@
--- Where a player stands between two bytes.
+-- What a player's lines do, and where it stands between two bytes.
 pub mod Ready
+pub mod Calls

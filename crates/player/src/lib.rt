@@ -2,6 +2,8 @@
 ghost use mathlib.Core.Path.{_≡_};
 ghost use Prim.Native.Nat.{_+_, _*_, _≤_};
 ghost use lib.ListN.{length};
+ghost use Rattle.answers.specs.Lines.{Played};
+ghost use Rattle.player.specs.Calls.{noticeLine, callLine};
 ghost use Rattle.player.specs.Ready.{Ready, Sized};
 use journal::Call;
 use journal::Taken;
@@ -19,7 +21,7 @@ pub struct Standing {
 // A call on the numbers that it is lent.
 fn notice(call: Call, t: &mut [i64], nums: &[i64], out: &mut [u8], at: usize) -> usize
     requires { ⌜ at + 2048 ≤ length (now out) ⌝ }
-    ensures { λ r. ⌜ (at ≤ r) × (r ≤ at + 2048) ⌝ }
+    ensures { λ r. ⌜ Played (noticeLine call (now (t .entry)) (now (nums .entry))) (now (t .entry)) (now (out .entry)) at (now (t .exit)) (now (out .exit)) r ⌝ }
 {
     match call {
         Call::Fresh => answers::fresh(t, nums, out, at),
@@ -35,7 +37,7 @@ fn notice(call: Call, t: &mut [i64], nums: &[i64], out: &mut [u8], at: usize) ->
 // Any call but tlen. Poke and table reach the whole buffer.
 fn answer(call: Call, t: &mut [i64], lent: usize, nums: &[i64], out: &mut [u8], at: usize) -> usize
     requires { ⌜ (7688 ≤ length (now t)) × (lent ≤ length (now t)) × (at + 2048 ≤ length (now out)) ⌝ }
-    ensures { λ r. ⌜ (at ≤ r) × (r ≤ at + 2048) ⌝ }
+    ensures { λ r. ⌜ Played (callLine call (now (t .entry)) lent (now (nums .entry))) (now (t .entry)) (now (out .entry)) at (now (t .exit)) (now (out .exit)) r ⌝ }
 {
     match call {
         Call::Date => answers::date(t, nums, out, at),
