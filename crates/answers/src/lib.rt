@@ -1,10 +1,8 @@
 // The calls of a journal. Each takes the numbers of its line, runs the register's call and writes the answer as a row of
 // numbers at place `at` of the output; it answers the place after the row, or `at` where the line has another count of
 // numbers and is no call. A row takes at most 2,048 bytes.
-ghost use mathlib.Core.List.{map};
 ghost use mathlib.Core.Path.{_≡_};
 ghost use Prim.Native.Nat.{_+_, _<_, _≤_};
-ghost use lib.IntN.{pos};
 ghost use lib.ListN.{length, set};
 ghost use Rattle.daybook.specs.Calls.{noticeNumbers};
 ghost use Rattle.printing.specs.Rows.{rowOf, Printed};
