@@ -1,0 +1,2 @@
+-- Laws of a player's calls.
+pub mod Calls

@@ -1,0 +1,3 @@
+-- What a player's lines do, and where it stands between two bytes.
+pub mod Ready
+pub mod Calls
