@@ -40,10 +40,10 @@ fn answer(call: Call, t: &mut [i64], lent: usize, nums: &[i64], out: &mut [u8], 
     ensures { λ r. ⌜ Played (callLine call (now (t .entry)) lent (now (nums .entry))) (now (t .entry)) (now (out .entry)) at (now (t .exit)) (now (out .exit)) r ⌝ }
 {
     match call {
-        Call::Date => answers::date(t, nums, out, at),
-        Call::Look => answers::look(&t[0..lent], nums, out, at),
-        Call::Poke => answers::poke(t, nums, out, at),
-        Call::Table => answers::table(t, nums, out, at),
+        Call::Date => queries::date(t, nums, out, at),
+        Call::Look => queries::look(&t[0..lent], nums, out, at),
+        Call::Poke => queries::poke(t, nums, out, at),
+        Call::Table => queries::table(t, nums, out, at),
         _ => notice(call, &mut t[0..lent], nums, out, at),
     }
 }

@@ -1,6 +1,6 @@
 use native.Mathlib.Nat.{sub-zero}
 use lib.ListN.{take}
-use Rattle.answers.specs.Lines.{lookLine}
+use Rattle.queries.specs.Lines.{lookLine}
 use Rattle.player.specs.Calls.{noticeLine}
 use Rattle.player.proofs.Calls.{on-lent, on-lent-kept, goes-on}
 use borrow.Author.Needs.{needs}
