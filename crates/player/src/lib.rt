@@ -1,6 +1,6 @@
 // Plays a journal: reads calls from standard input, one a line, on one register, and writes a row of numbers for each.
 ghost use mathlib.Core.Path.{_≡_};
-ghost use Prim.Native.Nat.{_+_, _*_, _≤_};
+ghost use Prim.Native.Nat.{_+_, _≤_};
 ghost use lib.ListN.{length};
 ghost use Rattle.player.specs.Ready.{Ready, Sized};
 use journal::Call;
