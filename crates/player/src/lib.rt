@@ -1,9 +1,7 @@
 // Plays a journal: reads calls from standard input, one a line, on one register, and writes a row of numbers for each.
 ghost use mathlib.Core.Path.{_≡_};
-ghost use Prim.Native.Nat.{_+_, _*_, _≤_};
+ghost use Prim.Native.Nat.{_+_, _≤_};
 ghost use lib.ListN.{length};
-ghost use Rattle.answers.specs.Lines.{Played};
-ghost use Rattle.player.specs.Calls.{noticeLine, callLine};
 ghost use Rattle.player.specs.Ready.{Ready, Sized};
 use journal::Call;
 use journal::Taken;
@@ -16,36 +14,6 @@ pub struct Standing {
     pub filled: usize,
     pub at: usize,
     pub more: bool,
-}
-
-// A call on the numbers that it is lent.
-fn notice(call: Call, t: &mut [i64], nums: &[i64], out: &mut [u8], at: usize) -> usize
-    requires { ⌜ at + 2048 ≤ length (now out) ⌝ }
-    ensures { λ r. ⌜ Played (noticeLine call (now (t .entry)) (now (nums .entry))) (now (t .entry)) (now (out .entry)) at (now (t .exit)) (now (out .exit)) r ⌝ }
-{
-    match call {
-        Call::Fresh => answers::fresh(t, nums, out, at),
-        Call::Open => answers::open(t, nums, out, at),
-        Call::Energy => answers::energy(t, nums, out, at),
-        Call::Status => answers::status(t, nums, out, at),
-        Call::Request => answers::request(t, nums, out, at),
-        Call::Withdraw => answers::withdraw(t, nums, out, at),
-        _ => at,
-    }
-}
-
-// Any call but tlen. Poke and table reach the whole buffer.
-fn answer(call: Call, t: &mut [i64], lent: usize, nums: &[i64], out: &mut [u8], at: usize) -> usize
-    requires { ⌜ (7688 ≤ length (now t)) × (lent ≤ length (now t)) × (at + 2048 ≤ length (now out)) ⌝ }
-    ensures { λ r. ⌜ Played (callLine call (now (t .entry)) lent (now (nums .entry))) (now (t .entry)) (now (out .entry)) at (now (t .exit)) (now (out .exit)) r ⌝ }
-{
-    match call {
-        Call::Date => answers::date(t, nums, out, at),
-        Call::Look => answers::look(&t[0..lent], nums, out, at),
-        Call::Poke => answers::poke(t, nums, out, at),
-        Call::Table => answers::table(t, nums, out, at),
-        _ => notice(call, &mut t[0..lent], nums, out, at),
-    }
 }
 
 // The call tlen.
@@ -85,7 +53,7 @@ fn call(t: &mut [i64], line: &[u8], nums: &mut [i64], out: &mut [u8], s: Standin
     let lent = s.lent;
     let at = s.at;
     let mut r = s;
-    r.at = answer(named, t, lent, &nums[0..n], out, at);
+    r.at = dispatch::answer(named, t, lent, &nums[0..n], out, at);
     r
 }
 
