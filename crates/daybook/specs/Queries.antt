@@ -59,8 +59,11 @@ dailyGas g p =
     cond (filled p g) (dayShare p g) weekBefore
 
 -- TDM sums the active daily points.
+unfoldable pub meteredOf : ℕ → Point → ℤ
+meteredOf g p = cond (active g p && eqb (p .facts .kind) 1) (dailyGas g p) (pos 0)
+
 unfoldable pub tdmOf : ℕ → Book → ℤ
-tdmOf g B = sumOf (λ p. cond (active g p && eqb (p .facts .kind) 1) (dailyGas g p) (pos 0)) (B .points)
+tdmOf g B = sumOf (meteredOf g) (B .points)
 
 -- A negative number counts 0.
 abbrev pub atLeast0 : ℤ → ℕ
@@ -103,10 +106,14 @@ abbrev pub users : List ℕ
 users = 1 ∷ 2 ∷ 3 ∷ 4 ∷ 5 ∷ 6 ∷ 7 ∷ 8 ∷ 9 ∷ 10 ∷ 11 ∷ 12 ∷ 13 ∷ 14 ∷ 15 ∷ 16 ∷ []
 
 -- a ≤ b < g, at most 400 days; `room` is the answer table's length.
+abbrev pub allocationInRange : AllocationQuery → ℕ → Bool
+allocationInRange n room =
+    isDay (n .gasday) && isDay (n .from) && isDay (n .to) && leZ (n .from) (n .to) && ltZ (n .to) (n .gasday)
+    && leb (natOf (n .to) - natOf (n .from)) 399 && within (pos 0) (pos 1000000000) (n .tdq)
+    && within (negsuc 999999999) (pos 1000000000) (n .uag) && within (negsuc 999999999) (pos 1000000000) (n .clp) && leb 32 room
+
 unfoldable pub allocateRows : AllocationQuery → ℕ → Book → List Row
-allocateRows n room B =
-    (2, not (isDay (n .gasday) && isDay (n .from) && isDay (n .to) && leZ (n .from) (n .to) && ltZ (n .to) (n .gasday) && leb (natOf (n .to) - natOf (n .from)) 399 && within (pos 0) (pos 1000000000) (n .tdq) && within (negsuc 999999999) (pos 1000000000) (n .uag) && within (negsuc 999999999) (pos 1000000000) (n .clp) && leb 32 room))
-    ∷ (15, eqb (total (weights n B)) 0) ∷ []
+allocateRows n room B = (2, not (allocationInRange n room)) ∷ (15, eqb (total (weights n B)) 0) ∷ []
 
 -- NSL and the sixteen totals; and the answer table's first 32 numbers, the shares in opening order and 0 past the last
 -- point. A refused allocation gives the answer table nothing.

@@ -1,4 +1,4 @@
--- What a call that changes the book does to a lent table.
+-- What a call does to a lent table, and what a query is told of it.
 use mathlib.Core.Bool.{Bool, false, not, cond}
 use mathlib.Core.List.{List, [], _∷_}
 use Prim.Native.Nat.{ℕ}
@@ -24,3 +24,7 @@ unfoldable pub onTable : ℕ → (Book → Numbers × Book) → Edition → List
 onTable k step ed t =
     let taken : Numbers × List ℤ = leaves ed t (step (tableBook ed t)) in
     cond (sound ed t) taken (pos 1 ∷ replicate k (pos 0), t)
+
+-- A query is refused where the table is short or unsound; else the table's book answers it.
+unfoldable pub ofTable : {A : Type 0} → A → (Book → A) → Edition → List ℤ → A
+ofTable {A} refusal query ed t = let given : A = query (tableBook ed t) in cond (sound ed t) given refusal

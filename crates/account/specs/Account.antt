@@ -1,0 +1,12 @@
+-- What account answers of a lent table.
+use mathlib.Core.List.{List, [], _∷_}
+use lib.IntN.{ℤ, pos}
+use Rattle.daybook.specs.declared.AccountQuery.{AccountQuery}
+use Rattle.daybook.specs.Notices.{Numbers}
+use Rattle.daybook.specs.Queries.{account}
+use Rattle.layout.specs.Layout.{standard}
+use Rattle.layout.specs.Calls.{ofTable}
+
+-- One field: the sum.
+unfoldable pub accountCall : List ℤ → AccountQuery → Numbers
+accountCall t n = ofTable (pos 1 ∷ pos 0 ∷ []) (account n) standard t

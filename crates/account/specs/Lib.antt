@@ -1,0 +1,2 @@
+-- What a User's account is told.
+pub mod Account

@@ -1,0 +1,118 @@
+-- Row 2 of an allocation on naturals, and the net section load from raised numbers. Assumes nothing.
+use mathlib.Core.Path.{_≡_, refl, sym, ap, ap₂, _∙_}
+use mathlib.Core.Bool.{Bool, true, false, _&&_}
+use Prim.Native.Nat.{ℕ, _+_, _-_, _*_, _≤_, _<_, _^_}
+use native.Mathlib.Omega.{arith}
+use lib.Dec.{leb, ltb}
+use lib.IntN.{ℤ, pos, negsuc, subℕ, _+ℤ_, _-ℤ_}
+use lib.Signed.{leZ, ltZ}
+use mir.Val.{SFits}
+use mir.ValLaws.{toZ-ofZ}
+use mir.Syntax.{w64}
+use borrow.Author.Tests.{ltb-true, ltb-false, leb-true, leb-false, le-leb, lt-leb}
+use Rattle.numbers.specs.Naturals.{natOf}
+use Rattle.numbers.proofs.Naturals.{rd}
+use Rattle.numbers.proofs.Bools.{both}
+use Rattle.numbers.proofs.Integers.{up, dn, eqZ, add-fact, minus-fact, sub-fact, le-fact}
+use Rattle.calendar.specs.Calendar.{within, isDay}
+use Rattle.calendar.proofs.Dates.{within-natural, day-natural}
+use Rattle.daybook.specs.declared.AllocationQuery.{AllocationQuery}
+use Rattle.daybook.specs.Queries.{allocationInRange, atLeast0}
+use Rattle.allocate.specs.Parts.{loadOf}
+
+-- a field that is copied is read as it is
+pub natural-read : (z : ℤ) → SFits w64 z → natOf (rd z) ≡ natOf z
+natural-read z f = ap natOf (toZ-ofZ w64 z f)
+
+-- ---- an amount of at most 1,000,000,000 either way
+
+abbrev pub isLoad : ℤ → Bool
+isLoad x = within (negsuc 999999999) (pos 1000000000) x
+
+abbrev pub raised : ℤ → ℕ
+raised x = up x + 1000000000 - dn x
+
+module _ (x : ℤ) (e : isLoad x ≡ true) where
+  bounds : (dn x ≤ up x + 1000000000) × (up x ≤ 1000000000 + dn x)
+  bounds =
+      let b = both (leZ (negsuc 999999999) x) (leZ x (pos 1000000000)) e in
+      (omega (arith, le-fact (negsuc 999999999) x (b .0)), omega (arith, le-fact x (pos 1000000000) (b .1)))
+
+  pub load-raised : x +ℤ pos 1000000000 ≡ pos (raised x)
+  load-raised = eqZ _ _ (omega (arith, bounds .0, add-fact x (pos 1000000000)))
+
+  pub load-back : subℕ (raised x) 1000000000 ≡ x
+  load-back = eqZ _ _ (omega (arith, bounds .0, sub-fact (raised x) 1000000000))
+
+  pub load-small : raised x ≤ 2000000000
+  load-small = omega (arith, bounds .1)
+
+pub load-natural : (x : ℤ) → within (pos 0) (pos 1000000000) x ≡ true → (x ≡ pos (natOf x)) × (natOf x ≤ 1000000000)
+load-natural (pos n) e = (refl, leb-true n 1000000000 (both (leb 0 n) (leb n 1000000000) e .1))
+load-natural (negsuc n) e = let z : _≡_ {A = ℕ} 0 1 = cc in absurd (omega arith)
+
+-- ---- the net section load
+
+at-least-sub : (a b : ℕ) → atLeast0 (subℕ a b) ≡ a - b
+at-least-sub a b = go (ltb a b) refl
+  where
+    go : (t : Bool) → ltb a b ≡ t → atLeast0 (subℕ a b) ≡ a - b
+    go true e = let h : a < b = ltb-true a b e in rw e (omega arith)
+    go false e = rw e
+
+module _ (q : AllocationQuery) (tdq tdm most uag clp : ℕ) (a : q .tdq ≡ pos tdq) (b : subℕ uag 1000000000 ≡ q .uag) (c : subℕ clp 1000000000 ≡ q .clp) where
+  pub net-load : tdq + most + 2000000000 - (tdm + uag + clp) ≡ atLeast0 (loadOf q tdm most)
+  net-load = sym (ap atLeast0 whole ∙ at-least-sub (tdq + most + 2000000000) (tdm + uag + clp))
+    where
+      whole : loadOf q tdm most ≡ subℕ (tdq + most + 2000000000) (tdm + uag + clp)
+      whole =
+          rw (a, ← b, ← c)
+          (eqZ _ _ (omega (arith, minus-fact (pos tdq -ℤ subℕ tdm most -ℤ subℕ uag 1000000000) (subℕ clp 1000000000), minus-fact (pos tdq -ℤ subℕ tdm most) (subℕ uag 1000000000), minus-fact (pos tdq) (subℕ tdm most), sub-fact tdm most, sub-fact uag 1000000000, sub-fact clp 1000000000, sub-fact (tdq + most + 2000000000) (tdm + uag + clp))))
+
+-- ---- row 2
+
+-- what follows a test need agree only where it holds
+and-where : (p : Bool) {x y : Bool} → (p ≡ true → x ≡ y) → (p && x) ≡ (p && y)
+and-where true f = f refl
+and-where false f = refl
+
+module _ (g a b : ℤ) where
+  abbrev areDays : Bool
+  areDays = isDay g && isDay a && isDay b
+
+  -- days are naturals
+  same-order : (x y : ℤ) → isDay x ≡ true → isDay y ≡ true → (leb (natOf x) (natOf y) ≡ leZ x y) × (ltb (natOf x) (natOf y) ≡ ltZ x y)
+  same-order (pos x) (pos y) e f = (refl, refl)
+  same-order (pos x) (negsuc y) e f = let z : _≡_ {A = ℕ} 0 1 = cc in absurd (omega arith)
+  same-order (negsuc x) y e f = let z : _≡_ {A = ℕ} 0 1 = cc in absurd (omega arith)
+
+  window-is : (x y : ℕ) → leb y (x + 399) ≡ leb (y - x) 399
+  window-is x y = go (leb y (x + 399)) refl
+    where
+      go : (t : Bool) → leb y (x + 399) ≡ t → t ≡ leb (y - x) 399
+      go true e = sym (le-leb (y - x) 399 (omega (arith, leb-true y (x + 399) e)))
+      go false e = sym (lt-leb (y - x) 399 (omega (arith, leb-false y (x + 399) e)))
+
+  in-order : areDays ≡ true → (leb (natOf a) (natOf b) ≡ leZ a b) × (ltb (natOf b) (natOf g) ≡ ltZ b g)
+  in-order e =
+      let d = both (isDay g && isDay a) (isDay b) e in
+      let c = both (isDay g) (isDay a) (d .0) in
+      (same-order a b (c .1) (d .1) .0, same-order b g (d .1) (c .0) .1)
+
+  pub window : (leb (natOf g) 39999 && leb (natOf a) 39999 && leb (natOf b) 39999 && leb (natOf a) (natOf b) && ltb (natOf b) (natOf g) && leb (natOf b) (natOf a + 399))
+      ≡ (isDay g && isDay a && isDay b && leZ a b && ltZ b g && leb (natOf b - natOf a) 399)
+  window =
+      ap₂ _&&_
+      (ap (λ p. p && leb (natOf a) (natOf b) && ltb (natOf b) (natOf g)) (ap₂ _&&_ (ap₂ _&&_ (day-natural g) (day-natural a)) (day-natural b))
+      ∙ ap (λ p. p && ltb (natOf b) (natOf g)) (and-where areDays (λ e. in-order e .0))
+      ∙ and-where (areDays && leZ a b) (λ e. in-order (both areDays (leZ a b) e .0) .1))
+      (window-is (natOf a) (natOf b))
+
+up-to : (hi : ℕ) (z : ℤ) → hi < 2 ^ 63 → leb (natOf z) hi ≡ within (pos 0) (pos hi) z
+up-to hi z h = ap (λ b. b && leb (natOf z) hi) (sym (le-leb 0 (natOf z) (omega arith))) ∙ within-natural 0 hi z h
+
+pub in-range-is : (n : AllocationQuery) (room : ℕ) {g a b q : ℕ} {u c : Bool} → g ≡ natOf (n .gasday) → a ≡ natOf (n .from) → b ≡ natOf (n .to) → q ≡ natOf (n .tdq) → u ≡ isLoad (n .uag) → c ≡ isLoad (n .clp)
+    → (leb g 39999 && leb a 39999 && leb b 39999 && leb a b && ltb b g && leb b (a + 399) && leb q 1000000000 && u && c && leb 32 room) ≡ allocationInRange n room
+in-range-is n room g a b q u c =
+    rw (g, a, b, q, u, c)
+    (ap₂ (λ w q. w && q && isLoad (n .uag) && isLoad (n .clp) && leb 32 room) (window (n .gasday) (n .from) (n .to)) (up-to 1000000000 (n .tdq) (omega arith)))

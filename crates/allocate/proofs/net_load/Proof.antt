@@ -1,0 +1,91 @@
+use mathlib.Core.Path.{_≡_, sym, ap, _∙_}
+use Prim.Native.Nat.{ℕ, _+_, _-_, _*_, _≤_}
+use native.Mathlib.Omega.{arith}
+use lib.IntN.{pos}
+use mir.ValLaws.{toZ-ofZ}
+use mir.Syntax.{w64}
+use borrow.Author.Needs.{needs, sfits-of}
+use Rattle.numbers.specs.Naturals.{natOf}
+use Rattle.daybook.specs.Queries.{atLeast0}
+use Rattle.allocate.specs.Parts.{loadOf}
+use Rattle.allocate.proofs.Loads.{natural-read, net-load, load-natural}
+use Rattle.allocate.proofs.net_load.Statement.{statement}
+use Rattle.allocate.proofs.net_load.Tie as tie
+use Rattle.allocate.proofs.net_load.Reads as reads
+use Rattle.allocate.proofs.net_load.Lts as lts
+use Rattle.allocate.proofs.raised_load.Reads as raised-load-reads
+use Rattle.numbers.proofs.natural.Reads as natural-reads
+
+-- what is read of the numbers
+tdq-is : (c : tie.After-natural) → (c .before .before .before .before .args .q .tdq ≡ pos (c .natural .result)) × (c .natural .result ≤ 1000000000)
+tdq-is c =
+    let s = c .before .before .before .before in
+    let tdq = load-natural (s .args .q .tdq) (s .pre .0) in
+    let is : c .natural .result ≡ natOf (s .args .q .tdq) = c .natural .ensures .0 ∙ natural-read (s .args .q .tdq) (sfits-of (c .before .struct-told3 .given .1 .1 .1 .0 .1)) in
+    (tdq .0 ∙ ap pos (sym is), rw is (tdq .1))
+
+load-is : (c : tie.After-raised-load2)
+    → c .before .before .natural .result + 1000000 * c .before .before .before .before .before .before .args .n + 2000000000 - (c .before .before .before .before .before .before .args .tdm + c .before .raised-load .result + c .raised-load2 .result)
+    ≡ atLeast0 (loadOf (c .before .before .before .before .before .before .args .q) (c .before .before .before .before .before .before .args .tdm) (1000000 * c .before .before .before .before .before .before .args .n))
+load-is c =
+    let s = c .before .before .before .before .before .before in
+    let fits = c .before .before .before .struct-told3 .given in
+    net-load (s .args .q) (c .before .before .natural .result) (s .args .tdm) (1000000 * s .args .n) (c .before .raised-load .result) (c .raised-load2 .result)
+    (tdq-is (c .before .before) .0)
+    (c .before .raised-load .ensures .0 ∙ toZ-ofZ w64 (s .args .q .uag) (sfits-of (fits .1 .1 .1 .1 .0 .1)))
+    (c .raised-load2 .ensures .0 ∙ toZ-ofZ w64 (s .args .q .clp) (sfits-of (fits .1 .1 .1 .1 .1 .0 .1)))
+
+-- src/lib.rt:65:18
+natural-requires : tie.Need-natural-requires
+natural-requires c κs = search needs
+
+-- src/lib.rt:65:42
+mul-gained : tie.Need-mul-gained
+mul-gained c = search needs
+
+-- src/lib.rt:65:18
+add-gained : tie.Need-add-gained
+add-gained c = search needs
+
+-- src/lib.rt:65:18
+add-gained-2 : tie.Need-add-gained-2
+add-gained-2 c = search needs
+
+-- src/lib.rt:66:23
+raised-load-requires : tie.Need-raised-load-requires
+raised-load-requires c κs = search needs
+
+-- src/lib.rt:66:17
+add-taken : tie.Need-add-taken
+add-taken c = search needs
+
+-- src/lib.rt:66:42
+raised-load-requires-2 : tie.Need-raised-load-requires-2
+raised-load-requires-2 c κs = search needs
+
+-- src/lib.rt:66:17
+add-taken-2 : tie.Need-add-taken-2
+add-taken-2 c = search needs
+
+-- src/lib.rt:68:9
+returns : tie.Need-returns
+returns c = (omega (arith, c .if1 .taken) ∙ load-is (c .before), omega arith)
+
+-- src/lib.rt:58:1
+returns-2 : tie.Need-returns-2
+returns-2 c = (load-is (c .before), omega (arith, tdq-is (c .before .before .before) .1))
+
+pub net-load-spec : {M : Type 1} → statement M
+net-load-spec =
+    tie.close
+    (tie.spec
+    natural-requires
+    mul-gained
+    add-gained
+    add-gained-2
+    raised-load-requires
+    add-taken
+    raised-load-requires-2
+    add-taken-2
+    returns
+    returns-2)

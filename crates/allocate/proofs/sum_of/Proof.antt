@@ -1,0 +1,75 @@
+use mathlib.Core.Path.{_≡_, sym, ap, _∙_}
+use Prim.Native.Nat.{ℕ, _+_, _-_, _*_, _≤_}
+use native.Mathlib.Omega.{arith}
+use lib.ListN.{getD, take}
+use borrow.Author.Needs.{needs}
+use Rattle.daybook.specs.Queries.{total}
+use Rattle.allocate.proofs.Splits.{sum-step, sum-none, take-whole}
+use Rattle.allocate.proofs.sum_of.Statement.{statement}
+use Rattle.allocate.proofs.sum_of.Tie as tie
+use Rattle.allocate.proofs.sum_of.Reads as reads
+use Rattle.allocate.proofs.sum_of.Lts as lts
+
+abbrev Inv-loop : tie.InvT-loop
+Inv-loop ws sum₀ k₀ sum k = (k ≤ 32) × (sum ≡ total (take k ws)) × (sum ≤ 60010000 * k)
+
+abbrev μ-loop : tie.MeasureT-loop
+μ-loop ws sum₀ k₀ sum k = 32 - k
+
+-- src/lib.rt:80:5
+loop-holds : tie.Need-loop-holds Inv-loop μ-loop
+loop-holds c = (omega arith, sym (sum-none (c .args .ws .now)), omega arith)
+
+-- src/lib.rt:81:16
+mul-sum : tie.Need-mul-sum Inv-loop μ-loop
+mul-sum c = search needs
+
+-- src/lib.rt:81:16
+shared-slice-read-sum : tie.Need-shared-slice-read-sum Inv-loop μ-loop
+shared-slice-read-sum c = search needs
+
+-- src/lib.rt:81:9
+add-sum : tie.Need-add-sum Inv-loop μ-loop
+add-sum c =
+    let s = c .before .before in
+    record { fits = omega (arith, s .before .pre .1 (s .loop .k)) }
+
+-- src/lib.rt:82:9
+add-k : tie.Need-add-k Inv-loop μ-loop
+add-k c = search needs
+
+-- src/lib.rt:80:5
+loop-less : tie.Need-loop-less Inv-loop μ-loop
+loop-less c = search needs
+
+-- src/lib.rt:80:5
+loop-again : tie.Need-loop-again Inv-loop μ-loop
+loop-again c =
+    let s = c .before .before in
+    let small = s .before .pre .1 (s .loop .k) in (
+      omega arith,
+      ap (λ z. z + getD (s .before .args .ws .now) (s .loop .k) 0) (s .loop .inv .1) ∙ sym (sum-step (s .before .args .ws .now) (s .loop .k) (omega (arith, s .before .pre .0))),
+      omega (arith, small),
+    )
+
+-- src/lib.rt:74:1
+returns : tie.Need-returns Inv-loop μ-loop
+returns c =
+    let s = c .before in
+    let e : s .loop .k ≡ 32 = omega arith in
+    (s .loop .inv .1 ∙ ap (λ k. total (take k (s .before .args .ws .now))) e ∙ ap total (take-whole (s .before .args .ws .now) 32 (s .before .pre .0)), omega arith)
+
+pub sum-of-spec : {M : Type 1} → statement M
+sum-of-spec =
+    tie.close
+    (tie.spec
+    Inv-loop
+    μ-loop
+    loop-holds
+    mul-sum
+    shared-slice-read-sum
+    add-sum
+    add-k
+    loop-less
+    loop-again
+    returns)

@@ -1,0 +1,95 @@
+use mathlib.Core.Path.{_≡_, sym, _∙_, ap, ap₂}
+use mathlib.Core.Bool.{cond}
+use Prim.Native.Nat.{ℕ, _+_, _-_, _*_, _≤_, _<_}
+use native.Mathlib.Omega.{arith}
+use lib.Dec.{eqb}
+use lib.ListN.{getD}
+use borrow.Author.Needs.{needs}
+use Rattle.layout.specs.Layout.{numAt}
+use Rattle.allocate.specs.Parts.{totalTo}
+use Rattle.allocate.proofs.UserTotals.{total-none, total-step, own-small}
+use Rattle.allocate.proofs.total_of.Statement.{statement}
+use Rattle.allocate.proofs.total_of.Tie as tie
+use Rattle.allocate.proofs.total_of.Reads as reads
+use Rattle.allocate.proofs.total_of.Lts as lts
+use Rattle.allocate.proofs.own.Reads as own-reads
+use Rattle.numbers.proofs.get.Reads as get-reads
+
+abbrev Inv-loop : tie.InvT-loop
+Inv-loop us xs u sum₀ k₀ sum k = (k ≤ 32) × (sum ≤ 3032000000 * k) × (sum ≡ totalTo us xs u k)
+
+abbrev μ-loop : tie.MeasureT-loop
+μ-loop us xs u sum₀ k₀ sum k = 32 - k
+
+-- what this turn adds
+own-is : (c : tie.After-own Inv-loop μ-loop)
+    → (c .own .result ≡ cond (eqb (getD (c .before .before .before .before .before .before .args .us .now) (c .before .before .before .before .loop .k) 0) (c .before .before .before .before .before .before .args .u)) (numAt (c .before .before .before .before .before .before .args .xs .now) (c .before .before .before .before .loop .k)) 0)
+    × (c .own .result ≤ 3032000000)
+own-is c =
+    let s = c .before .before .before .before .before .before in
+    let k = c .before .before .before .before .loop .k in
+    let is = c .own .ensures ∙ ap (λ x. cond (eqb (getD (s .args .us .now) k 0) (s .args .u)) x 0) (c .before .get .ensures .0) in
+    (is, rw is (own-small (eqb (getD (s .args .us .now) k 0) (s .args .u)) (numAt (s .args .xs .now) k) 3032000000 (s .pre .2 k (omega arith))))
+
+-- src/lib.rt:121:5
+loop-holds : tie.Need-loop-holds Inv-loop μ-loop
+loop-holds c = (omega arith, omega arith, sym (total-none _ _ _))
+
+-- src/lib.rt:122:20
+mul-own : tie.Need-mul-own Inv-loop μ-loop
+mul-own c = search needs
+
+-- src/lib.rt:122:20
+shared-slice-read-own : tie.Need-shared-slice-read-own Inv-loop μ-loop
+shared-slice-read-own c = search needs
+
+-- src/lib.rt:122:30
+get-requires : tie.Need-get-requires Inv-loop μ-loop
+get-requires c κs = search needs
+
+-- src/lib.rt:122:16
+own-requires : tie.Need-own-requires Inv-loop μ-loop
+own-requires c κs = search needs
+
+-- src/lib.rt:122:9
+add-sum : tie.Need-add-sum Inv-loop μ-loop
+add-sum c = record { fits = omega (arith, own-is c .1) }
+
+-- src/lib.rt:123:9
+add-k : tie.Need-add-k Inv-loop μ-loop
+add-k c = search needs
+
+-- src/lib.rt:121:5
+loop-less : tie.Need-loop-less Inv-loop μ-loop
+loop-less c = search needs
+
+-- src/lib.rt:121:5
+loop-again : tie.Need-loop-again Inv-loop μ-loop
+loop-again c =
+    let s = c .before .before .before .before .before .before in
+    let k = c .before .before .before .before .loop in
+    (omega arith, omega (arith, own-is c .1), ap₂ _+_ (k .inv .2) (own-is c .0) ∙ sym (total-step (s .args .us .now) (s .args .xs .now) (s .args .u) (k .k)))
+
+-- src/lib.rt:115:1
+returns : tie.Need-returns Inv-loop μ-loop
+returns c =
+    let s = c .before .before .before in
+    let e : c .before .loop .k ≡ 32 = omega arith in
+    (c .before .loop .inv .2 ∙ ap (totalTo (s .args .us .now) (s .args .xs .now) (s .args .u)) e, omega arith)
+
+pub total-of-spec : {M : Type 1} → statement M
+total-of-spec =
+    tie.close
+    (tie.spec
+    Inv-loop
+    μ-loop
+    loop-holds
+    mul-own
+    shared-slice-read-own
+    get-requires
+    own-requires
+    add-sum
+    add-k
+    loop-less
+    loop-again
+    returns)

@@ -1,0 +1,91 @@
+use Prim.Native.Nat.{ℕ, _+_, _-_, _*_, _≤_, _<_}
+use mathlib.Core.Path.{_≡_, refl, sym, _∙_, ap, ap₂}
+use mathlib.Core.List.{List, [], _∷_, _++_, map}
+use native.Mathlib.Omega.{arith}
+use mir.ValLaws.{toZ-ofZ}
+use mir.Syntax.{w64}
+use borrow.Author.Needs.{sfits-of}
+use lib.ListN.{getD, take, drop, set, replicate}
+use lib.IntN.{pos}
+use Rattle.daybook.specs.Queries.{users}
+use Rattle.allocate.specs.Parts.{totalTo}
+use Rattle.allocate.proofs.UserTotals.{row-step}
+use borrow.Author.Needs.{needs}
+use Rattle.allocate.proofs.totals.Statement.{statement}
+use Rattle.allocate.proofs.totals.Tie as tie
+use Rattle.allocate.proofs.totals.Reads as reads
+use Rattle.allocate.proofs.totals.Lts as lts
+use Rattle.numbers.proofs.integer.Reads as integer-reads
+use Rattle.allocate.proofs.total_of.Reads as total-of-reads
+
+abbrev Inv-loop : tie.InvT-loop
+Inv-loop us xs all₀ k₀ all k = (k ≤ 16) × (all ≡ map (λ u. pos (totalTo us xs u 32)) (take k users) ++ drop k (replicate 16 (pos 0)))
+
+abbrev μ-loop : tie.MeasureT-loop
+μ-loop us xs all₀ k₀ all k = 16 - k
+
+-- src/lib.rt:42:5
+loop-holds : tie.Need-loop-holds Inv-loop μ-loop
+loop-holds c = (omega arith, refl)
+
+-- src/lib.rt:43:47
+add-total-of : tie.Need-add-total-of Inv-loop μ-loop
+add-total-of c = search needs
+
+-- src/lib.rt:43:27
+total-of-requires : tie.Need-total-of-requires Inv-loop μ-loop
+total-of-requires c κs = search needs
+
+-- src/lib.rt:43:18
+integer-requires : tie.Need-integer-requires Inv-loop μ-loop
+integer-requires c κs = search needs
+
+-- src/lib.rt:43:9
+mul-all : tie.Need-mul-all Inv-loop μ-loop
+mul-all c = search needs
+
+-- src/lib.rt:43:9
+array-set-from-all : tie.Need-array-set-from-all Inv-loop μ-loop
+array-set-from-all c = search needs
+
+-- src/lib.rt:44:9
+add-k : tie.Need-add-k Inv-loop μ-loop
+add-k c = search needs
+
+-- src/lib.rt:42:5
+loop-less : tie.Need-loop-less Inv-loop μ-loop
+loop-less c = search needs
+
+-- src/lib.rt:42:5
+loop-again : tie.Need-loop-again Inv-loop μ-loop
+loop-again c =
+    let s = c .before .before .before .before .before in
+    let k = c .before .before .before .loop in (
+      omega arith,
+      ap (set (k .all) (k .k)) (toZ-ofZ w64 (c .integer .result) (sfits-of (c .integer .ok)) ∙ c .integer .ensures ∙ ap pos (c .before .total-of .ensures .0))
+          ∙ row-step (λ u. pos (totalTo (s .args .us .now) (s .args .xs .now) u 32)) (replicate 16 (pos 0)) (k .all) (k .k) (omega arith) refl (k .inv .1),
+    )
+
+-- src/lib.rt:36:1
+returns : tie.Need-returns Inv-loop μ-loop
+returns c =
+    let s = c .before .before .before in
+    let e : c .before .loop .k ≡ 16 = omega arith in
+    c .before .loop .inv .1 ∙ ap (λ k. map (λ u. pos (totalTo (s .args .us .now) (s .args .xs .now) u 32)) (take k users) ++ drop k (replicate 16 (pos 0))) e
+
+pub totals-spec : {M : Type 1} → statement M
+totals-spec =
+    tie.close
+    (tie.spec
+    Inv-loop
+    μ-loop
+    loop-holds
+    add-total-of
+    total-of-requires
+    integer-requires
+    mul-all
+    array-set-from-all
+    add-k
+    loop-less
+    loop-again
+    returns)

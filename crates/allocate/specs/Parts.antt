@@ -1,0 +1,33 @@
+-- What the functions behind allocate say: of arrays of 32, a place for each point and 0 past the last one.
+use mathlib.Core.Bool.{cond}
+use mathlib.Core.List.{List, _++_}
+use Prim.Native.Nat.{ℕ, zero, suc, _+_, _-_, _≤_, _<_}
+use lib.Dec.{eqb}
+use lib.IntN.{ℤ, pos, subℕ, _-ℤ_}
+use lib.ListN.{length, getD, replicate}
+use Rattle.daybook.specs.declared.AllocationQuery.{AllocationQuery}
+use Rattle.daybook.specs.Book.{Point}
+use Rattle.layout.specs.Layout.{standard, numAt, tableBook}
+
+abbrev pub pointsOf : List ℤ → List Point
+pointsOf t = tableBook standard t .points
+
+-- Numbers of points, in an array of 32.
+unfoldable pub padded : List ℕ → List ℕ
+padded l = l ++ replicate (32 - length l) 0
+
+-- What User u has of the first k shares, where us names the Users.
+unfoldable pub totalTo : List ℕ → List ℤ → ℕ → ℕ → ℕ
+totalTo us xs u zero = 0
+totalTo us xs u (suc k) = totalTo us xs u k + cond (eqb (getD us k 0) u) (numAt xs k) 0
+
+-- The load before it is cut at 0, from TDM raised by 1,000,000 for each point.
+abbrev pub loadOf : AllocationQuery → ℕ → ℕ → ℤ
+loadOf n tdm raised = n .tdq -ℤ subℕ tdm raised -ℤ n .uag -ℤ n .clp
+
+-- Every number of an array is at most `most`; every one of the first 32 of a table is.
+abbrev pub Below : ℕ → List ℕ → Type 0
+Below most l = (k : ℕ) → getD l k 0 ≤ most
+
+abbrev pub SharesBelow : ℕ → List ℤ → Type 0
+SharesBelow most l = (k : ℕ) → k < 32 → numAt l k ≤ most

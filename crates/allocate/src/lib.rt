@@ -1,0 +1,140 @@
+// allocate: the net section load of a gas day, split among the points by their weights and counted for their FROs
+// (8.11.2 to 8.11.6). Every total is natural: a number that may be negative is raised first.
+use daybook::AllocationAnswer;
+use daybook::AllocationQuery;
+ghost use mathlib.Core.Path.{_≡_};
+ghost use mathlib.Core.Bool.{true, cond};
+ghost use mathlib.Core.List.{map};
+ghost use Prim.Native.Nat.{_+_, _*_, _<_, _≤_};
+ghost use lib.Dec.{eqb};
+ghost use lib.ListN.{length};
+ghost use lib.IntN.{pos, negsuc, subℕ};
+ghost use Rattle.calendar.specs.Calendar.{within};
+ghost use Rattle.daybook.specs.Queries.{allocationInRange, atLeast0, total as totalOfWeights, split, users};
+ghost use Rattle.allocate.specs.Allocate.{placed};
+ghost use Rattle.allocate.specs.Parts.{Below, SharesBelow, totalTo, loadOf};
+
+// Is this an amount of unaccounted gas or of a linepack change?
+fn load_ok(x: i64) -> bool
+    ensures { λ r. ⌜ r ≡ within (negsuc 999999999) (pos 1000000000) x ⌝ }
+{
+    (-1000000000 <= x) & (x <= 1000000000)
+}
+
+// Such an amount, raised by 1,000,000,000.
+fn raised_load(x: i64) -> u64
+    requires { ⌜ within (negsuc 999999999) (pos 1000000000) x ≡ true ⌝ }
+    ensures { λ r. ⌜ (subℕ r 1000000000 ≡ x) × (r ≤ 2000000000) ⌝ }
+{
+    (x + 1000000000) as u64
+}
+
+// Row 2, for an answer table of that length.
+fn in_range(n: AllocationQuery, room: usize) -> bool
+    ensures { λ r. ⌜ r ≡ allocationInRange n room ⌝ }
+{
+    let gasday = n.gasday;
+    let from = n.from;
+    let to = n.to;
+    let tdq = n.tdq;
+    let uag = n.uag;
+    let clp = n.clp;
+    let g = numbers::natural(gasday);
+    let a = numbers::natural(from);
+    let b = numbers::natural(to);
+    (g <= 39999)
+        & (a <= 39999)
+        & (b <= 39999)
+        & (a <= b)
+        & (b < g)
+        & (b <= a + 399)
+        & (numbers::natural(tdq) <= 1000000000)
+        & load_ok(uag)
+        & load_ok(clp)
+        & (32 <= room)
+}
+
+// The net section load, from TDM raised by 1,000,000 for each of n points.
+fn net_load(q: AllocationQuery, tdm: u64, n: u64) -> u64
+    requires { ⌜ (within (pos 0) (pos 1000000000) (q .tdq) ≡ true) × (within (negsuc 999999999) (pos 1000000000) (q .uag) ≡ true) × (within (negsuc 999999999) (pos 1000000000) (q .clp) ≡ true) × (n ≤ 32) × (tdm ≤ 2000000 * n) ⌝ }
+    ensures { λ r. ⌜ (r ≡ atLeast0 (loadOf q tdm (1000000 * n))) × (r ≤ 3032000000) ⌝ }
+{
+    let tdq = q.tdq;
+    let uag = q.uag;
+    let clp = q.clp;
+    let gained = numbers::natural(tdq) + 1000000 * n + 2000000000;
+    let taken = tdm + raised_load(uag) + raised_load(clp);
+    if gained < taken {
+        return 0;
+    }
+    gained - taken
+}
+
+// S, the sum of 32 weights.
+fn sum_of(ws: &[u64]) -> u64
+    requires { ⌜ (length (now ws) ≡ 32) × Below 60010000 (now ws) ⌝ }
+    ensures { λ r. ⌜ (r ≡ totalOfWeights (now (ws .entry))) × (r ≤ 1920320000) ⌝ }
+{
+    let mut sum: u64 = 0;
+    let mut k: usize = 0;
+    while k < 32 {
+        sum += ws[k];
+        k += 1;
+    }
+    sum
+}
+
+// The load split by 32 weights, of which s is the sum; a point with weight 0 gets 0.
+fn split_to(ws: &[u64], load: u64, s: u64, out: &mut [i64])
+    requires { ⌜ (length (now ws) ≡ 32) × (32 ≤ length (now out)) × (load ≤ 3032000000) × (0 < s) × (s ≤ 1920320000) × (s ≡ totalOfWeights (now ws)) ⌝ }
+    ensures { λ _. ⌜ now (out .exit) ≡ placed (split load s 0 (now (ws .entry))) (now (out .entry)) ⌝ }
+{
+    let mut sum: u64 = 0;
+    let mut low: u64 = 0;
+    let mut k: usize = 0;
+    while k < 32 {
+        sum += ws[k];
+        let high = load * sum / s;
+        numbers::put(out, k, high - low);
+        low = high;
+        k += 1;
+    }
+}
+
+// A share where its point's FRO is the User, else 0.
+fn own(fro: u64, user: u64, share: u64) -> u64
+    ensures { λ r. ⌜ r ≡ cond (eqb fro user) share 0 ⌝ }
+{
+    if fro == user {
+        return share;
+    }
+    0
+}
+
+// What User u has of the 32 shares.
+fn total_of(us: &[u64], xs: &[i64], u: u64) -> u64
+    requires { ⌜ (length (now us) ≡ 32) × (32 ≤ length (now xs)) × SharesBelow 3032000000 (now xs) ⌝ }
+    ensures { λ r. ⌜ (r ≡ totalTo (now (us .entry)) (now (xs .entry)) u 32) × (r ≤ 97024000000) ⌝ }
+{
+    let mut sum: u64 = 0;
+    let mut k: usize = 0;
+    while k < 32 {
+        sum += own(us[k], u, numbers::get(xs, k));
+        k += 1;
+    }
+    sum
+}
+
+// The sixteen Users' totals.
+fn totals(us: &[u64], xs: &[i64]) -> [i64; 16]
+    requires { ⌜ (length (now us) ≡ 32) × (32 ≤ length (now xs)) × SharesBelow 3032000000 (now xs) ⌝ }
+    ensures { λ r. ⌜ r ≡ map (λ u. pos (totalTo (now (us .entry)) (now (xs .entry)) u 32)) users ⌝ }
+{
+    let mut all = [0i64; 16];
+    let mut k: usize = 0;
+    while k < 16 {
+        all[k] = numbers::integer(total_of(us, xs, k as u64 + 1));
+        k += 1;
+    }
+    all
+}

@@ -1,0 +1,30 @@
+-- What the functions that read one record say of it.
+use mathlib.Core.List.{List}
+use Prim.Native.Nat.{ℕ, suc, _+_, _-_, _*_}
+use lib.IntN.{ℤ, pos, _-ℤ_}
+use lib.ListN.{getD}
+use Rattle.numbers.specs.Shares.{partialEnergy}
+use Rattle.daybook.specs.Book.{Entry}
+use Rattle.layout.specs.Layout.{numAt}
+use Rattle.readings.specs.Readings.{daysBefore}
+
+-- Record k of a part.
+unfoldable pub recordOf : List ℤ → ℕ → Entry
+recordOf p k =
+    record {
+      start = numAt p (48 + 4 * k);
+      end = numAt p (48 + 4 * k + 1);
+      energy = getD p (48 + 4 * k + 2) (pos 0);
+      type = numAt p (48 + 4 * k + 3);
+    }
+
+-- What an entry has on the days x to y - 1, where its first k days have g k: the difference of two prefixes.
+unfoldable pub partBetween : (Entry → ℕ → ℤ) → ℕ → ℕ → Entry → ℤ
+partBetween g x y e = g e (daysBefore (e .start) (e .end) y) -ℤ g e (daysBefore (e .start) (e .end) x)
+
+-- The energy of an entry's first k days, and how many they are.
+unfoldable pub partialOf : Entry → ℕ → ℤ
+partialOf e k = partialEnergy (e .energy) (suc (e .end) - e .start) k
+
+unfoldable pub countOf : Entry → ℕ → ℤ
+countOf e k = pos k
