@@ -1,0 +1,2 @@
+-- The calls as C makes them, on bytes.
+pub mod Hub
