@@ -1,32 +1,42 @@
 -- The bytes that the functions read and write, each as its definition says.
-use mathlib.Core.Path.{_≡_, refl, sym, ap, ap₂, _∙_}
-use mathlib.Core.Bool.{true, false, cond}
-use mathlib.Core.List.{List, [], map}
+use mathlib.Core.Path.{_≡_, refl, sym, ap, _∙_}
+use mathlib.Core.List.{List, map}
 use Prim.Native.Nat.{ℕ, _+_, _*_, _<_, _≤_}
 use native.Mathlib.Nat.{zero-add}
-use lib.Dec.{eqb, leb}
+use native.Mathlib.Omega.{arith}
 use lib.IntN.{ℤ, pos}
-use lib.ListN.{length, getD, replicate, length-replicate, length-map, List·getD-map}
-use borrow.Author.Tests.{le-leb, lt-leb, eq-eqb, ne-eqb}
-use Rattle.numbers.specs.Naturals.{sameZ}
+use lib.ListN.{length, getD, take, replicate, length-replicate, length-map, List·getD-map}
+use lib.Seq.{take-all, length-take-le}
+use borrow.Author.Tests.{le-leb, lt-leb, ne-eqb}
 use Rattle.words.specs.Words.{withNumber, withWord}
 use Rattle.words.specs.Tables.{decodedInto, encodedInto}
 use Rattle.words.proofs.Tables.{length-decoded, encoded-more}
+use Rattle.words.proofs.Back.{decoded-alike}
 use Rattle.daybook.specs.Notices.{Numbers}
 use Rattle.hub.specs.Hub.{numbersIn, withNumbers, tableIn, replied, written}
 
--- ---- a register's table
+-- ---- numbers that are read
 
-pub table-short : (b : List ℕ) → length b < 61504 → [] ≡ tableIn b
+module _ (b : List ℕ) (t u : List ℤ) (n : ℕ) (h : n ≤ length t) (e : u ≡ decodedInto t 0 b 0 n) where
+  pub read-length : length (take n u) ≡ n
+  read-length = let k : length u ≡ length t = ap length e ∙ length-decoded t 0 b 0 n in length-take-le n u (omega arith)
+
+  -- what the places held before does not matter
+  pub read-numbers : take n u ≡ numbersIn b n
+  unfolding numbersIn
+  read-numbers =
+      let z : List ℤ = replicate n (pos 0) in
+      let long : length z ≡ n = length-replicate n (pos 0) in
+      ap (take n) e ∙ decoded-alike t 0 z 0 b 0 b 0 n (omega arith) (omega arith) (λ k l. refl)
+      ∙ take-all n (decodedInto z 0 b 0 n) (omega (arith, length-decoded z 0 b 0 n))
+
+pub table-short : (b : List ℕ) → length b < 61504 → numbersIn b 0 ≡ tableIn b
 unfolding tableIn
 table-short b h = rw (lt-leb 61504 (length b) h)
 
-pub table-long : (b : List ℕ) (t u : List ℤ) → 61504 ≤ length b → t ≡ replicate 7688 (pos 0) → u ≡ decodedInto t 0 b 0 7688 → u ≡ tableIn b
-unfolding tableIn numbersIn
-table-long b t u h e f = rw (le-leb 61504 (length b) h, ← e) f
-
-pub zeros-length : (t : List ℤ) → t ≡ replicate 7688 (pos 0) → length t ≡ 7688
-zeros-length t e = ap length e ∙ length-replicate 7688 (pos 0)
+pub table-long : (b : List ℕ) → 61504 ≤ length b → numbersIn b 7688 ≡ tableIn b
+unfolding tableIn
+table-long b h = rw (le-leb 61504 (length b) h)
 
 -- ---- an answer
 

@@ -1,7 +1,7 @@
 -- The calls on bytes, 8 a number, little endian. A buffer may be longer than its numbers; the bytes past them stay.
-use mathlib.Core.Bool.{Bool, cond}
-use mathlib.Core.List.{List, []}
-use Prim.Native.Nat.{ℕ, _*_}
+use mathlib.Core.Bool.{cond}
+use mathlib.Core.List.{List}
+use Prim.Native.Nat.{ℕ, _*_, _/_}
 use lib.Dec.{leb}
 use lib.IntN.{ℤ, pos}
 use lib.ListN.{length, getD, replicate}
@@ -18,10 +18,13 @@ numbersIn b n = decodedInto (replicate n (pos 0)) 0 b 0 n
 unfoldable pub withNumbers : List ℤ → List ℕ → List ℕ
 withNumbers xs b = encodedInto b 0 xs 0 (length xs)
 
--- A register's table; an empty one, which gets 1, where its bytes are too few.
+-- A register's table: none of its numbers, so that it gets 1, where its bytes are too few.
 unfoldable pub tableIn : List ℕ → List ℤ
-tableIn register =
-    let all : List ℤ = numbersIn register tableLength in cond (leb (8 * tableLength) (length register)) all []
+tableIn register = numbersIn register (cond (leb (8 * tableLength) (length register)) tableLength 0)
+
+-- A list of holidays; bytes at its end that are no whole number are not read.
+unfoldable pub holidaysIn : List ℕ → List ℤ
+holidaysIn b = numbersIn b (length b / 8)
 
 -- The result, and the answer's bytes. The result is the answer's refusal, its first number. Where the answer's buffer is
 -- too short nothing is written, and the result is 1 where that is the refusal, else 2.

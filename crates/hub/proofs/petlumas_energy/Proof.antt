@@ -33,8 +33,8 @@ gave : (c : tie.After-energy-numbers)
 gave c =
     let f = start c .fits in
     let e =
-        rw (toZ-ofZ (f .mirn), toZ-ofZ (f .start), toZ-ofZ (f .end), toZ-ofZ (f .energy), toZ-ofZ (f .quality), toZ-ofZ (f .confirmed), c .before .before .before .before .table-in .ensures .0)
-        at (c .before .before .energy .ensures) in
+    rw (toZ-ofZ (f .mirn), toZ-ofZ (f .start), toZ-ofZ (f .end), toZ-ofZ (f .energy), toZ-ofZ (f .quality), toZ-ofZ (f .confirmed), c .before .before .before .before .table-in .ensures .0)
+    at (c .before .before .energy .ensures) in
     (c .energy-numbers .ensures ∙ e .0, e .1)
 
 slice-aggregate-table-in : tie.Need-slice-aggregate-table-in
