@@ -7,18 +7,27 @@ use Prim.Native.Nat.{ℕ, zero, suc, _≤_}
 use native.Mathlib.Omega.{arith}
 use lib.Dec.{leb}
 use lib.IntN.{ℤ, pos}
-use lib.ListN.{getD, replicate}
+use lib.ListN.{length, getD, replicate}
 use borrow.Author.Tests.{leb-true}
 use Rattle.numbers.specs.Naturals.{natOf}
 use Rattle.numbers.specs.Search.{maybe}
 use Rattle.numbers.proofs.Bools.{both, join}
+use Rattle.calendar.specs.Calendar.{dayOf, isDate, dateCall}
+use Rattle.daybook.specs.declared.Ranges.{Ranges}
+use Rattle.daybook.specs.declared.Opening.{Opening}
 use Rattle.daybook.specs.declared.EnergyNotice.{EnergyNotice}
+use Rattle.daybook.specs.declared.StatusNotice.{StatusNotice}
+use Rattle.daybook.specs.declared.TransferRequest.{TransferRequest}
+use Rattle.daybook.specs.declared.Withdrawal.{Withdrawal}
 use Rattle.daybook.specs.Book.{Book, Point}
-use Rattle.daybook.specs.Notices.{Row, smaller, least, Numbers, decide, find, onPoint, energyEarly, energyRows, energy}
-use Rattle.layout.specs.Layout.{standard, tableBook}
+use Rattle.daybook.specs.Notices.{Row, smaller, least, Numbers, decide, find, onPoint, freshRows, fresh, openingRows, opening, energyEarly, energyRows, energy, statusEarly, statusRows, status, requestEarly, requestRows, request, withdrawEarly, withdrawRows, withdraw}
+use Rattle.layout.specs.Layout.{tableLength, standard, tableBook}
 use Rattle.layout.specs.Sound.{sound}
 use Rattle.layout.specs.Calls.{leaves, onTable}
+use Rattle.opening.specs.Opening.{freshCall, openCall}
 use Rattle.energy.specs.Energy.{energyCall}
+use Rattle.status.specs.Status.{statusCall}
+use Rattle.transfer.specs.Transfer.{requestCall, withdrawCall}
 
 abbrev pub refusalOf : Numbers → ℕ
 refusalOf ns = natOf (getD ns 0 (pos 0))
@@ -46,16 +55,16 @@ small-least (r ∷ rs) h =
     go true (suc l) k i = omega arith
     go false l k i = i
 
-decided : {X : Type 0} (r k : ℕ) (x : X) (w : Numbers × X) → r ≤ 16 → refusalOf (decide r k x w .0) ≤ 16
+decided : {X : Type 0} (r k : ℕ) (x : X) (w : Numbers × X) → refusalOf (decide r k x w .0) ≡ r
 unfolding decide
-decided zero k x w h = h
-decided (suc r) k x w h = h
+decided zero k x w = refl
+decided (suc r) k x w = refl
 
 on-point : (k : ℕ) (m : ℤ) (early : List Row) (rows : Point → List Row) (effect : Point → Numbers × Point) (B : Book)
     → small early ≡ true → ((p : Point) → small (rows p) ≡ true) → refusalOf (onPoint k m early rows effect B .0) ≤ 16
 unfolding onPoint small
 on-point k m early rows effect B h g =
-    decided _ k B _ (small-least (early ++ maybe ((4, true) ∷ []) rows found) (small-append early _ h (go found)))
+    rw decided (small-least (early ++ maybe ((4, true) ∷ []) rows found) (small-append early _ h (go found)))
   where
     found : Option Point
     found = find (natOf m) (B .points)
@@ -73,6 +82,41 @@ on-table k step t h = go (sound standard t)
     go true = h (tableBook standard t)
     go false = omega arith
 
+-- ---- each call
+
+pub fresh-small : (t : List ℤ) (n : Ranges) → refusalOf (freshCall t n .0) ≤ 16
+unfolding freshCall fresh freshRows small
+fresh-small t n = go (leb tableLength (length t))
+  where
+    go : (s : Bool) → refusalOf (cond s (leaves standard t (fresh n (tableBook standard t))) (pos 1 ∷ [], t) .0) ≤ 16
+    go true = rw decided (small-least (freshRows n) refl)
+    go false = omega arith
+
+pub open-small : (t : List ℤ) (n : Opening) → refusalOf (openCall t n .0) ≤ 16
+unfolding openCall opening openingRows small
+open-small t n = on-table 0 (opening standard n) t (λ B. rw decided (small-least (openingRows standard n _ (length (B .points))) refl))
+
 pub energy-small : (t : List ℤ) (n : EnergyNotice) → refusalOf (energyCall t n .0) ≤ 16
 unfolding energyCall energy energyEarly energyRows small
 energy-small t n = on-table 4 (energy standard n) t (λ B. on-point 4 (n .mirn) (energyEarly n) _ _ B refl (λ p. refl))
+
+pub status-small : (t : List ℤ) (n : StatusNotice) → refusalOf (statusCall t n .0) ≤ 16
+unfolding statusCall status statusEarly statusRows small
+status-small t n = on-table 0 (status n) t (λ B. on-point 0 (n .mirn) (statusEarly n) _ _ B refl (λ p. refl))
+
+pub request-small : (t : List ℤ) (n : TransferRequest) (hs : List ℤ) → refusalOf (requestCall t n hs .0) ≤ 16
+unfolding requestCall request requestEarly requestRows small
+request-small t n hs =
+    on-table 2 (request n hs) t (λ B. on-point 2 (n .mirn) (requestEarly n hs) _ _ B refl (λ p. refl))
+
+pub withdraw-small : (t : List ℤ) (n : Withdrawal) → refusalOf (withdrawCall t n .0) ≤ 16
+unfolding withdrawCall withdraw withdrawEarly withdrawRows small
+withdraw-small t n = on-table 0 (withdraw n) t (λ B. on-point 0 (n .mirn) (withdrawEarly n) _ _ B refl (λ p. refl))
+
+pub date-small : (y m d : ℤ) → refusalOf (dateCall y m d) ≤ 16
+unfolding dateCall
+date-small y m d = go (isDate y m d)
+  where
+    go : (b : Bool) → refusalOf (cond b (pos 0 ∷ pos (dayOf (natOf y) (natOf m) (natOf d)) ∷ []) (pos 2 ∷ pos 0 ∷ [])) ≤ 16
+    go true = omega arith
+    go false = omega arith

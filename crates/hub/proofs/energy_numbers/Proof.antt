@@ -3,22 +3,16 @@ use borrow.Author.Needs.{needs}
 use Rattle.daybook.specs.Calls.{energyNumbers}
 use Rattle.hub.proofs.energy_numbers.Statement.{statement}
 use Rattle.hub.proofs.energy_numbers.Tie as tie
-use Rattle.hub.proofs.energy_numbers.Reads as reads
-use Rattle.hub.proofs.energy_numbers.Lts as lts
 
--- src/lib.rt:71:13
 enum-known-a : tie.Need-enum-known-a
 enum-known-a c = search needs
 
--- src/lib.rt:76:31
 enum-known-a-2 : tie.Need-enum-known-a-2
 enum-known-a-2 c = search needs
 
--- src/lib.rt:66:1
 returns : tie.Need-returns
 returns c = sym (ap energyNumbers (c .before .a .given .1))
 
--- src/lib.rt:66:1
 returns-2 : tie.Need-returns-2
 returns-2 c = sym (ap energyNumbers (c .before .a2 .given .1))
 

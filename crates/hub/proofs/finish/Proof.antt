@@ -4,11 +4,6 @@ use borrow.Author.Needs.{needs}
 use Rattle.hub.proofs.Bytes.{written-none, written-all}
 use Rattle.hub.proofs.finish.Statement.{statement}
 use Rattle.hub.proofs.finish.Tie as tie
-use Rattle.hub.proofs.finish.Reads as reads
-use Rattle.hub.proofs.finish.Lts as lts
-use Rattle.hub.proofs.reply.Reads as reply-reads
-use Rattle.numbers.proofs.integer.Reads as integer-reads
-use Rattle.words.proofs.encode.Reads as encode-reads
 
 reply-requires : tie.Need-reply-requires
 reply-requires c κs = search needs

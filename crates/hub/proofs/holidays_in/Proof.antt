@@ -4,8 +4,6 @@ use native.Mathlib.Omega.{arith}
 use Rattle.hub.specs.Hub.{numbersIn}
 use Rattle.hub.proofs.holidays_in.Statement.{statement}
 use Rattle.hub.proofs.holidays_in.Tie as tie
-use Rattle.hub.proofs.holidays_in.Reads as reads
-use Rattle.hub.proofs.holidays_in.Lts as lts
 
 numbers-in-requires : tie.Need-numbers-in-requires
 numbers-in-requires c κs = search needs

@@ -3,8 +3,6 @@ use borrow.Author.Needs.{needs}
 use Rattle.hub.proofs.Bytes.{read-length, read-numbers}
 use Rattle.hub.proofs.numbers_in.Statement.{statement}
 use Rattle.hub.proofs.numbers_in.Tie as tie
-use Rattle.hub.proofs.numbers_in.Reads as reads
-use Rattle.hub.proofs.numbers_in.Lts as lts
 
 decode-requires : tie.Need-decode-requires
 decode-requires c κs = search needs

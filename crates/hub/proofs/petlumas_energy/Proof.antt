@@ -10,12 +10,6 @@ use Rattle.hub.proofs.Refusals.{energy-small}
 use Rattle.hub.proofs.Ends.{first-small, ended}
 use Rattle.hub.proofs.petlumas_energy.Statement.{statement}
 use Rattle.hub.proofs.petlumas_energy.Tie as tie
-use Rattle.hub.proofs.petlumas_energy.Reads as reads
-use Rattle.hub.proofs.petlumas_energy.Lts as lts
-use Rattle.energy.proofs.energy.Reads as energy-reads
-use Rattle.hub.proofs.energy_numbers.Reads as energy-numbers-reads
-use Rattle.hub.proofs.finish.Reads as finish-reads
-use Rattle.hub.proofs.table_in.Reads as table-in-reads
 
 abbrev start : tie.After-energy-numbers → tie.Start
 start c = c .before .before .before .before .before .before .before .before .before
@@ -55,7 +49,7 @@ slice-aggregate-finish c = search needs
 finish-requires : tie.Need-finish-requires
 finish-requires c κs =
     let e = c .before .before .before .before in
-    (search needs, search needs, search needs, first-small (e .energy-numbers .result) (given (start e)) (gave e .0) (energy-small _ _))
+    (search needs, search needs, search needs, first-small (e .energy-numbers .result) (given (start e) .0) (gave e .0) (energy-small _ _))
 
 same-length : tie.Need-same-length
 same-length c = search needs
@@ -67,7 +61,7 @@ returns : tie.Need-returns
 returns c =
     let f = c .before .before .before .before .before in
     let e = f .before .before .before .before .before in
-    ended (e .energy-numbers .result) (given (start e)) (gave e .0) _ (gave e .1) _ (search needs) _ _ _ _ (f .finish .ensures)
+    ended (e .energy-numbers .result) _ (given (start e)) (gave e .0) (gave e .1) _ (search needs) _ _ _ _ (f .finish .ensures)
 
 pub petlumas-energy-spec : {M : Type 1} → statement M
 petlumas-energy-spec =

@@ -11,9 +11,6 @@ use Rattle.hub.specs.Hub.{withNumbers}
 use Rattle.hub.proofs.Bytes.{one-more}
 use Rattle.hub.proofs.put_numbers.Statement.{statement}
 use Rattle.hub.proofs.put_numbers.Tie as tie
-use Rattle.hub.proofs.put_numbers.Reads as reads
-use Rattle.hub.proofs.put_numbers.Lts as lts
-use Rattle.words.proofs.put_number8.Reads as put-number8-reads
 
 abbrev Inv-loop : tie.InvT-loop
 Inv-loop b₀ numbers k₀ b k = (k ≤ length numbers) × ((length b ≡ length b₀) × (b ≡ encodedInto b₀ 0 (map pos numbers) 0 k))

@@ -2,9 +2,6 @@ use borrow.Author.Needs.{needs}
 use Rattle.hub.proofs.Bytes.{replied-room, replied-one, replied-two}
 use Rattle.hub.proofs.reply.Statement.{statement}
 use Rattle.hub.proofs.reply.Tie as tie
-use Rattle.hub.proofs.reply.Reads as reads
-use Rattle.hub.proofs.reply.Lts as lts
-use Rattle.hub.proofs.put_numbers.Reads as put-numbers-reads
 
 shared-slice-read-refusal : tie.Need-shared-slice-read-refusal
 shared-slice-read-refusal c = search needs

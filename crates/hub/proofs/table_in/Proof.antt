@@ -3,8 +3,6 @@ use borrow.Author.Needs.{needs}
 use Rattle.hub.proofs.Bytes.{table-short, table-long}
 use Rattle.hub.proofs.table_in.Statement.{statement}
 use Rattle.hub.proofs.table_in.Tie as tie
-use Rattle.hub.proofs.table_in.Reads as reads
-use Rattle.hub.proofs.table_in.Lts as lts
 
 numbers-in-requires : tie.Need-numbers-in-requires
 numbers-in-requires c κs = search needs
