@@ -8,7 +8,7 @@ use mir.Syntax.{w64}
 use mir.Val.{toZ, ofZ, SFits}
 use mir.Facts.{toZ-ofZ}
 use Rattle.daybook.specs.Notices.{Numbers}
-use Rattle.hub.specs.Hub.{replied, written}
+use Rattle.buffers.specs.Buffers.{replied, written}
 use Rattle.hub.proofs.Refusals.{refusalOf}
 
 pub first-small : (ns : List ℕ) (w : Numbers) → map pos ns ≡ w → refusalOf w ≤ 16 → getD ns 0 0 ≤ 16

@@ -16,7 +16,7 @@ use Rattle.layout.specs.Layout.{standard}
 use Rattle.layout.specs.Sound.{sound}
 use Rattle.transfer.specs.Transfer.{requestCall}
 use Rattle.transfer.proofs.Requests.{inRange, request-unsound, request-range, request-holidays}
-use Rattle.hub.specs.Hub.{numbersIn, holidaysIn}
+use Rattle.buffers.specs.Buffers.{numbersIn, holidaysIn}
 
 too-many : (hs : List ℤ) → 512 < length hs → holidayList hs ≡ false
 unfolding holidayList

@@ -5,7 +5,7 @@ use mir.Facts.{toZ-ofZ}
 use borrow.Author.Needs.{needs}
 use Rattle.daybook.specs.Notices.{Numbers}
 use Rattle.transfer.specs.Transfer.{requestCall}
-use Rattle.hub.specs.Hub.{tableIn, holidaysIn}
+use Rattle.buffers.specs.Buffers.{tableIn, holidaysIn}
 use Rattle.hub.proofs.Refusals.{request-small}
 use Rattle.hub.proofs.Holidays.{first-513}
 use Rattle.hub.proofs.Ends.{first-small, ended}

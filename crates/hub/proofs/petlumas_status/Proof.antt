@@ -5,7 +5,7 @@ use mir.Facts.{toZ-ofZ}
 use borrow.Author.Needs.{needs}
 use Rattle.daybook.specs.Notices.{Numbers}
 use Rattle.status.specs.Status.{statusCall}
-use Rattle.hub.specs.Hub.{tableIn}
+use Rattle.buffers.specs.Buffers.{tableIn}
 use Rattle.hub.proofs.Refusals.{status-small}
 use Rattle.hub.proofs.Ends.{first-small, ended}
 use Rattle.hub.proofs.petlumas_status.Statement.{statement}

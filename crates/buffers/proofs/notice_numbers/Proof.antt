@@ -1,8 +1,8 @@
 use mathlib.Core.Path.{sym, ap}
 use borrow.Author.Needs.{needs}
 use Rattle.daybook.specs.Calls.{noticeNumbers}
-use Rattle.hub.proofs.notice_numbers.Statement.{statement}
-use Rattle.hub.proofs.notice_numbers.Tie as tie
+use Rattle.buffers.proofs.notice_numbers.Statement.{statement}
+use Rattle.buffers.proofs.notice_numbers.Tie as tie
 
 enum-told : tie.Need-enum-told
 enum-told c = search needs

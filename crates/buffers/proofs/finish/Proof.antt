@@ -1,9 +1,9 @@
 use mathlib.Core.Path.{_∙_}
 use mir.Facts.{toZ-ofZ}
 use borrow.Author.Needs.{needs}
-use Rattle.hub.proofs.Bytes.{written-none, written-all}
-use Rattle.hub.proofs.finish.Statement.{statement}
-use Rattle.hub.proofs.finish.Tie as tie
+use Rattle.buffers.proofs.Bytes.{written-none, written-all}
+use Rattle.buffers.proofs.finish.Statement.{statement}
+use Rattle.buffers.proofs.finish.Tie as tie
 
 reply-requires : tie.Need-reply-requires
 reply-requires c κs = search needs

@@ -1,8 +1,8 @@
 use mathlib.Core.Path.{sym, ap}
 use borrow.Author.Needs.{needs}
 use Rattle.daybook.specs.Calls.{requestNumbers}
-use Rattle.hub.proofs.request_numbers.Statement.{statement}
-use Rattle.hub.proofs.request_numbers.Tie as tie
+use Rattle.buffers.proofs.request_numbers.Statement.{statement}
+use Rattle.buffers.proofs.request_numbers.Tie as tie
 
 enum-known-a : tie.Need-enum-known-a
 enum-known-a c = search needs

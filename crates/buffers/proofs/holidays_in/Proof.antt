@@ -1,9 +1,9 @@
 use mathlib.Core.Path.{ap, _∙_}
 use borrow.Author.Needs.{needs}
 use native.Mathlib.Omega.{arith}
-use Rattle.hub.specs.Hub.{numbersIn}
-use Rattle.hub.proofs.holidays_in.Statement.{statement}
-use Rattle.hub.proofs.holidays_in.Tie as tie
+use Rattle.buffers.specs.Buffers.{numbersIn}
+use Rattle.buffers.proofs.holidays_in.Statement.{statement}
+use Rattle.buffers.proofs.holidays_in.Tie as tie
 
 numbers-in-requires : tie.Need-numbers-in-requires
 numbers-in-requires c κs = search needs

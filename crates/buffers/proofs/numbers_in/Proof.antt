@@ -1,8 +1,8 @@
 use mathlib.Core.Path.{sym}
 use borrow.Author.Needs.{needs}
-use Rattle.hub.proofs.Bytes.{read-length, read-numbers}
-use Rattle.hub.proofs.numbers_in.Statement.{statement}
-use Rattle.hub.proofs.numbers_in.Tie as tie
+use Rattle.buffers.proofs.Bytes.{read-length, read-numbers}
+use Rattle.buffers.proofs.numbers_in.Statement.{statement}
+use Rattle.buffers.proofs.numbers_in.Tie as tie
 
 decode-requires : tie.Need-decode-requires
 decode-requires c κs = search needs

@@ -1,7 +1,7 @@
 use borrow.Author.Needs.{needs}
-use Rattle.hub.proofs.Bytes.{replied-room, replied-one, replied-two}
-use Rattle.hub.proofs.reply.Statement.{statement}
-use Rattle.hub.proofs.reply.Tie as tie
+use Rattle.buffers.proofs.Bytes.{replied-room, replied-one, replied-two}
+use Rattle.buffers.proofs.reply.Statement.{statement}
+use Rattle.buffers.proofs.reply.Tie as tie
 
 shared-slice-read-refusal : tie.Need-shared-slice-read-refusal
 shared-slice-read-refusal c = search needs

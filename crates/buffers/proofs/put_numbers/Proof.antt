@@ -1,4 +1,4 @@
--- `hub::put_numbers` meets its contract.
+-- `buffers::put_numbers` meets its contract.
 use borrow.Author.Needs.{needs}
 use Prim.Native.Nat.{_≤_, _-_}
 use native.Mathlib.Omega.{arith}
@@ -7,10 +7,10 @@ use mathlib.Core.List.{map}
 use lib.IntN.{pos}
 use lib.ListN.{length, length-map}
 use Rattle.words.specs.Tables.{encodedInto}
-use Rattle.hub.specs.Hub.{withNumbers}
-use Rattle.hub.proofs.Bytes.{one-more}
-use Rattle.hub.proofs.put_numbers.Statement.{statement}
-use Rattle.hub.proofs.put_numbers.Tie as tie
+use Rattle.buffers.specs.Buffers.{withNumbers}
+use Rattle.buffers.proofs.Bytes.{one-more}
+use Rattle.buffers.proofs.put_numbers.Statement.{statement}
+use Rattle.buffers.proofs.put_numbers.Tie as tie
 
 abbrev Inv-loop : tie.InvT-loop
 Inv-loop b₀ numbers k₀ b k = (k ≤ length numbers) × ((length b ≡ length b₀) × (b ≡ encodedInto b₀ 0 (map pos numbers) 0 k))

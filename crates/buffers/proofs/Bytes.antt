@@ -13,7 +13,7 @@ use Rattle.words.specs.Tables.{decodedInto, encodedInto}
 use Rattle.words.proofs.Tables.{length-decoded, encoded-more}
 use Rattle.words.proofs.Back.{decoded-alike}
 use Rattle.daybook.specs.Notices.{Numbers}
-use Rattle.hub.specs.Hub.{numbersIn, withNumbers, tableIn, replied, written}
+use Rattle.buffers.specs.Buffers.{numbersIn, withNumbers, tableIn, replied, written}
 
 -- ---- numbers that are read
 

@@ -1,8 +1,8 @@
 use mathlib.Core.Path.{_∙_}
 use borrow.Author.Needs.{needs}
-use Rattle.hub.proofs.Bytes.{table-short, table-long}
-use Rattle.hub.proofs.table_in.Statement.{statement}
-use Rattle.hub.proofs.table_in.Tie as tie
+use Rattle.buffers.proofs.Bytes.{table-short, table-long}
+use Rattle.buffers.proofs.table_in.Statement.{statement}
+use Rattle.buffers.proofs.table_in.Tie as tie
 
 numbers-in-requires : tie.Need-numbers-in-requires
 numbers-in-requires c κs = search needs

@@ -1,2 +1,0 @@
--- The calls as C makes them, on bytes.
-pub mod Hub
