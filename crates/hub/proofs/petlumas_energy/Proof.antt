@@ -26,9 +26,7 @@ gave : (c : tie.After-energy-numbers)
     → (map pos (c .energy-numbers .result) ≡ given (start c) .0) × (c .before .before .energy .last .0 ≡ given (start c) .1)
 gave c =
     let f = start c .fits in
-    let e =
-    rw (toZ-ofZ (f .mirn), toZ-ofZ (f .start), toZ-ofZ (f .end), toZ-ofZ (f .energy), toZ-ofZ (f .quality), toZ-ofZ (f .confirmed), c .before .before .before .before .table-in .ensures .0)
-    at (c .before .before .energy .ensures) in
+    let e = rw (toZ-ofZ (f .mirn), toZ-ofZ (f .start), toZ-ofZ (f .end), toZ-ofZ (f .energy), toZ-ofZ (f .quality), toZ-ofZ (f .confirmed), c .before .before .before .before .table-in .ensures .0) at (c .before .before .energy .ensures) in
     (c .energy-numbers .ensures ∙ e .0, e .1)
 
 slice-aggregate-table-in : tie.Need-slice-aggregate-table-in

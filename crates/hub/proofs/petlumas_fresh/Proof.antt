@@ -26,9 +26,7 @@ gave : (c : tie.After-notice-numbers)
     → (map pos (c .notice-numbers .result) ≡ given (start c) .0) × (c .before .before .fresh .last .0 ≡ given (start c) .1)
 gave c =
     let f = start c .fits in
-    let e =
-    rw (toZ-ofZ (f .nondaily), toZ-ofZ (f .daily), c .before .before .before .before .table-in .ensures .0)
-    at (c .before .before .fresh .ensures) in
+    let e = rw (toZ-ofZ (f .nondaily), toZ-ofZ (f .daily), c .before .before .before .before .table-in .ensures .0) at (c .before .before .fresh .ensures) in
     (c .notice-numbers .ensures ∙ e .0, e .1)
 
 slice-aggregate-table-in : tie.Need-slice-aggregate-table-in

@@ -29,9 +29,7 @@ gave c =
     let f = start c .fits in
     let r = c .before .before .before in
     let h = r .before .before .before in
-    let e =
-    rw (toZ-ofZ (f .mirn), toZ-ofZ (f .user), toZ-ofZ (f .proposed), toZ-ofZ (f .nochange), h .before .before .table-in .ensures .0, h .holidays-in .ensures, first-513)
-    at (r .request .ensures) in
+    let e = rw (toZ-ofZ (f .mirn), toZ-ofZ (f .user), toZ-ofZ (f .proposed), toZ-ofZ (f .nochange), h .before .before .table-in .ensures .0, h .holidays-in .ensures, first-513) at (r .request .ensures) in
     (c .request-numbers .ensures ∙ e .0, e .1)
 
 slice-aggregate-table-in : tie.Need-slice-aggregate-table-in
