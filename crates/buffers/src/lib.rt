@@ -47,7 +47,7 @@ pub fn holidays_in<'a, 'b>(holidays: &'a [u8], t: &'b mut [i64]) -> &'b mut [i64
     numbers_in(holidays, t, n)
 }
 
-// Numbers from the first byte on.
+// Writes numbers, given as their bits, from the first byte on.
 fn put_numbers(b: &mut [u8], numbers: &[u64])
     requires { ⌜ 8 * length (now numbers) ≤ length (now b) ⌝ }
     ensures { λ _. ⌜ now (b .exit) ≡ withNumbers (map pos (now (numbers .entry))) (now (b .entry)) ⌝ }
