@@ -9,12 +9,12 @@ use native.Mathlib.Omega.{arith}
 use lib.Dec.{leb, ltb, eqb}
 use lib.ListN.{length}
 use lib.IntN.{pos, negsuc}
-use borrow.Author.Tests.{leb-true, leb-false, ltb-true, eqb-true, le-leb, not-false}
+use borrow.Author.Tests.{leb-false, ltb-true, eqb-true, le-leb, not-false}
+use Rattle.daybook.proofs.Bounds.{within-bounds}
 use Rattle.numbers.specs.Naturals.{natOf}
 use Rattle.numbers.specs.Search.{maybe}
 use Rattle.numbers.proofs.Bools.{both}
 use Rattle.calendar.specs.Calendar.{within, isDay}
-use Rattle.calendar.proofs.Dates.{within-natural, day-natural}
 use Rattle.daybook.specs.declared.EnergyNotice.{EnergyNotice}
 use Rattle.daybook.specs.Book.{Entry, Pending, Edition, days, fill, withEntries, withFro, withPending, records, latest, appendDay}
 use Rattle.daybook.specs.Notices.{least, isMirn, isFlag, Which, append, whichNumber, which, entryOf, energyEarly, energyRows, fitsKind, offWithin, beyond, kept, removed, Outcome, registers, lapses, stays, outcomeOf, outcomeNumbers, settled, entered, enter, energy}
@@ -58,8 +58,7 @@ unfolding energyEarly
 energy-numbers n e =
     let tests : (isDay (n .end) ≡ true) × (within (negsuc 999999) (pos 1000000) (n .energy) ≡ true) × (within (pos 0) (pos 2) (n .quality) ≡ true) =
     middle (isMirn (n .mirn) && isDay (n .start)) _ _ _ (isFlag (n .confirmed)) (not-false _ (least-none 1 _ [] e .0)) in
-    let type = both (leb 0 (natOf (n .quality))) _ (within-natural 0 2 (n .quality) (omega arith) ∙ tests .2) in
-    (leb-true _ _ (day-natural (n .end) ∙ tests .0), tests .1, leb-true _ _ (type .1))
+    (within-bounds 0 39999 (n .end) (tests .0) .1, tests .1, within-bounds 0 2 (n .quality) (tests .2) .1)
   where
     middle : (a b c d f : Bool) → (a && b && c && d && f) ≡ true → (b ≡ true) × (c ≡ true) × (d ≡ true)
     middle a b c d f h =

@@ -20,3 +20,8 @@ pub iff : (a b : Bool) → (a ≡ true → b ≡ true) → (b ≡ true → a ≡
 iff true b f g = sym (f refl)
 iff false true f g = g refl
 iff false false f g = refl
+
+-- what follows a test need agree only where it holds
+pub and-where : (p : Bool) {x y : Bool} → (p ≡ true → x ≡ y) → (p && x) ≡ (p && y)
+and-where true f = f refl
+and-where false f = refl
