@@ -1,15 +1,15 @@
 -- A part that is the layout of its own lists: its counts and the places that the code reads, and that every layout of
 -- well-formed lists is one. Assumes nothing.
-use mathlib.Core.Path.{_≡_, refl, sym, _∙_, ap, ap₂, subst}
+use mathlib.Core.Path.{_≡_, sym, _∙_, ap, ap₂, subst}
 use mathlib.Core.List.{List, [], _∷_}
-use Prim.Native.Nat.{ℕ, suc, _+_, _-_, _*_, _≤_, _<_}
+use Prim.Native.Nat.{ℕ, suc, _+_, _-_, _*_, _≤_}
 use native.Mathlib.Omega.{arith}
 use lib.ListN.{length, getD}
 use lib.IntN.{ℤ}
 use Rattle.daybook.specs.Book.{Entry}
 use Rattle.daybook.proofs.Lists.{Lists}
-use Rattle.daybook.proofs.Steps.{skip, lastEnd, appendDayOf}
-use Rattle.daybook.proofs.Well.{StartsOn, starts, Well}
+use Rattle.daybook.proofs.Steps.{skip, appendDayOf}
+use Rattle.daybook.proofs.Well.{some-reg, Well}
 use Rattle.daybook.proofs.Apart.{recs-apart}
 use Rattle.daybook.proofs.Records.{dayAfter, day-after-nil, day-after-cons, day-after-le}
 use Rattle.layout.specs.Layout.{numAt, pointNumbers, pointFrom}
@@ -22,9 +22,6 @@ use Rattle.point.proofs.Readers.{first-on-is}
 use Rattle.energy.specs.Parts.{Laid}
 
 -- ---- every layout is laid
-
-some-reg : {install : ℕ} {l : List (ℕ × ℕ)} → StartsOn install l → 1 ≤ length l
-some-reg (starts e) = omega arith
 
 pub laid : {p : List ℤ} {q : Lists} → Well 48 q → p ≡ pointNumbers 48 q → Laid p
 laid {p} {q} w e = subst Laid (sym e) (own w)

@@ -1,5 +1,5 @@
 -- The code's tests decide soundness as document 01 words it: a part passes them where it is sound. Assumes nothing.
-use mathlib.Core.Path.{_≡_, refl, sym, ap, _∙_, subst}
+use mathlib.Core.Path.{_≡_, sym, ap, _∙_, subst}
 use mathlib.Core.Bool.{Bool, true, false, _&&_}
 use mathlib.Core.List.{List}
 use Prim.Native.Nat.{ℕ, _+_, _-_, _*_, _/_, _%_, _≤_}
@@ -12,7 +12,7 @@ use borrow.Author.Tests.{leb-true}
 use Rattle.numbers.proofs.Bools.{both, join, iff}
 use Rattle.daybook.proofs.Lists.{Lists}
 use Rattle.daybook.proofs.Well.{Regs, StartsOn, Spans, Recs, PendingOk, Well}
-use Rattle.layout.specs.Layout.{asked, numAt, regsFrom, offsFrom, recsFrom, pendingFrom, pointFrom, pointNumbers}
+use Rattle.layout.specs.Layout.{numAt, pointFrom, pointNumbers}
 use Rattle.layout.specs.Sound.{countsSound, factsSound, unusedZero, listsSound, partSound}
 use Rattle.layout.proofs.Cells.{cell-user, cell-first, cell-last}
 use Rattle.layout.proofs.RowsSound.{facts-sound, facts-ok}
@@ -21,7 +21,7 @@ use Rattle.layout.proofs.ListsSound.{well-lists-sound}
 use Rattle.layout.proofs.PartLays.{part-lays}
 use Rattle.point.specs.Tests.{factsAt, regsOk, spansOk, recsOk, pendingOk, rowsOk, testPart}
 use Rattle.point.proofs.Rows.{rowsAt, regRow, spanRow, recRow, regs-read, offs-read, recs-read}
-use Rattle.point.proofs.Registrations.{registrations-well, registrations-pass, latest-user}
+use Rattle.point.proofs.Registrations.{registrations-well, registrations-pass}
 use Rattle.point.proofs.Spans.{spans-tested, spans-tests}
 use Rattle.point.proofs.Records.{records-well, records-pass}
 use Rattle.point.proofs.Pending.{pending-well, pending-pass, Places}

@@ -2,7 +2,7 @@ use Rattle.energy.proofs.Located.{appends-is}
 use Rattle.energy.proofs.Laying.{count-recs}
 use Rattle.layout.specs.Layout.{pointFrom}
 use lib.Dec.{eqb}
-use mathlib.Core.Path.{_≡_, sym, _∙_, ap, ap₂}
+use mathlib.Core.Path.{_∙_, ap₂}
 use borrow.Author.Needs.{needs}
 use Rattle.energy.proofs.appends.Statement.{statement}
 use Rattle.energy.proofs.appends.Tie as tie
