@@ -15,6 +15,7 @@ use Rattle.numbers.specs.Search.{maybe}
 use Rattle.daybook.specs.Book.{Entry, lastOf}
 use Rattle.daybook.specs.Notices.{least, cannotOff, cannotOn, statusRows}
 use Rattle.daybook.proofs.Lists.{Lists}
+use Rattle.daybook.proofs.Last.{last-none, last-at, split-last}
 use Rattle.daybook.proofs.Steps.{lastEnd, offsAfter, withOffs}
 use Rattle.daybook.proofs.Rows.{above, least-first, least-skip, least-none}
 use Rattle.daybook.proofs.Well.{Well}
@@ -25,7 +26,7 @@ use Rattle.layout.proofs.Cells.{noOff, noRec, cell-install, cell-offs, cell-rec
 use Rattle.layout.proofs.RowWrites.{open-span, close-span}
 use Rattle.point.specs.Tests.{untilOf}
 use Rattle.status.specs.Part.{filledFrom, cannotSwitch, rowsOf, switchedLists}
-use Rattle.status.proofs.LastRow.{last-none, last-at, split-last, closed-last, on-day}
+use Rattle.status.proofs.LastRow.{closed-last, on-day}
 
 -- ---- one span
 
@@ -57,10 +58,10 @@ module _ {room : ℕ} {q : Lists} (w : Well room q) {p : List ℤ} (e : pointNum
 
   module _ (day n : ℕ) (c : n ≡ numAt p 5) where
     pub off-unswitched : n ≡ 0 → false ≡ cannotOff day (lastOf (q .offs))
-    off-unswitched z = ap (cannotOff day) (sym (last-none noOff (q .offs) (omega (arith, spans-count))))
+    off-unswitched z = ap (cannotOff day) (sym (last-none (q .offs) (omega (arith, spans-count))))
 
     pub on-unswitched : n ≡ 0 → true ≡ cannotOn day (lastOf (q .offs))
-    on-unswitched z = ap (cannotOn day) (sym (last-none noOff (q .offs) (omega (arith, spans-count))))
+    on-unswitched z = ap (cannotOn day) (sym (last-none (q .offs) (omega (arith, spans-count))))
 
     module _ (some-span : n ≡ 0 → ⊥) where
       abbrev lastSpan : ℕ × Option ℕ
@@ -95,7 +96,7 @@ module _ {room : ℕ} {q : Lists} (w : Well room q) {p : List ℤ} (e : pointNum
     unfolding lastEnd
     unfilled z =
         ap (λ (o : Option Entry). maybe false (leb day) (maybe none (λ x. some (x .end)) o))
-        (sym (last-none noRec (q .recs) (omega (arith, recs-count))))
+        (sym (last-none (q .recs) (omega (arith, recs-count))))
 
     pub filled-to : (n ≡ 0 → ⊥) → (d : ℕ) → d ≡ numAt p (48 + 4 * (n - 1) + 1) → leb day d ≡ filledFrom day q
     unfolding lastEnd
