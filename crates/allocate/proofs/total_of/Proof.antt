@@ -1,6 +1,6 @@
 use mathlib.Core.Path.{_≡_, sym, _∙_, ap, ap₂}
 use mathlib.Core.Bool.{cond}
-use Prim.Native.Nat.{ℕ, _+_, _-_, _*_, _≤_, _<_}
+use Prim.Native.Nat.{_+_, _-_, _*_, _≤_}
 use native.Mathlib.Omega.{arith}
 use lib.Dec.{eqb}
 use lib.ListN.{getD}
@@ -10,10 +10,6 @@ use Rattle.allocate.specs.Parts.{totalTo}
 use Rattle.allocate.proofs.UserTotals.{total-none, total-step, own-small}
 use Rattle.allocate.proofs.total_of.Statement.{statement}
 use Rattle.allocate.proofs.total_of.Tie as tie
-use Rattle.allocate.proofs.total_of.Reads as reads
-use Rattle.allocate.proofs.total_of.Lts as lts
-use Rattle.allocate.proofs.own.Reads as own-reads
-use Rattle.numbers.proofs.get.Reads as get-reads
 
 abbrev Inv-loop : tie.InvT-loop
 Inv-loop us xs u sum₀ k₀ sum k = (k ≤ 32) × (sum ≤ 3032000000 * k) × (sum ≡ totalTo us xs u k)
