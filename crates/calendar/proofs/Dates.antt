@@ -10,7 +10,7 @@ use lib.Dec.{leb, ltb, eqb}
 use lib.IntN.{ℤ, pos, negsuc}
 use lib.Signed.{leZ, ltZ}
 use lib.ListN.{getD}
-use Rattle.numbers.proofs.Bools.{both}
+use Rattle.numbers.proofs.Bools.{both, cond-small}
 use Rattle.numbers.specs.Naturals.{natOf}
 use Rattle.numbers.specs.Rows.{all}
 use Rattle.numbers.proofs.Rows.{all-at}
@@ -57,10 +57,6 @@ days-order (pos x) (negsuc y) e f = absurd (false≢true f)
 days-order (negsuc x) y e f = absurd (false≢true e)
 
 -- ---- the date call
-
-cond-small : (b : Bool) (x y k : ℕ) → x ≤ k → y ≤ k → cond b x y ≤ k
-cond-small true x y k h l = h
-cond-small false x y k h l = l
 
 pub month-length-bound : (y m : ℕ) → monthLength y m ≤ 31
 month-length-bound y m =

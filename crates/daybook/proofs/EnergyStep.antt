@@ -1,7 +1,7 @@
 -- An energy notice on a point's lists: what holds where no row sends it back, that its step is the book's, and that it
 -- keeps the register well-formed.
 use mathlib.Core.Path.{_≡_, refl, sym, _∙_, ap}
-use mathlib.Core.Bool.{Bool, true, false, not, _&&_, cond, and-false}
+use mathlib.Core.Bool.{Bool, true, false, _&&_, cond, and-false}
 use mathlib.Core.Option.{Option, none, some}
 use mathlib.Core.List.{List, [], _∷_, _++_, map}
 use Prim.Native.Nat.{ℕ, suc, _≤_, _<_}
@@ -9,10 +9,10 @@ use native.Mathlib.Omega.{arith}
 use lib.Dec.{leb, ltb, eqb}
 use lib.ListN.{length}
 use lib.IntN.{pos, negsuc}
-use borrow.Author.Tests.{leb-false, ltb-true, eqb-true, le-leb, not-false}
+use borrow.Author.Tests.{leb-false, ltb-true, le-leb, not-false}
+use Rattle.numbers.proofs.Search.{some-is}
 use Rattle.daybook.proofs.Bounds.{within-bounds}
 use Rattle.numbers.specs.Naturals.{natOf}
-use Rattle.numbers.specs.Search.{maybe}
 use Rattle.numbers.proofs.Bools.{both}
 use Rattle.calendar.specs.Calendar.{within, isDay}
 use Rattle.daybook.specs.declared.EnergyNotice.{EnergyNotice}
@@ -45,11 +45,6 @@ pub record MayEnter (room : ℕ) (x : Entry) (q : Lists) : Type 0 where
 -- where a row for appends alone doesn't apply to an append, its other test fails
 of-append : (w : Which) (t : Bool) → (eqb (whichNumber w) 1 && t) ≡ false → w ≡ append → t ≡ false
 of-append w t h e = rw e at h
-
--- a day that isn't refused as another day is that day
-is-day : (d : ℕ) (o : Option ℕ) → not (maybe false (eqb d) o) ≡ false → o ≡ some d
-is-day d none h = let z : _≡_ {A = ℕ} 0 1 = cc in absurd (omega arith)
-is-day d (some k) h = ap some (sym (eqb-true d k (not-false _ h)))
 
 -- row 2: the numbers of the entry are in range
 energy-numbers : (n : EnergyNotice) → least (energyEarly n) ≡ 0
@@ -86,7 +81,7 @@ energy-clear ed n R q e =
       typeOk = numbers .2;
       fits = fits;
       on = rw (le-leb _ _ (fits-le (q .facts .kind) (natOf (n .start)) (natOf (n .end)) fits)) at (row8 .0);
-      next = λ a. is-day (natOf (n .start)) (appendDayOf q) (of-append _ _ (row7 .0) a);
+      next = λ a. some-is (natOf (n .start)) (appendDayOf q) (not-false _ (of-append _ _ (row7 .0) a));
       more = λ a. leb-false _ _ (of-append _ _ (row16 .0) a);
     }
 

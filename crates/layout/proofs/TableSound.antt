@@ -8,7 +8,7 @@ use native.Mathlib.Omega.{arith}
 use native.Mathlib.Nat.{mul-suc, mul-zero, mul-le-mul-left, add-mul}
 use lib.Dec.{leb, eqb, lit≤}
 use lib.ListN.{length, getD, take, drop, length-take, length-drop}
-use lib.Seq.{take-add, drop-drop}
+use lib.Seq.{take-add}
 use lib.IntN.{ℤ, pos}
 use borrow.Author.Tests.{leb-true, not-true}
 use Rattle.numbers.specs.Rows.{all}
@@ -26,6 +26,7 @@ use Rattle.layout.proofs.RowsLaid.{clean}
 use Rattle.layout.proofs.PartSound.{zeros-at}
 use Rattle.layout.proofs.PartLays.{part-lays}
 use Rattle.layout.proofs.Tables.{one-layout}
+use Rattle.layout.proofs.Mirns.{next as next-part}
 
 -- ---- MIRNs that differ
 
@@ -63,7 +64,7 @@ module _ (ed : Edition) (t : List ℤ) where
       let m : stride ed * suc k ≡ stride ed + stride ed * k = omega (arith, mul-suc (stride ed) k) in
       let e : i + suc k ≡ suc i + k = omega arith in
       let far : stride ed * suc i ≤ stride ed * (i + suc k) = mul-le-mul-left (stride ed) (omega arith) in
-      let d : drop (stride ed) (drop (placeOf ed i) t) ≡ drop (placeOf ed (suc i)) t = drop-drop (stride ed) (placeOf ed i) t ∙ ap (λ n. drop n t) (next i) in
+      let d : drop (stride ed) (drop (placeOf ed i) t) ≡ drop (placeOf ed (suc i)) t = next-part ed t i in
       let long : length (take (stride ed) (drop (placeOf ed i) t)) ≡ 48 + 4 * ed .records = simp (length-take, length-drop) (omega (arith, next i)) in
       let here = part-lays (take (stride ed) (drop (placeOf ed i) t)) (ed .records) long (f i (omega arith) (omega arith)) in
       let r = points-lay k (suc i) (rw e at h) (λ j a b. f j (omega arith) (omega arith)) in (
