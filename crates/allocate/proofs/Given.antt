@@ -10,6 +10,7 @@ use lib.Dec.{eqb}
 use lib.ListN.{length, getD, replicate, length-map, length-append, length-replicate, getD-replicate, List·getD-append}
 use lib.Seq.{getD-append-add}
 use lib.IntN.{ℤ, pos, _+ℤ_, _-ℤ_, +ℤ-invr}
+use Rattle.numbers.proofs.Bools.{cond-same}
 use Rattle.numbers.specs.Naturals.{natOf}
 use Rattle.numbers.specs.Shares.{floorPart}
 use Rattle.daybook.specs.Book.{Point}
@@ -102,12 +103,8 @@ module _ (u : ℕ) where
   total-past us xs n (suc m) f =
       let e : n + suc m ≡ suc (n + m) = omega arith in
       ap (totalTo us xs u) e
-      ∙ ap₂ _+_ (total-past us xs n m (λ j h. f j (omega arith))) (ap (λ x. cond (eqb (getD us (n + m) 0) u) x 0) (f m (omega arith)) ∙ none (eqb (getD us (n + m) 0) u))
+      ∙ ap₂ _+_ (total-past us xs n m (λ j h. f j (omega arith))) (ap (λ x. cond (eqb (getD us (n + m) 0) u) x 0) (f m (omega arith)) ∙ cond-same (eqb (getD us (n + m) 0) u) 0)
       ∙ add-zero (totalTo us xs u n)
-    where
-      none : (b : Bool) → _≡_ {A = ℕ} (cond b 0 0) 0
-      none true = refl
-      none false = refl
 
 module _ (load s : ℕ) (some : 0 < s) (g : ℕ) (w : Point → ℕ) (ps : List Point) (few : length ps ≤ 32) (rest : List ℤ) where
   abbrev shares : List ℤ

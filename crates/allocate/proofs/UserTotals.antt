@@ -1,8 +1,8 @@
 -- The Users' totals, turn by turn. Assumes nothing.
 use mathlib.Core.Path.{_≡_, refl, sym, _∙_, ap}
-use mathlib.Core.Bool.{Bool, true, false, cond}
+use mathlib.Core.Bool.{true, cond}
 use mathlib.Core.List.{List, _++_, map, append-assoc, map-append}
-use Prim.Native.Nat.{ℕ, suc, _+_, _≤_, _<_}
+use Prim.Native.Nat.{ℕ, suc, _+_, _<_}
 use native.Mathlib.Omega.{arith}
 use native.Mathlib.Numerals.{add-one}
 use lib.Dec.{eqb}
@@ -23,10 +23,6 @@ total-none us xs u = refl
 pub total-step : (us : List ℕ) (xs : List ℤ) (u k : ℕ) → totalTo us xs u (k + 1) ≡ totalTo us xs u k + cond (eqb (getD us k 0) u) (numAt xs k) 0
 unfolding totalTo
 total-step us xs u k = rw (add-one k) refl
-
-pub own-small : (b : Bool) (x most : ℕ) → x ≤ most → cond b x 0 ≤ most
-own-small true x most h = h
-own-small false x most h = omega arith
 
 -- ---- the array of sixteen
 

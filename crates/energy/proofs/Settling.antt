@@ -22,7 +22,7 @@ use Rattle.daybook.proofs.Registrations.{user-from-append}
 use Rattle.layout.specs.Layout.{asked, numAt, pointNumbers, pointFrom}
 use Rattle.layout.specs.Writes.{appendRegistration, clearPending}
 use Rattle.layout.proofs.Numbers.{Few, few}
-use Rattle.layout.proofs.Cells.{noReg, cell-regs, cell-user, cell-first, cell-last, cell-reg-start}
+use Rattle.layout.proofs.Cells.{noReg, cell-reg-start, place-regs, place-user, place-first, place-last}
 use Rattle.layout.proofs.PartBlocks.{withRegs, few-regs, snoc-length}
 use Rattle.layout.proofs.RowWrites.{append-registration, clear-pending}
 use Rattle.energy.specs.declared.Reading.{Reading}
@@ -72,16 +72,16 @@ module _ {p : List ℤ} (ok : Laid p) (x : Reading) (n user first last latest : 
   fits = few (ok .well)
 
   many : n ≡ length (q .regs)
-  many = en ∙ ap (λ t. numAt t 4) (sym (ok .is)) ∙ cell-regs 48 q
+  many = en ∙ place-regs (ok .well) (ok .is)
 
   user-is : user ≡ asked (q .pending) .user
-  user-is = eu ∙ ap (λ t. numAt t 7) (sym (ok .is)) ∙ cell-user 48 q
+  user-is = eu ∙ place-user (ok .well) (ok .is)
 
   first-is : first ≡ asked (q .pending) .first
-  first-is = ef ∙ ap (λ t. numAt t 8) (sym (ok .is)) ∙ cell-first 48 q
+  first-is = ef ∙ place-first (ok .well) (ok .is)
 
   last-is : last ≡ asked (q .pending) .last
-  last-is = el ∙ ap (λ t. numAt t 9) (sym (ok .is)) ∙ cell-last 48 q
+  last-is = el ∙ place-last (ok .well) (ok .is)
 
   latest-is : latest ≡ latestOf (q .regs) .0
   latest-is =

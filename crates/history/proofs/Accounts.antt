@@ -9,6 +9,7 @@ use native.Mathlib.Omega.{arith}
 use lib.Dec.{eqb}
 use lib.IntN.{ℤ, pos, _+ℤ_, +ℤ-idl, +ℤ-idr}
 use borrow.Author.Tests.{eqb-true, eqb-false, ne-eqb}
+use Rattle.numbers.proofs.Bools.{cond-same}
 use Rattle.numbers.specs.Search.{isSome}
 use Rattle.numbers.specs.Sums.{sumFrom, sumOver}
 use Rattle.numbers.proofs.Integers.{add-swap}
@@ -59,11 +60,7 @@ counted-among v z a (suc n) h k = go (eqb v a) refl (counted-among v z (suc a) n
     go false e ih = +ℤ-idl later ∙ ih (omega (arith, eqb-false v a e)) (omega arith)
 
 pub counted-once : {v : ℕ} {z : ℤ} → Owned v z → sumFrom (λ u. cond (eqb v u) z (pos 0)) 1 16 ≡ z
-counted-once {v} nothing = sum-zero _ 1 16 (λ u i j. either (eqb v u))
-  where
-    either : (t : Bool) → cond t (pos 0) (pos 0) ≡ pos 0
-    either true = refl
-    either false = refl
+counted-once {v} nothing = sum-zero _ 1 16 (λ u i j. cond-same (eqb v u) (pos 0))
 counted-once {v} {z} (owned h k) = counted-among v z 1 16 h (omega arith)
 
 -- ---- a filled day has a User

@@ -5,7 +5,6 @@ use mathlib.Core.List.{List, _∷_, map}
 use Prim.Native.Nat.{ℕ, zero, suc, _+_, _*_, _<_}
 use native.Mathlib.Omega.{arith}
 use lib.ListN.{length, drop, length-take, length-drop}
-use lib.Seq.{drop-drop}
 use lib.IntN.{ℤ}
 use Rattle.numbers.specs.Sums.{sumFrom}
 use Rattle.numbers.proofs.Rows.{all-at}
@@ -14,6 +13,7 @@ use Rattle.daybook.specs.Queries.{sumOf}
 use Rattle.daybook.proofs.Lists.{pointOf, bookOf}
 use Rattle.layout.specs.Layout.{standard, partOf, numAt, pointsFrom, registerOf, tableBook}
 use Rattle.layout.specs.Sound.{sound}
+use Rattle.layout.proofs.Mirns.{next}
 use Rattle.layout.proofs.TableSound.{Tested, tested}
 use Rattle.point.proofs.Rows.{rowsAt}
 use Rattle.readings.specs.Readings.{pointAt, Readable}
@@ -40,9 +40,7 @@ points-from : (t : List ℤ) (n i : ℕ) → map pointOf (pointsFrom standard n 
 unfolding pointsFrom rowsAt pointAt partOf
 points-from t zero i = refl
 points-from t (suc n) i =
-    let e : 8 + 240 * i + 240 ≡ 8 + 240 * suc i = omega arith in
-    ap (λ l. partPoint t i ∷ l)
-    (ap (λ l. map pointOf (pointsFrom standard n l)) (drop-drop 240 (8 + 240 * i) t ∙ ap (λ k. drop k t) e) ∙ points-from t n (suc i))
+    ap (λ l. partPoint t i ∷ l) (ap (λ l. map pointOf (pointsFrom standard n l)) (next standard t i) ∙ points-from t n (suc i))
 
 pub points-are : (t : List ℤ) → tableBook standard t .points ≡ rowsAt (partPoint t) 0 (numAt t 0)
 unfolding tableBook bookOf registerOf

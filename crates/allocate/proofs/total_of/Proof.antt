@@ -5,9 +5,10 @@ use native.Mathlib.Omega.{arith}
 use lib.Dec.{eqb}
 use lib.ListN.{getD}
 use borrow.Author.Needs.{needs}
+use Rattle.numbers.proofs.Bools.{cond-small}
 use Rattle.layout.specs.Layout.{numAt}
 use Rattle.allocate.specs.Parts.{totalTo}
-use Rattle.allocate.proofs.UserTotals.{total-none, total-step, own-small}
+use Rattle.allocate.proofs.UserTotals.{total-none, total-step}
 use Rattle.allocate.proofs.total_of.Statement.{statement}
 use Rattle.allocate.proofs.total_of.Tie as tie
 
@@ -25,7 +26,7 @@ own-is c =
     let s = c .before .before .before .before .before .before in
     let k = c .before .before .before .before .loop .k in
     let is = c .own .ensures ∙ ap (λ x. cond (eqb (getD (s .args .us .now) k 0) (s .args .u)) x 0) (c .before .get .ensures .0) in
-    (is, rw is (own-small (eqb (getD (s .args .us .now) k 0) (s .args .u)) (numAt (s .args .xs .now) k) 3032000000 (s .pre .2 k (omega arith))))
+    (is, rw is (cond-small (eqb (getD (s .args .us .now) k 0) (s .args .u)) (numAt (s .args .xs .now) k) 0 3032000000 (s .pre .2 k (omega arith)) (omega arith)))
 
 -- src/lib.rt:121:5
 loop-holds : tie.Need-loop-holds Inv-loop μ-loop
