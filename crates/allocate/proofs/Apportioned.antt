@@ -9,7 +9,6 @@ use lib.ListN.{length, drop, replicate, length-append, length-map, length-replic
 use lib.IntN.{ℤ, pos, subℕ, _-ℤ_}
 use lib.Signed.{leZ, ltZ}
 use borrow.Author.Tests.{leb-true, ltb-true}
-use Rattle.daybook.proofs.Bounds.{within-bounds}
 use Rattle.numbers.specs.Naturals.{natOf}
 use Rattle.numbers.proofs.Bools.{both}
 use Rattle.calendar.specs.Calendar.{within, isDay}
@@ -17,6 +16,7 @@ use Rattle.calendar.proofs.Dates.{days-order}
 use Rattle.daybook.specs.declared.AllocationQuery.{AllocationQuery}
 use Rattle.daybook.specs.Book.{Point, Book}
 use Rattle.daybook.specs.Queries.{allocationInRange, atLeast0, tdmOf, nslOf, weight, weights, total, split, pointShares, totalOf, users}
+use Rattle.daybook.proofs.Bounds.{within-bounds}
 use Rattle.daybook.proofs.Splits.{split-length}
 use Rattle.layout.specs.Layout.{standard, numAt, tableBook}
 use Rattle.point.proofs.Rows.{length-rows}

@@ -10,9 +10,9 @@ use lib.Dec.{eqb}
 use lib.ListN.{length, getD, replicate, length-map, length-append, length-replicate, getD-replicate, List·getD-append}
 use lib.Seq.{getD-append-add}
 use lib.IntN.{ℤ, pos, _+ℤ_, _-ℤ_, +ℤ-invr}
-use Rattle.numbers.proofs.Bools.{cond-same}
 use Rattle.numbers.specs.Naturals.{natOf}
 use Rattle.numbers.specs.Shares.{floorPart}
+use Rattle.numbers.proofs.Bools.{cond-same}
 use Rattle.daybook.specs.Book.{Point}
 use Rattle.daybook.specs.Queries.{total, split, totalOf}
 use Rattle.daybook.proofs.Splits.{total-append, split-append, split-length}

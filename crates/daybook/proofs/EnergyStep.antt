@@ -10,14 +10,14 @@ use lib.Dec.{leb, ltb, eqb}
 use lib.ListN.{length}
 use lib.IntN.{pos, negsuc}
 use borrow.Author.Tests.{leb-false, ltb-true, le-leb, not-false}
-use Rattle.numbers.proofs.Search.{some-is}
-use Rattle.daybook.proofs.Bounds.{within-bounds}
 use Rattle.numbers.specs.Naturals.{natOf}
+use Rattle.numbers.proofs.Search.{some-is}
 use Rattle.numbers.proofs.Bools.{both}
 use Rattle.calendar.specs.Calendar.{within, isDay}
 use Rattle.daybook.specs.declared.EnergyNotice.{EnergyNotice}
 use Rattle.daybook.specs.Book.{Entry, Pending, Edition, days, fill, withEntries, withFro, withPending, records, latest, appendDay}
 use Rattle.daybook.specs.Notices.{least, isMirn, isFlag, Which, append, whichNumber, which, entryOf, energyEarly, energyRows, fitsKind, offWithin, beyond, kept, removed, Outcome, registers, lapses, stays, outcomeOf, outcomeNumbers, settled, entered, enter, energy}
+use Rattle.daybook.proofs.Bounds.{within-bounds}
 use Rattle.daybook.proofs.Lists.{Lists, Register, offOn, entryOn, userOn, pointOf, bookOf}
 use Rattle.daybook.proofs.Steps.{latestOf, whichIn, appendDayOf, someOverlap, recsAfter, userFrom, regsAfter, pendingAfter, enteredLists, enterLists, energyListsRows, energyLists}
 use Rattle.daybook.proofs.Well.{Regs, StartsOn, PendingOk, nopending, pending, Well, WellFormed}

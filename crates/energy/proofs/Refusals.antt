@@ -9,7 +9,6 @@ use lib.Dec.{leb, ltb, eqb}
 use lib.ListN.{length}
 use lib.IntN.{ℤ}
 use borrow.Author.Tests.{le-leb, lt-leb, ltb-true, ltb-false, lt-ltb, le-ltb, eqb-true, eqb-false, eq-eqb, ne-eqb, not-false}
-use Rattle.layout.proofs.Cells.{place-kind, place-offs, place-recs}
 use Rattle.numbers.specs.Naturals.{energyOf}
 use Rattle.numbers.specs.Search.{maybe, isSome}
 use Rattle.daybook.specs.Book.{Entry}
@@ -19,6 +18,7 @@ use Rattle.daybook.proofs.Steps.{startingOn, whichIn, appendDayOf, someOverlap,
 use Rattle.daybook.proofs.Rows.{above, least-first, least-skip}
 use Rattle.daybook.proofs.Apart.{fits-le}
 use Rattle.layout.specs.Layout.{numAt, pointFrom}
+use Rattle.layout.proofs.Cells.{place-kind, place-offs, place-recs}
 use Rattle.point.specs.Tests.{noOff}
 use Rattle.point.proofs.OffDays.{dayIf}
 use Rattle.point.proofs.Readers.{no-off-is}

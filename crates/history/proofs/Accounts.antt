@@ -9,9 +9,9 @@ use native.Mathlib.Omega.{arith}
 use lib.Dec.{eqb}
 use lib.IntN.{ℤ, pos, _+ℤ_, +ℤ-idl, +ℤ-idr}
 use borrow.Author.Tests.{eqb-true, eqb-false, ne-eqb}
-use Rattle.numbers.proofs.Bools.{cond-same}
 use Rattle.numbers.specs.Search.{isSome}
 use Rattle.numbers.specs.Sums.{sumFrom, sumOver}
+use Rattle.numbers.proofs.Bools.{cond-same}
 use Rattle.numbers.proofs.Integers.{add-swap}
 use Rattle.numbers.proofs.Sums.{sum-same, sum-zero, sum-plus, sum-swap, sum-over-split}
 use Rattle.daybook.specs.Book.{Entry, Point, Book, filled, dayShare}

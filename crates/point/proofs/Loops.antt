@@ -8,10 +8,10 @@ use native.Mathlib.Numerals.{add-one}
 use borrow.Author.Tests.{eq-eqb, ne-eqb}
 use lib.ListN.{length}
 use lib.IntN.{ℤ}
-use Rattle.layout.proofs.PartLays.{counts}
 use Rattle.numbers.proofs.Rows.{all-none, all-more, all-fails, all-at, all-of}
 use Rattle.layout.specs.Layout.{numAt}
 use Rattle.layout.specs.Sound.{countsSound, zeros}
+use Rattle.layout.proofs.PartLays.{counts}
 use Rattle.point.specs.Tests.{rows, Counted, offDay, onDay, past, passed}
 
 -- ---- rows, by a loop with the invariant that what is left to test decides the whole

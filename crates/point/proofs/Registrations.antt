@@ -7,9 +7,9 @@ use Prim.Native.Nat.{ℕ, zero, suc, _+_, _*_, _≤_}
 use native.Mathlib.Omega.{arith}
 use borrow.Author.Tests.{leb-true, eqb-true, eq-eqb, le-leb, not-true}
 use lib.IntN.{ℤ}
-use Rattle.daybook.proofs.Last.{last-at}
 use Rattle.numbers.specs.Search.{maybe}
 use Rattle.numbers.proofs.Bools.{both, join}
+use Rattle.daybook.proofs.Last.{last-at}
 use Rattle.daybook.proofs.Steps.{latestOf}
 use Rattle.daybook.proofs.Well.{Regs, noreg, reg, StartsOn, starts}
 use Rattle.layout.specs.Layout.{numAt}

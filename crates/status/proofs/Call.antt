@@ -61,7 +61,7 @@ effectOf day on q = ([], switchedLists day on q)
 unfoldable pub statusPart : ℕ → ℕ → List ℤ → Numbers × List ℤ
 statusPart day on p = onPart 0 (rowsOf day on) (effectOf day on) p
 
--- what the code's row and what it leaves of the part are
+-- the row that the code finds, and what it leaves of the part
 pub part-done : (day on : ℕ) (p : List ℤ) (r : ℕ) {u : List ℤ} → r ≡ least (rowsOf day on (pointFrom p))
     → u ≡ cond (eqb r 0) (pointNumbers 48 (switchedLists day on (pointFrom p))) p
     → (pos r ∷ [] ≡ statusPart day on p .0) × (u ≡ statusPart day on p .1)

@@ -169,7 +169,7 @@ module _ {k : ℕ} {m : ℤ} {early : List Row} {rows : Lists → List Row} {eff
 
 -- ---- what a function has to show
 
--- Calls.gives where the part of point i was lent to a function that does f
+-- the two equations of a call's contract, where the part of point i was lent to a function that does f
 pub answered-at : (t : List ℤ) (i : ℕ) (w : Numbers × List ℤ) (f : List ℤ → Numbers × List ℤ)
     → w ≡ (f (partOf standard t i) .0, withPart standard t i (f (partOf standard t i) .1))
     → (a : Numbers) (p : List ℤ) → (a ≡ f (lent t i) .0) × (p ≡ f (lent t i) .1) → (a ≡ w .0) × (backIn t i p ≡ w .1)

@@ -9,7 +9,6 @@ use lib.Dec.{leb, eqb}
 use lib.ListN.{length}
 use lib.IntN.{ℤ, pos}
 use borrow.Author.Tests.{eq-eqb, ne-eqb, le-leb, lt-leb}
-use Rattle.layout.proofs.PartBlocks.{few-pending}
 use Rattle.numbers.specs.Search.{maybe, isSome}
 use Rattle.daybook.specs.Book.{Pending}
 use Rattle.daybook.specs.Notices.{least, requestRows, withdrawRows}
@@ -20,6 +19,7 @@ use Rattle.daybook.proofs.Rows.{above, least-first, least-skip}
 use Rattle.layout.specs.Layout.{numAt, pendingFrom, pointFrom, pointNumbers}
 use Rattle.layout.specs.Sound.{partSound}
 use Rattle.layout.specs.Writes.{setPending, clearPending}
+use Rattle.layout.proofs.PartBlocks.{few-pending}
 use Rattle.layout.proofs.Numbers.{Few, few}
 use Rattle.layout.proofs.PartLays.{part-lays}
 use Rattle.layout.proofs.RowWrites.{set-pending, clear-pending}

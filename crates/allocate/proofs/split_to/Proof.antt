@@ -3,9 +3,9 @@ use mathlib.Core.List.{_++_}
 use Prim.Native.Nat.{_+_, _-_, _*_, _/_, _≤_, _<_}
 use native.Mathlib.Omega.{arith}
 use lib.ListN.{length, take, drop, getD, set, length-set}
+use lib.Seq.{take-all}
 use lib.IntN.{pos}
 use borrow.Author.Needs.{needs}
-use lib.Seq.{take-all}
 use Rattle.daybook.proofs.Splits.{split-length}
 use Rattle.daybook.specs.Queries.{total, split}
 use Rattle.allocate.specs.Allocate.{placed}

@@ -2,8 +2,8 @@ use mathlib.Core.Path.{_≡_, sym, ap, _∙_}
 use Prim.Native.Nat.{_+_, _-_, _*_, _≤_}
 use native.Mathlib.Omega.{arith}
 use lib.ListN.{getD, take}
-use borrow.Author.Needs.{needs}
 use lib.Seq.{take-all}
+use borrow.Author.Needs.{needs}
 use Rattle.daybook.specs.Queries.{total}
 use Rattle.allocate.proofs.Splits.{sum-step, sum-none}
 use Rattle.allocate.proofs.sum_of.Statement.{statement}

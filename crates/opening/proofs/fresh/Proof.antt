@@ -5,8 +5,8 @@ use native.Mathlib.Omega.{arith}
 use borrow.Author.Needs.{needs, sfits-of}
 use borrow.Author.Tests.{not-true, not-false}
 use lib.ListN.{set}
-use Rattle.numbers.proofs.Naturals.{bias-read}
 use Rattle.numbers.specs.Naturals.{biasOf}
+use Rattle.numbers.proofs.Naturals.{bias-read}
 use Rattle.numbers.proofs.Bools.{both}
 use Rattle.daybook.specs.Notices.{isRange}
 use Rattle.layout.specs.Writes.{cleared}

@@ -3,9 +3,9 @@ use mathlib.Core.Bool.{true}
 use native.Mathlib.Omega.{arith}
 use borrow.Author.Needs.{needs, sfits-of}
 use borrow.Author.Tests.{not-true, not-false}
-use Rattle.numbers.proofs.Naturals.{natural-read}
 use Rattle.numbers.specs.Naturals.{natOf}
 use Rattle.numbers.specs.Search.{maybe}
+use Rattle.numbers.proofs.Naturals.{natural-read}
 use Rattle.daybook.specs.Notices.{factsOf}
 use Rattle.daybook.proofs.OpenStep.{facts-ok}
 use Rattle.layout.specs.Layout.{standard}

@@ -2,8 +2,8 @@ use mathlib.Core.Path.{_≡_, _∙_, ap}
 use native.Mathlib.Omega.{arith}
 use mir.Val.{ofZ}
 use mir.Syntax.{w64}
-use Rattle.numbers.proofs.Naturals.{natural-read}
 use Rattle.numbers.specs.Naturals.{natOf}
+use Rattle.numbers.proofs.Naturals.{natural-read}
 use Rattle.point.proofs.OnDays.{until-open, until-day, until-none}
 use borrow.Author.Needs.{needs}
 use Rattle.point.proofs.until.Statement.{statement}

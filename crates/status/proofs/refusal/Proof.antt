@@ -1,8 +1,8 @@
 use mathlib.Core.Path.{_∙_, sym, ap}
 use mathlib.Core.Bool.{_&&_}
 use lib.Dec.{leb, eqb}
-use Rattle.layout.proofs.Cells.{place-offs}
 use Rattle.layout.specs.Layout.{pointFrom}
+use Rattle.layout.proofs.Cells.{place-offs}
 use Rattle.layout.proofs.PartLays.{part-lays}
 use Rattle.status.proofs.Part.{row-fourteen, row-sixteen, row-none}
 use borrow.Author.Needs.{needs}

@@ -1,7 +1,7 @@
 use mathlib.Core.Path.{_∙_}
 use native.Mathlib.Omega.{arith}
-use Rattle.layout.proofs.Cells.{place-offs}
 use Rattle.layout.specs.Layout.{pointFrom}
+use Rattle.layout.proofs.Cells.{place-offs}
 use Rattle.layout.proofs.PartLays.{part-lays}
 use Rattle.status.proofs.Part.{spans-few, open-is, close-is, room-to-open, span-to-close}
 use borrow.Author.Needs.{needs}

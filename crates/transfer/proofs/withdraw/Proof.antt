@@ -3,13 +3,13 @@ use mathlib.Core.Bool.{true}
 use native.Mathlib.Omega.{arith}
 use borrow.Author.Tests.{not-true, not-false}
 use borrow.Author.Needs.{sfits-of, needs}
-use Rattle.table.proofs.Calls.{gives}
-use Rattle.numbers.proofs.Naturals.{natural-read}
 use Rattle.numbers.specs.Naturals.{natOf}
 use Rattle.numbers.specs.Search.{maybe}
+use Rattle.numbers.proofs.Naturals.{natural-read}
 use Rattle.layout.specs.Layout.{standard}
 use Rattle.layout.specs.Sound.{sound}
 use Rattle.table.specs.Lookup.{indexOf}
+use Rattle.table.proofs.Calls.{gives}
 use Rattle.table.proofs.Laws.{sound-long}
 use Rattle.table.proofs.OnPart.{lent-sound, answered-at}
 use Rattle.transfer.specs.Transfer.{withdrawCall}
