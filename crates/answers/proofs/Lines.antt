@@ -39,7 +39,7 @@ called call n xs {a} {b} ys h e l x m w =
     something ys (counted n xs (call b) h) m (l ∙ ap (λ (a : _). call a .1) e) (x ∙ ap (λ (a : _). call a .0) e) w
 
 -- what follows the first k of a list, as the code lends it
-rest : (xs : List ℤ) (k : ℕ) → take (length xs - k) (drop k xs) ≡ drop k xs
+pub rest : (xs : List ℤ) (k : ℕ) → take (length xs - k) (drop k xs) ≡ drop k xs
 rest xs k = take-all (length xs - k) (drop k xs) (omega (arith, length-drop k xs))
 
 -- ---- a request's count of holidays, g

@@ -2,9 +2,10 @@
 ghost use mathlib.Core.Path.{_≡_};
 ghost use mathlib.Core.List.{_++_};
 ghost use Prim.Native.Nat.{_+_, _<_, _≤_, _^_};
-ghost use lib.ListN.{length, drop};
+ghost use lib.ListN.{length, take, drop};
 ghost use lib.Seq.{paste};
 ghost use Rattle.daybook.specs.Calls.{allocationNumbers};
+ghost use Rattle.printing.specs.Rows.{rowOf, Printed};
 ghost use Rattle.answers.specs.Lines.{Played};
 ghost use Rattle.queries.specs.Lines.{accountQueryOf, allocationQueryOf, allocationRow, accountLine, allocateLine};
 use daybook::AccountAnswer;
@@ -86,7 +87,23 @@ fn allocation(t: &[i64], q: AllocationQuery, row: &mut [i64])
     lead(row, a);
 }
 
-// The answer table has `room` numbers.
+// The row is made in the first of the numbers; the answer table has `room` of them.
+fn print_allocation(
+    t: &[i64],
+    q: AllocationQuery,
+    numbers: &mut [i64],
+    room: usize,
+    out: &mut [u8],
+    at: usize,
+) -> usize
+    requires { ⌜ (18 + room ≤ length (now numbers)) × (room ≤ 64) × (at + 2048 ≤ length (now out)) ⌝ }
+    ensures { λ r. ⌜ (r ≤ at + 2048) × Printed (now (out .entry)) at (rowOf (allocationRow (now (t .entry)) q (take room (drop 18 (now (numbers .entry)))))) (now (out .exit)) r ⌝ }
+{
+    let end = 18 + room;
+    allocation(t, q, &mut numbers[0..end]);
+    signed_row(out, at, &numbers[0..end])
+}
+
 pub fn allocate(t: &[i64], room: usize, nums: &[i64], out: &mut [u8], at: usize) -> usize
     requires { ⌜ (room ≤ 64) × (at + 2048 ≤ length (now out)) ⌝ }
     ensures { λ r. ⌜ Played (allocateLine (now (t .entry)) room (now (nums .entry))) (now (t .entry)) (now (out .entry)) at (now (t .entry)) (now (out .exit)) r ⌝ }
@@ -96,7 +113,5 @@ pub fn allocate(t: &[i64], room: usize, nums: &[i64], out: &mut [u8], at: usize)
     }
     let q = to_allocation(nums);
     let mut numbers = [-7i64; 82];
-    let end = 18 + room;
-    allocation(t, q, &mut numbers[..end]);
-    signed_row(out, at, &numbers[..end])
+    print_allocation(t, q, &mut numbers, room, out, at)
 }

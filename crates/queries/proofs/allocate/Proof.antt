@@ -1,55 +1,37 @@
+use mathlib.Core.Path.{refl, sym, ap, _∙_}
+use borrow.Author.Tests.{ne-eqb}
+use lib.IntN.{negsuc}
+use lib.ListN.{take, replicate}
+use Rattle.daybook.specs.declared.AllocationQuery.{AllocationQuery}
+use Rattle.answers.proofs.Lines.{nothing, called}
+use Rattle.queries.specs.Lines.{allocationRow, allocateLine}
+use Rattle.queries.proofs.Rows.{take-replicate}
 use borrow.Author.Needs.{needs}
 use Rattle.queries.proofs.allocate.Statement.{statement}
 use Rattle.queries.proofs.allocate.Tie as tie
-use Rattle.queries.proofs.allocate.Reads as reads
-use Rattle.queries.proofs.allocate.Lts as lts
-use Rattle.printing.proofs.signed_row.Reads as signed-row-reads
-use Rattle.queries.proofs.allocation.Reads as allocation-reads
-use Rattle.queries.proofs.to_allocation.Reads as to-allocation-reads
 
--- src/lib.rt:95:9
 returns : tie.Need-returns
-returns c = ?
+unfolding allocateLine
+returns c = nothing _ _ _ (rw (ne-eqb _ _ (c .if1 .taken)))
 
--- src/lib.rt:97:9
 to-allocation-requires : tie.Need-to-allocation-requires
 to-allocation-requires c κs = search needs
 
--- src/lib.rt:99:15
-add-end : tie.Need-add-end
-add-end c = search needs
+slice-aggregate-print-allocation : tie.Need-slice-aggregate-print-allocation
+slice-aggregate-print-allocation c = search needs
 
--- src/lib.rt:100:22
-array-borrow-prefix-numbers : tie.Need-array-borrow-prefix-numbers
-array-borrow-prefix-numbers c = search needs
+print-allocation-requires : tie.Need-print-allocation-requires
+print-allocation-requires c κs = search needs
 
--- src/lib.rt:100:22
-slice-aggregate-allocation : tie.Need-slice-aggregate-allocation
-slice-aggregate-allocation c = ?
-
--- src/lib.rt:100:5
-allocation-requires : tie.Need-allocation-requires
-allocation-requires c κs = ?
-
--- src/lib.rt:101:25
-array-share-prefix-numbers : tie.Need-array-share-prefix-numbers
-array-share-prefix-numbers c = ?
-
--- src/lib.rt:101:25
-slice-aggregate-signed-row : tie.Need-slice-aggregate-signed-row
-slice-aggregate-signed-row c = ?
-
--- src/lib.rt:101:5
-signed-row-requires : tie.Need-signed-row-requires
-signed-row-requires c κs = ?
-
--- src/lib.rt:90:1
 same-length : tie.Need-same-length
 same-length c = search needs
 
--- src/lib.rt:90:1
 returns-2 : tie.Need-returns-2
-returns-2 c = ?
+unfolding allocateLine
+returns-2 c =
+    let s = c .before .before .before .before .before .before .before .before .before in
+    let p = c .before .before .before .print-allocation in
+    called (λ (q : AllocationQuery). (allocationRow (s .args .t .now) q (replicate (s .args .room) (negsuc 6)), s .args .t .now)) 6 (s .args .nums .now) _ (c .before .before .before .before .before .before .before .if1 .left) (c .before .before .before .before .before .before .to-allocation .ensures) refl refl (p .ensures .0) (rw (take-replicate (s .args .room) 64 (negsuc 6) (s .pre .0)) at (p .ensures .1))
 
 pub allocate-spec : {M : Type 1} → statement M
 allocate-spec =
@@ -57,12 +39,7 @@ allocate-spec =
     (tie.spec
     returns
     to-allocation-requires
-    add-end
-    array-borrow-prefix-numbers
-    slice-aggregate-allocation
-    allocation-requires
-    array-share-prefix-numbers
-    slice-aggregate-signed-row
-    signed-row-requires
+    slice-aggregate-print-allocation
+    print-allocation-requires
     same-length
     returns-2)

@@ -1,38 +1,36 @@
+use mathlib.Core.Path.{refl, _∙_}
+use Rattle.daybook.specs.Calls.{allocationNumbers}
+use Rattle.queries.proofs.Rows.{refusal-small, allocated}
 use borrow.Author.Needs.{needs}
 use Rattle.queries.proofs.allocation.Statement.{statement}
 use Rattle.queries.proofs.allocation.Tie as tie
-use Rattle.queries.proofs.allocation.Reads as reads
-use Rattle.queries.proofs.allocation.Lts as lts
-use Rattle.allocate.proofs.allocate.Reads as allocate-reads
-use Rattle.queries.proofs.lead.Reads as lead-reads
 
--- src/lib.rt:85:38
 sub-allocate : tie.Need-sub-allocate
 sub-allocate c = search needs
 
--- src/lib.rt:85:38
 part-allocate-start : tie.Need-part-allocate-start
 part-allocate-start c = search needs
 
--- src/lib.rt:85:38
 part-allocate-end : tie.Need-part-allocate-end
 part-allocate-end c = search needs
 
--- src/lib.rt:85:9
 allocate-requires : tie.Need-allocate-requires
 allocate-requires c κs = search needs
 
--- src/lib.rt:86:5
 lead-requires : tie.Need-lead-requires
-lead-requires c κs = ?
+lead-requires c κs =
+    let s = c .before .before .before .before in
+    let f = c .before .before .allocate in
+    (search needs, refusal-small (s .args .t .now) (s .args .q) _ (f .result) (f .ensures .0))
 
--- src/lib.rt:81:1
 same-length : tie.Need-same-length
 same-length c = search needs
 
--- src/lib.rt:81:1
 returns : tie.Need-returns
-returns c = ?
+returns c =
+    let s = c .before .before .before .before .before .before in
+    let f = c .before .before .before .before .allocate in
+    c .before .lead .ensures ∙ allocated (s .args .t .now) (s .args .row .now) _ _ (s .args .q) (allocationNumbers (f .result)) (s .pre) refl (f .ensures .0) (f .ensures .1)
 
 pub allocation-spec : {M : Type 1} → statement M
 allocation-spec =

@@ -1,0 +1,2 @@
+-- Laws of the rows that the queries print.
+pub mod Rows
