@@ -1,3 +1,2 @@
--- What the calls of a journal print and leave.
-pub mod Sums
+-- What the notices of a journal print and leave.
 pub mod Lines

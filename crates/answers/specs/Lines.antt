@@ -1,18 +1,15 @@
--- What each call of a journal does on the numbers of its line: the row that it prints, and the register after it. A line with
+-- What each notice of a journal does on the numbers of its line: the row that it prints, and the register after it. A line with
 -- another count of numbers is no call, and does nothing.
 use mathlib.Core.Bool.{cond, _&&_}
 use mathlib.Core.List.{List, [], _∷_}
 use mathlib.Core.Option.{Option, none, some}
 use mathlib.Core.Path.{_≡_}
 use Prim.Native.Nat.{ℕ, _+_, _≤_}
-use lib.Dec.{eqb, leb, ltb}
+use lib.Dec.{eqb, leb}
 use lib.IntN.{ℤ, pos}
-use lib.ListN.{length, take, drop, getD, set}
+use lib.ListN.{length, drop, getD}
 use Rattle.numbers.specs.Naturals.{natOf}
 use Rattle.numbers.specs.Search.{maybe}
-use Rattle.calendar.specs.Calendar.{dateCall}
-use Rattle.layout.specs.Layout.{standard}
-use Rattle.table.specs.Lookup.{lookUp}
 use Rattle.opening.specs.Opening.{freshCall, openCall}
 use Rattle.energy.specs.Energy.{energyCall}
 use Rattle.status.specs.Status.{statusCall}
@@ -23,9 +20,7 @@ use Rattle.daybook.specs.declared.EnergyNotice.{EnergyNotice}
 use Rattle.daybook.specs.declared.StatusNotice.{StatusNotice}
 use Rattle.daybook.specs.declared.TransferRequest.{TransferRequest}
 use Rattle.daybook.specs.declared.Withdrawal.{Withdrawal}
-use Rattle.calendar.specs.declared.YearMonthDay.{YearMonthDay}
 use Rattle.printing.specs.Rows.{rowOf, Printed}
-use Rattle.answers.specs.Sums.{sumsOf}
 
 abbrev pub Outcome : Type 0
 Outcome = Option (List ℤ × List ℤ)
@@ -52,9 +47,6 @@ requestOf xs = record { mirn = num xs 0; user = num xs 1; proposed = num xs 2; n
 
 abbrev pub withdrawalOf : List ℤ → Withdrawal
 withdrawalOf xs = record { mirn = num xs 0; user = num xs 1 }
-
-abbrev pub dateOf : List ℤ → YearMonthDay
-dateOf xs = record { year = num xs 0; month = num xs 1; day = num xs 2 }
 
 -- The call of a line that has n numbers.
 abbrev pub taking : ℕ → List ℤ → List ℤ × List ℤ → Outcome
@@ -83,24 +75,6 @@ requestLine t xs =
 
 unfoldable pub withdrawLine : List ℤ → List ℤ → Outcome
 withdrawLine t xs = taking 2 xs (withdrawCall t (withdrawalOf xs))
-
-unfoldable pub dateLine : List ℤ → List ℤ → Outcome
-dateLine t xs = taking 3 xs (dateCall (dateOf xs .year) (dateOf xs .month) (dateOf xs .day), t)
-
--- The length of the part that the look-up hands back, and its sums.
-unfoldable pub lookLine : List ℤ → List ℤ → Outcome
-lookLine t xs =
-    let part : List ℤ = lookUp standard t (num xs 0) in
-    taking 1 xs (pos (length part) ∷ pos (sumsOf part .0) ∷ pos (sumsOf part .1) ∷ [], t)
-
-unfoldable pub pokeLine : List ℤ → List ℤ → Outcome
-pokeLine t xs =
-    cond (eqb (length xs) 2 && ltb (natOf (num xs 0)) 7688) (some (pos 0 ∷ [], set t (natOf (num xs 0)) (num xs 1))) none
-
--- The sums of the register, and the second one of the numbers past it.
-unfoldable pub tableLine : List ℤ → List ℤ → Outcome
-tableLine t xs =
-    taking 0 xs (pos 0 ∷ pos (sumsOf (take 7688 t) .0) ∷ pos (sumsOf (take 7688 t) .1) ∷ pos (sumsOf (drop 7688 t) .1) ∷ [], t)
 
 -- The outcome is in the register and in the output, which has room for 2,048 bytes.
 pub record Played (o : Outcome) (t : List ℤ) (out : List ℕ) (at : ℕ) (t' : List ℤ) (out' : List ℕ) (r : ℕ) : Type 0 where

@@ -1,3 +1,2 @@
--- What a player's lines do, and where it stands between two bytes.
+-- Where a player stands between two bytes.
 pub mod Ready
-pub mod Calls

@@ -1,9 +1,7 @@
 // Plays a journal: reads calls from standard input, one a line, on one register, and writes a row of numbers for each.
 ghost use mathlib.Core.Path.{_≡_};
-ghost use Prim.Native.Nat.{_+_, _*_, _≤_};
+ghost use Prim.Native.Nat.{_+_, _≤_};
 ghost use lib.ListN.{length};
-ghost use Rattle.answers.specs.Lines.{Played};
-ghost use Rattle.player.specs.Calls.{noticeLine, callLine};
 ghost use Rattle.player.specs.Ready.{Ready, Answered, Sized};
 use journal::Call;
 use journal::Taken;
@@ -18,46 +16,6 @@ pub struct Standing {
     pub filled: usize,
     pub at: usize,
     pub more: bool,
-}
-
-// A call on the numbers that it is lent.
-fn notice(call: Call, t: &mut [i64], nums: &[i64], out: &mut [u8], at: usize) -> usize
-    requires { ⌜ at + 2048 ≤ length (now out) ⌝ }
-    ensures { λ r. ⌜ Played (noticeLine call (now (t .entry)) (now (nums .entry))) (now (t .entry)) (now (out .entry)) at (now (t .exit)) (now (out .exit)) r ⌝ }
-{
-    match call {
-        Call::Fresh => answers::fresh(t, nums, out, at),
-        Call::Open => answers::open(t, nums, out, at),
-        Call::Energy => answers::energy(t, nums, out, at),
-        Call::Status => answers::status(t, nums, out, at),
-        Call::Request => answers::request(t, nums, out, at),
-        Call::Withdraw => answers::withdraw(t, nums, out, at),
-        _ => at,
-    }
-}
-
-// Any call but tlen and alen. Poke and table reach the whole buffer.
-fn answer(
-    call: Call,
-    t: &mut [i64],
-    lent: usize,
-    room: usize,
-    nums: &[i64],
-    out: &mut [u8],
-    at: usize,
-) -> usize
-    requires { ⌜ (7688 ≤ length (now t)) × (lent ≤ length (now t)) × (room ≤ 64) × (at + 2048 ≤ length (now out)) ⌝ }
-    ensures { λ r. ⌜ Played (callLine call (now (t .entry)) lent room (now (nums .entry))) (now (t .entry)) (now (out .entry)) at (now (t .exit)) (now (out .exit)) r ⌝ }
-{
-    match call {
-        Call::Account => queries::account(&t[0..lent], nums, out, at),
-        Call::Allocate => queries::allocate(&t[0..lent], room, nums, out, at),
-        Call::Date => answers::date(t, nums, out, at),
-        Call::Look => answers::look(&t[0..lent], nums, out, at),
-        Call::Table => answers::table(t, nums, out, at),
-        Call::Poke => answers::poke(t, nums, out, at),
-        _ => notice(call, &mut t[0..lent], nums, out, at),
-    }
 }
 
 // The number of a line that has one. Another count of numbers is read as a negative number is, above every length.
@@ -113,7 +71,7 @@ fn obey(call: Call, t: &mut [i64], nums: &[i64], out: &mut [u8], s: Standing) ->
             let room = s.room;
             let at = s.at;
             let mut r = s;
-            r.at = answer(call, t, lent, room, nums, out, at);
+            r.at = dispatch::answer(call, t, lent, room, nums, out, at);
             r
         }
     }

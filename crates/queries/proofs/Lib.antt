@@ -1,2 +1,3 @@
--- Laws of the rows that the queries print.
+-- Laws of these calls.
+pub mod Lines
 pub mod Rows

@@ -1,2 +1,3 @@
--- What the calls of a journal that ask the register print.
+-- What the other calls of a journal print and leave.
+pub mod Sums
 pub mod Lines

@@ -5,11 +5,11 @@ use lib.ListN.{length, drop, getD}
 use mir.Facts.{toZ-ofZ}
 use mir.Syntax.{w64}
 use mir.Val.{ofZ}
-use Rattle.answers.specs.Sums.{sumsFrom, sumsOf}
-use Rattle.answers.proofs.Lines.{sums-more, sums-end}
+use Rattle.queries.specs.Sums.{sumsFrom, sumsOf}
+use Rattle.queries.proofs.Lines.{sums-more, sums-end}
 use borrow.Author.Needs.{needs}
-use Rattle.answers.proofs.sums.Statement.{statement}
-use Rattle.answers.proofs.sums.Tie as tie
+use Rattle.queries.proofs.sums.Statement.{statement}
+use Rattle.queries.proofs.sums.Tie as tie
 
 abbrev Inv-loop : tie.InvT-loop
 Inv-loop t s1₀ s2₀ i₀ s1 s2 i = (i ≤ length t) × (sumsFrom s1 s2 (drop i t) ≡ sumsOf t)

@@ -11,7 +11,7 @@ use Rattle.journal.specs.declared.Call.{Call}
 use Rattle.journal.specs.declared.Call.the-variants.{Fresh, Open, Energy, Status, Request, Withdraw, Account, Allocate, Date, Look, Table, Poke, Lend, Room, Unknown}
 use Rattle.journal.proofs.Call.{the-type}
 use Rattle.answers.specs.Lines.{Outcome, Played}
-use Rattle.player.specs.Calls.{noticeLine, onLent, callLine}
+use Rattle.dispatch.specs.Calls.{noticeLine, onLent, callLine}
 
 -- the numbers of the calls that are no notices
 abbrev others : List ℕ

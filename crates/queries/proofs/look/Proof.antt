@@ -4,11 +4,12 @@ use lib.IntN.{pos}
 use lib.ListN.{getD}
 use mir.Facts.{toZ-ofZ}
 use mir.Syntax.{w64}
-use Rattle.answers.specs.Lines.{lookLine}
-use Rattle.answers.proofs.Lines.{nothing, looked}
+use Rattle.queries.specs.Lines.{lookLine}
+use Rattle.answers.proofs.Lines.{nothing}
+use Rattle.queries.proofs.Lines.{looked}
 use borrow.Author.Needs.{needs}
-use Rattle.answers.proofs.look.Statement.{statement}
-use Rattle.answers.proofs.look.Tie as tie
+use Rattle.queries.proofs.look.Statement.{statement}
+use Rattle.queries.proofs.look.Tie as tie
 
 returns : tie.Need-returns
 unfolding lookLine

@@ -1,8 +1,8 @@
 use Rattle.answers.proofs.Lines.{nothing}
-use Rattle.player.proofs.Calls.{no-notice}
+use Rattle.dispatch.proofs.Calls.{no-notice}
 use borrow.Author.Needs.{needs}
-use Rattle.player.proofs.notice.Statement.{statement}
-use Rattle.player.proofs.notice.Tie as tie
+use Rattle.dispatch.proofs.notice.Statement.{statement}
+use Rattle.dispatch.proofs.notice.Tie as tie
 
 enum-told : tie.Need-enum-told
 enum-told c = search needs

@@ -1,9 +1,10 @@
 use mathlib.Core.Path.{refl}
 use native.Mathlib.Omega.{arith}
-use Rattle.answers.proofs.Lines.{nothing, something, poke-miscounted, poke-outside, poke-inside}
+use Rattle.answers.proofs.Lines.{nothing, something}
+use Rattle.queries.proofs.Lines.{poke-miscounted, poke-outside, poke-inside}
 use borrow.Author.Needs.{needs}
-use Rattle.answers.proofs.poke.Statement.{statement}
-use Rattle.answers.proofs.poke.Tie as tie
+use Rattle.queries.proofs.poke.Statement.{statement}
+use Rattle.queries.proofs.poke.Tie as tie
 
 returns : tie.Need-returns
 returns c = nothing _ _ _ (poke-miscounted _ _ (c .if1 .taken))

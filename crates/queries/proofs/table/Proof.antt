@@ -1,11 +1,12 @@
 use mathlib.Core.Path.{refl}
 use native.Mathlib.Omega.{arith}
 use borrow.Author.Tests.{ne-eqb}
-use Rattle.answers.specs.Lines.{tableLine}
-use Rattle.answers.proofs.Lines.{nothing, tabled}
+use Rattle.queries.specs.Lines.{tableLine}
+use Rattle.answers.proofs.Lines.{nothing}
+use Rattle.queries.proofs.Lines.{tabled}
 use borrow.Author.Needs.{needs}
-use Rattle.answers.proofs.table.Statement.{statement}
-use Rattle.answers.proofs.table.Tie as tie
+use Rattle.queries.proofs.table.Statement.{statement}
+use Rattle.queries.proofs.table.Tie as tie
 
 returns : tie.Need-returns
 unfolding tableLine

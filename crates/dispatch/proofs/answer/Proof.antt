@@ -1,12 +1,11 @@
 use native.Mathlib.Nat.{sub-zero}
 use lib.ListN.{take}
-use Rattle.answers.specs.Lines.{lookLine}
-use Rattle.queries.specs.Lines.{accountLine, allocateLine}
-use Rattle.player.specs.Calls.{noticeLine}
-use Rattle.player.proofs.Calls.{on-lent, on-lent-kept, goes-on}
+use Rattle.queries.specs.Lines.{accountLine, allocateLine, lookLine}
+use Rattle.dispatch.specs.Calls.{noticeLine}
+use Rattle.dispatch.proofs.Calls.{on-lent, on-lent-kept, goes-on}
 use borrow.Author.Needs.{needs}
-use Rattle.player.proofs.answer.Statement.{statement}
-use Rattle.player.proofs.answer.Tie as tie
+use Rattle.dispatch.proofs.answer.Statement.{statement}
+use Rattle.dispatch.proofs.answer.Tie as tie
 
 enum-told : tie.Need-enum-told
 enum-told c = search needs

@@ -3,11 +3,11 @@ use native.Mathlib.Omega.{arith}
 use borrow.Author.Tests.{ne-eqb}
 use Rattle.calendar.specs.Calendar.{dateNumbers, dateCall}
 use Rattle.calendar.specs.declared.YearMonthDay.{YearMonthDay}
-use Rattle.answers.specs.Lines.{dateLine}
+use Rattle.queries.specs.Lines.{dateLine}
 use Rattle.answers.proofs.Lines.{nothing, called}
 use borrow.Author.Needs.{needs}
-use Rattle.answers.proofs.date.Statement.{statement}
-use Rattle.answers.proofs.date.Tie as tie
+use Rattle.queries.proofs.date.Statement.{statement}
+use Rattle.queries.proofs.date.Tie as tie
 
 returns : tie.Need-returns
 unfolding dateLine

@@ -7,8 +7,8 @@ use lib.ListN.{take, drop}
 use Rattle.numbers.specs.Search.{maybe}
 use Rattle.journal.specs.declared.Call.{Call}
 use Rattle.journal.specs.declared.Call.the-variants.{Fresh, Open, Energy, Status, Request, Withdraw, Account, Allocate, Date, Look, Table, Poke, Lend, Room, Unknown}
-use Rattle.queries.specs.Lines.{accountLine, allocateLine}
-use Rattle.answers.specs.Lines.{Outcome, freshLine, openLine, energyLine, statusLine, requestLine, withdrawLine, dateLine, lookLine, pokeLine, tableLine}
+use Rattle.answers.specs.Lines.{Outcome, freshLine, openLine, energyLine, statusLine, requestLine, withdrawLine}
+use Rattle.queries.specs.Lines.{accountLine, allocateLine, dateLine, lookLine, pokeLine, tableLine}
 
 -- The notices, on the numbers that they are lent.
 abbrev pub noticeLine : Call → List ℤ → List ℤ → Outcome

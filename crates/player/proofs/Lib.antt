@@ -1,2 +1,0 @@
--- Laws of a player's calls.
-pub mod Calls
