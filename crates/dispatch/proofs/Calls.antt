@@ -8,14 +8,14 @@ use lib.ListN.{take, drop, take-append-drop}
 use types.Run.{OneOf, miss}
 use denote.Enum.Declared.{tagOf}
 use Rattle.journal.specs.declared.Call.{Call}
-use Rattle.journal.specs.declared.Call.the-variants.{Fresh, Open, Energy, Status, Request, Withdraw, Date, Look, Poke, Lend, Table, Unknown}
+use Rattle.journal.specs.declared.Call.the-variants.{Fresh, Open, Energy, Status, Request, Withdraw, Account, Allocate, Date, Look, Table, Poke, Lend, Room, Unknown}
 use Rattle.journal.proofs.Call.{the-type}
 use Rattle.answers.specs.Lines.{Outcome, Played}
 use Rattle.dispatch.specs.Calls.{noticeLine, onLent, callLine}
 
 -- the numbers of the calls that are no notices
 abbrev others : List ℕ
-others = 6 ∷ 7 ∷ 8 ∷ 9 ∷ 10 ∷ 11 ∷ []
+others = 6 ∷ 7 ∷ 8 ∷ 9 ∷ 10 ∷ 11 ∷ 12 ∷ 13 ∷ 14 ∷ []
 
 pub no-notice : (call : Call) (t xs : List ℤ) → OneOf others (tagOf the-type call) → noticeLine call t xs ≡ none
 no-notice Fresh t xs k = absurd (miss others 0 tt k)
@@ -24,11 +24,14 @@ no-notice Energy t xs k = absurd (miss others 2 tt k)
 no-notice Status t xs k = absurd (miss others 3 tt k)
 no-notice Request t xs k = absurd (miss others 4 tt k)
 no-notice Withdraw t xs k = absurd (miss others 5 tt k)
+no-notice Account t xs k = refl
+no-notice Allocate t xs k = refl
 no-notice Date t xs k = refl
 no-notice Look t xs k = refl
+no-notice Table t xs k = refl
 no-notice Poke t xs k = refl
 no-notice Lend t xs k = refl
-no-notice Table t xs k = refl
+no-notice Room t xs k = refl
 no-notice Unknown t xs k = refl
 
 -- an outcome on the first numbers of a buffer is one on the buffer
@@ -45,18 +48,21 @@ on-lent-kept t lent o p =
 
 -- the numbers of the calls that go on to the notices
 abbrev lent-on : List ℕ
-lent-on = 0 ∷ 1 ∷ 2 ∷ 3 ∷ 4 ∷ 5 ∷ 9 ∷ 11 ∷ []
+lent-on = 0 ∷ 1 ∷ 2 ∷ 3 ∷ 4 ∷ 5 ∷ 12 ∷ 13 ∷ 14 ∷ []
 
-pub goes-on : (call : Call) (t : List ℤ) (lent : ℕ) (xs : List ℤ) → OneOf lent-on (tagOf the-type call) → callLine call t lent xs ≡ onLent t lent (noticeLine call (take lent t) xs)
-goes-on Fresh t lent xs k = refl
-goes-on Open t lent xs k = refl
-goes-on Energy t lent xs k = refl
-goes-on Status t lent xs k = refl
-goes-on Request t lent xs k = refl
-goes-on Withdraw t lent xs k = refl
-goes-on Date t lent xs k = absurd (miss lent-on 6 tt k)
-goes-on Look t lent xs k = absurd (miss lent-on 7 tt k)
-goes-on Poke t lent xs k = absurd (miss lent-on 8 tt k)
-goes-on Lend t lent xs k = refl
-goes-on Table t lent xs k = absurd (miss lent-on 10 tt k)
-goes-on Unknown t lent xs k = refl
+pub goes-on : (call : Call) (t : List ℤ) (lent room : ℕ) (xs : List ℤ) → OneOf lent-on (tagOf the-type call) → callLine call t lent room xs ≡ onLent t lent (noticeLine call (take lent t) xs)
+goes-on Fresh t lent room xs k = refl
+goes-on Open t lent room xs k = refl
+goes-on Energy t lent room xs k = refl
+goes-on Status t lent room xs k = refl
+goes-on Request t lent room xs k = refl
+goes-on Withdraw t lent room xs k = refl
+goes-on Account t lent room xs k = absurd (miss lent-on 6 tt k)
+goes-on Allocate t lent room xs k = absurd (miss lent-on 7 tt k)
+goes-on Date t lent room xs k = absurd (miss lent-on 8 tt k)
+goes-on Look t lent room xs k = absurd (miss lent-on 9 tt k)
+goes-on Table t lent room xs k = absurd (miss lent-on 10 tt k)
+goes-on Poke t lent room xs k = absurd (miss lent-on 11 tt k)
+goes-on Lend t lent room xs k = refl
+goes-on Room t lent room xs k = refl
+goes-on Unknown t lent room xs k = refl

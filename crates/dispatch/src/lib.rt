@@ -21,23 +21,26 @@ fn notice(call: Call, t: &mut [i64], nums: &[i64], out: &mut [u8], at: usize) ->
     }
 }
 
-// Any call but tlen. Poke and table reach the whole buffer.
+// Any call but tlen and alen. Poke and table reach the whole buffer.
 pub fn answer(
     call: Call,
     t: &mut [i64],
     lent: usize,
+    room: usize,
     nums: &[i64],
     out: &mut [u8],
     at: usize,
 ) -> usize
-    requires { ⌜ (7688 ≤ length (now t)) × (lent ≤ length (now t)) × (at + 2048 ≤ length (now out)) ⌝ }
-    ensures { λ r. ⌜ Played (callLine call (now (t .entry)) lent (now (nums .entry))) (now (t .entry)) (now (out .entry)) at (now (t .exit)) (now (out .exit)) r ⌝ }
+    requires { ⌜ (7688 ≤ length (now t)) × (lent ≤ length (now t)) × (room ≤ 64) × (at + 2048 ≤ length (now out)) ⌝ }
+    ensures { λ r. ⌜ Played (callLine call (now (t .entry)) lent room (now (nums .entry))) (now (t .entry)) (now (out .entry)) at (now (t .exit)) (now (out .exit)) r ⌝ }
 {
     match call {
+        Call::Account => queries::account(&t[0..lent], nums, out, at),
+        Call::Allocate => queries::allocate(&t[0..lent], room, nums, out, at),
         Call::Date => queries::date(t, nums, out, at),
         Call::Look => queries::look(&t[0..lent], nums, out, at),
-        Call::Poke => queries::poke(t, nums, out, at),
         Call::Table => queries::table(t, nums, out, at),
+        Call::Poke => queries::poke(t, nums, out, at),
         _ => notice(call, &mut t[0..lent], nums, out, at),
     }
 }

@@ -4,7 +4,7 @@ use mathlib.Core.List.{List, [], _∷_}
 use Prim.Native.Nat.{ℕ}
 use lib.Dec.{eqb}
 use Rattle.journal.specs.declared.Call.{Call}
-use Rattle.journal.specs.declared.Call.the-variants.{Fresh, Open, Energy, Status, Request, Withdraw, Date, Look, Poke, Lend, Table, Unknown}
+use Rattle.journal.specs.declared.Call.the-variants.{Fresh, Open, Energy, Status, Request, Withdraw, Account, Allocate, Date, Look, Table, Poke, Lend, Room, Unknown}
 
 unfoldable pub sameBytes : List ℕ → List ℕ → Bool
 sameBytes [] [] = true
@@ -27,12 +27,20 @@ noticeOf w =
     (pick (sameBytes w (119 ∷ 105 ∷ 116 ∷ 104 ∷ 100 ∷ 114 ∷ 97 ∷ 119 ∷ [])) Withdraw
     Unknown))))))
 
--- date, look, poke, tlen, table; else a notice or none
-abbrev pub callOf : List ℕ → Call
-callOf w =
+-- account, allocate, date, look, table; else a notice or none
+abbrev pub askedOf : List ℕ → Call
+askedOf w =
+    (pick (sameBytes w (97 ∷ 99 ∷ 99 ∷ 111 ∷ 117 ∷ 110 ∷ 116 ∷ [])) Account
+    (pick (sameBytes w (97 ∷ 108 ∷ 108 ∷ 111 ∷ 99 ∷ 97 ∷ 116 ∷ 101 ∷ [])) Allocate
     (pick (sameBytes w (100 ∷ 97 ∷ 116 ∷ 101 ∷ [])) Date
     (pick (sameBytes w (108 ∷ 111 ∷ 111 ∷ 107 ∷ [])) Look
-    (pick (sameBytes w (112 ∷ 111 ∷ 107 ∷ 101 ∷ [])) Poke
-    (pick (sameBytes w (116 ∷ 108 ∷ 101 ∷ 110 ∷ [])) Lend
     (pick (sameBytes w (116 ∷ 97 ∷ 98 ∷ 108 ∷ 101 ∷ [])) Table
     (noticeOf w))))))
+
+-- poke, tlen, alen; else one of those above or none
+abbrev pub callOf : List ℕ → Call
+callOf w =
+    (pick (sameBytes w (112 ∷ 111 ∷ 107 ∷ 101 ∷ [])) Poke
+    (pick (sameBytes w (116 ∷ 108 ∷ 101 ∷ 110 ∷ [])) Lend
+    (pick (sameBytes w (97 ∷ 108 ∷ 101 ∷ 110 ∷ [])) Room
+    (askedOf w))))

@@ -3,9 +3,9 @@ ghost use mathlib.Core.Path.{_≡_};
 ghost use Prim.Native.Nat.{_+_, _*_, _<_, _≤_, _^_};
 ghost use lib.ListN.{length, drop};
 ghost use Rattle.journal.specs.Text.{isDigit, digitsOf, capped, nonNegative, negative as Text·negative, numberOf, valueOf, Skipped, Ended, wordsOf, numbersOf, readInto, countOf};
-ghost use Rattle.journal.specs.Names.{sameBytes, noticeOf, callOf};
+ghost use Rattle.journal.specs.Names.{sameBytes, noticeOf, askedOf, callOf};
 
-// The calls of a journal. Lend is `tlen`.
+// The calls of a journal. Lend is `tlen`, and Room is `alen`.
 pub enum Call {
     Fresh,
     Open,
@@ -13,11 +13,14 @@ pub enum Call {
     Status,
     Request,
     Withdraw,
+    Account,
+    Allocate,
     Date,
     Look,
+    Table,
     Poke,
     Lend,
-    Table,
+    Room,
     Unknown,
 }
 
@@ -172,26 +175,42 @@ fn notice(w: &[u8]) -> Call
     Call::Unknown
 }
 
-// The call that a word names.
-pub fn named(w: &[u8]) -> Call
-    ensures { λ r. ⌜ r ≡ callOf (now (w .entry)) ⌝ }
+// The calls that change nothing, and the notices.
+fn asked(w: &[u8]) -> Call
+    ensures { λ r. ⌜ r ≡ askedOf (now (w .entry)) ⌝ }
 {
+    if same(w, b"account") {
+        return Call::Account;
+    }
+    if same(w, b"allocate") {
+        return Call::Allocate;
+    }
     if same(w, b"date") {
         return Call::Date;
     }
     if same(w, b"look") {
         return Call::Look;
     }
+    if same(w, b"table") {
+        return Call::Table;
+    }
+    notice(w)
+}
+
+// The call that a word names.
+pub fn named(w: &[u8]) -> Call
+    ensures { λ r. ⌜ r ≡ callOf (now (w .entry)) ⌝ }
+{
     if same(w, b"poke") {
         return Call::Poke;
     }
     if same(w, b"tlen") {
         return Call::Lend;
     }
-    if same(w, b"table") {
-        return Call::Table;
+    if same(w, b"alen") {
+        return Call::Room;
     }
-    notice(w)
+    asked(w)
 }
 
 // Reads the words from at on as numbers.

@@ -2,44 +2,85 @@
 ghost use mathlib.Core.Path.{_≡_};
 ghost use Prim.Native.Nat.{_+_, _≤_};
 ghost use lib.ListN.{length};
-ghost use Rattle.player.specs.Ready.{Ready, Sized};
+ghost use Rattle.player.specs.Ready.{Ready, Answered, Sized};
 use journal::Call;
 use journal::Taken;
 
-// Where a player stands: the numbers of the buffer that calls are lent, the lines that have ended, the bytes of the present
-// line (8,193 if it is longer than 8,192), the bytes of output that wait, and whether input may follow.
+// Where a player stands: the numbers of the buffer that calls are lent, those of the answer table, the lines that have
+// ended, the bytes of the present line (8,193 if it is longer than 8,192), the bytes of output that wait, and whether input
+// may follow.
 pub struct Standing {
     pub lent: usize,
+    pub room: usize,
     pub lines: u64,
     pub filled: usize,
     pub at: usize,
     pub more: bool,
 }
 
-// The call tlen.
-fn lend(nums: &[i64], out: &mut [u8], s: Standing) -> Standing
-    requires { ⌜ Ready s × (length (now out) ≡ 16384) ⌝ }
-    ensures { λ r. ⌜ (r .lent ≤ 7704) × (r .at ≤ s .at + 2048) ⌝ }
-{
+// The number of a line that has one. Another count of numbers is read as a negative number is, above every length.
+fn only_number(nums: &[i64]) -> u64 {
     if nums.len() != 1 {
-        return s;
+        return 0x8000_0000_0000_0000;
     }
-    let n = numbers::get(nums, 0);
+    numbers::get(nums, 0)
+}
+
+// The call tlen.
+fn set_lent(nums: &[i64], out: &mut [u8], s: Standing) -> Standing
+    requires { ⌜ Ready s × (length (now out) ≡ 16384) ⌝ }
+    ensures { λ r. ⌜ Answered s r ⌝ }
+{
+    let n = only_number(nums);
     if 7704 < n {
         return s;
     }
     let at = s.at;
-    let end = printing::row(out, at, &[0]);
     let mut r = s;
     r.lent = n as usize;
-    r.at = end;
+    r.at = printing::row(out, at, &[0]);
     r
+}
+
+// The call alen.
+fn set_room(nums: &[i64], out: &mut [u8], s: Standing) -> Standing
+    requires { ⌜ Ready s × (length (now out) ≡ 16384) ⌝ }
+    ensures { λ r. ⌜ Answered s r ⌝ }
+{
+    let n = only_number(nums);
+    if 64 < n {
+        return s;
+    }
+    let at = s.at;
+    let mut r = s;
+    r.room = n as usize;
+    r.at = printing::row(out, at, &[0]);
+    r
+}
+
+// Any call, with the numbers of its line.
+fn obey(call: Call, t: &mut [i64], nums: &[i64], out: &mut [u8], s: Standing) -> Standing
+    requires { ⌜ Ready s × (length (now t) ≡ 7704) × (length (now out) ≡ 16384) ⌝ }
+    ensures { λ r. ⌜ Answered s r ⌝ }
+{
+    match call {
+        Call::Lend => set_lent(nums, out, s),
+        Call::Room => set_room(nums, out, s),
+        _ => {
+            let lent = s.lent;
+            let room = s.room;
+            let at = s.at;
+            let mut r = s;
+            r.at = dispatch::answer(call, t, lent, room, nums, out, at);
+            r
+        }
+    }
 }
 
 // A line that has a word. It is left alone, with no row, where it is no call.
 fn call(t: &mut [i64], line: &[u8], nums: &mut [i64], out: &mut [u8], s: Standing) -> Standing
     requires { ⌜ Ready s × (length (now t) ≡ 7704) × (length (now line) ≤ 8192) × (length (now nums) ≡ 4096) × (length (now out) ≡ 16384) ⌝ }
-    ensures { λ r. ⌜ (r .lent ≤ 7704) × (r .at ≤ s .at + 2048) ⌝ }
+    ensures { λ r. ⌜ Answered s r ⌝ }
 {
     let start = journal::skip(line, 0);
     let end = journal::word_end(line, start);
@@ -47,20 +88,13 @@ fn call(t: &mut [i64], line: &[u8], nums: &mut [i64], out: &mut [u8], s: Standin
         return s;
     };
     let named = journal::named(&line[start..end]);
-    if let Call::Lend = named {
-        return lend(&nums[0..n], out, s);
-    }
-    let lent = s.lent;
-    let at = s.at;
-    let mut r = s;
-    r.at = dispatch::answer(named, t, lent, &nums[0..n], out, at);
-    r
+    obey(named, t, &nums[0..n], out, s)
 }
 
 // A line of at most 8,192 bytes, which is the next after those that have ended.
 fn play(t: &mut [i64], line: &[u8], nums: &mut [i64], out: &mut [u8], s: Standing) -> Standing
     requires { ⌜ Ready s × (length (now t) ≡ 7704) × (length (now line) ≤ 8192) × (length (now nums) ≡ 4096) × (length (now out) ≡ 16384) ⌝ }
-    ensures { λ r. ⌜ (r .lent ≤ 7704) × (r .at ≤ s .at + 2048) ⌝ }
+    ensures { λ r. ⌜ Answered s r ⌝ }
 {
     if journal::skip(line, 0) == line.len() {
         return s;
@@ -78,7 +112,7 @@ fn play(t: &mut [i64], line: &[u8], nums: &mut [i64], out: &mut [u8], s: Standin
 // A line that is no call.
 fn unknown(out: &mut [u8], s: Standing) -> Standing
     requires { ⌜ Ready s × (length (now out) ≡ 16384) ⌝ }
-    ensures { λ r. ⌜ (r .lent ≤ 7704) × (r .at ≤ s .at + 2048) ⌝ }
+    ensures { λ r. ⌜ Answered s r ⌝ }
 {
     let at = s.at;
     let number = std::num::wrapping_add_u64(s.lines, 1);
@@ -90,7 +124,7 @@ fn unknown(out: &mut [u8], s: Standing) -> Standing
 // Writes what waits.
 fn flush(out: &[u8], s: Standing) -> Standing
     requires { ⌜ s .at ≤ length (now out) ⌝ }
-    ensures { λ r. ⌜ (r .lent ≡ s .lent) × (r .filled ≡ s .filled) × (r .at ≡ 0) ⌝ }
+    ensures { λ r. ⌜ (r .lent ≡ s .lent) × (r .room ≡ s .room) × (r .filled ≡ s .filled) × (r .at ≡ 0) ⌝ }
 {
     let at = s.at;
     let written = io::write_all(1, &out[0..at]);
@@ -109,7 +143,7 @@ fn play_filled(
     s: Standing,
 ) -> Standing
     requires { ⌜ Ready s × Sized (now t) (now line) (now nums) (now out) ⌝ }
-    ensures { λ r. ⌜ (r .lent ≤ 7704) × (r .at ≤ s .at + 2048) ⌝ }
+    ensures { λ r. ⌜ Answered s r ⌝ }
 {
     let filled = s.filled;
     if 8192 < filled {
@@ -239,6 +273,7 @@ pub fn run() {
     mark(&mut t);
     let start = Standing {
         lent: 7688,
+        room: 32,
         lines: 0,
         filled: 0,
         at: 0,

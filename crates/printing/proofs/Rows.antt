@@ -8,9 +8,11 @@ use native.Mathlib.Numerals.{add-one}
 use native.Mathlib.Omega.{arith}
 use borrow.Author.Tests.{leb-true, leb-false, lt-ltb, le-ltb, eqb-true, eqb-false}
 use lib.Dec.{eqb, leb, ltb}
-use lib.IntN.{ℤ, pos}
-use lib.ListN.{length, take, drop, getD, set, length-set, drop-of-length-le}
+use lib.IntN.{ℤ, pos, negsuc}
+use lib.ListN.{length, take, drop, getD, set, length-set, length-map, drop-of-length-le, List·getD-map}
 use lib.Seq.{drop-cons, take-suc, take-suc-set}
+use mir.Syntax.{w64}
+use mir.Val.{ofZ, SFits}
 use Rattle.io.specs.Digits.{Fewest, digits, glyph}
 use Rattle.printing.specs.Rows.{decimalWithin, decimalOf, textOf, ending, rowOf, unknownOf}
 
@@ -67,13 +69,10 @@ copy-more out before text at i h l e =
 
 -- ---- rows
 
-map-drop : (xs : List ℕ) (i : ℕ) → i < length xs → map pos (drop i xs) ≡ pos (getD xs i 0) ∷ map pos (drop (i + 1) xs)
-map-drop xs i h = rw (add-one i, drop-cons xs i 0)
-
-ending-is : (xs : List ℕ) (i : ℕ) → i < length xs → cond (eqb (length xs - i - 1) 0) 10 32 ≡ ending (map pos (drop (i + 1) xs))
+ending-is : (xs : List ℤ) (i : ℕ) → i < length xs → cond (eqb (length xs - i - 1) 0) 10 32 ≡ ending (drop (i + 1) xs)
 ending-is xs i h = go (eqb (length xs - i - 1) 0) refl
   where
-    go : (t : Bool) → eqb (length xs - i - 1) 0 ≡ t → cond (eqb (length xs - i - 1) 0) 10 32 ≡ ending (map pos (drop (i + 1) xs))
+    go : (t : Bool) → eqb (length xs - i - 1) 0 ≡ t → cond (eqb (length xs - i - 1) 0) 10 32 ≡ ending (drop (i + 1) xs)
     go true e =
         let z : length xs - i - 1 ≡ 0 = eqb-true (length xs - i - 1) 0 e in
         let l : length xs ≤ i + 1 = omega arith in
@@ -81,15 +80,40 @@ ending-is xs i h = go (eqb (length xs - i - 1) 0) refl
     go false e =
         let z : length xs - i - 1 ≡ 0 → ⊥ = eqb-false (length xs - i - 1) 0 e in
         let l : i + 1 < length xs = omega arith in
-        rw (e, drop-cons xs (i + 1) 0)
+        rw (e, drop-cons xs (i + 1) (pos 0))
 
-pub row-more : (xs : List ℕ) (i : ℕ) (before shown : List ℕ) (after : ℕ) → i < length xs → after ≡ cond (eqb (length xs - i - 1) 0) 10 32 → shown ≡ before ++ (decimalOf (getD xs i 0) ++ (after ∷ [])) → shown ++ rowOf (map pos (drop (i + 1) xs)) ≡ before ++ rowOf (map pos (drop i xs))
-unfolding rowOf textOf
-row-more xs i before shown after h a e = rw (e, a, ending-is xs i h, map-drop xs i h, append-assoc, append-assoc)
+row-at : (xs : List ℤ) (i : ℕ) → i < length xs → rowOf (drop i xs) ≡ textOf (getD xs i (pos 0)) ++ (ending (drop (i + 1) xs) ∷ rowOf (drop (i + 1) xs))
+unfolding rowOf
+row-at xs i h = rw (add-one i, drop-cons xs i (pos 0))
 
-pub row-end : (xs : List ℕ) (i : ℕ) (shown : List ℕ) → length xs ≤ i → shown ++ rowOf (map pos (drop i xs)) ≡ shown
+pub row-more : (xs : List ℤ) (i : ℕ) (before shown : List ℕ) (after : ℕ) → i < length xs → after ≡ cond (eqb (length xs - i - 1) 0) 10 32 → shown ≡ before ++ (textOf (getD xs i (pos 0)) ++ (after ∷ [])) → shown ++ rowOf (drop (i + 1) xs) ≡ before ++ rowOf (drop i xs)
+row-more xs i before shown after h a e = rw (e, a, ending-is xs i h, row-at xs i h, append-assoc, append-assoc)
+
+pub natural-more : (xs : List ℕ) (i : ℕ) (before shown : List ℕ) (after : ℕ) → i < length xs → after ≡ cond (eqb (length xs - i - 1) 0) 10 32 → shown ≡ before ++ (decimalOf (getD xs i 0) ++ (after ∷ [])) → shown ++ rowOf (drop (i + 1) (map pos xs)) ≡ before ++ rowOf (drop i (map pos xs))
+unfolding textOf
+natural-more xs i before shown after h a e =
+    row-more (map pos xs) i before shown after (rw length-map h) (rw length-map a) (rw (List·getD-map pos xs i 0) e)
+
+pub row-end : (xs : List ℤ) (i : ℕ) (shown : List ℕ) → length xs ≤ i → shown ++ rowOf (drop i xs) ≡ shown
 unfolding rowOf
 row-end xs i shown h = rw (drop-of-length-le xs h, append-nil)
+
+-- ---- a signed number, from its bits
+
+pub text-natural : (x : ℤ) (b : ℕ) → SFits w64 x → b ≡ ofZ w64 x → b < 2 ^ 63 → decimalOf b ≡ textOf x
+unfolding textOf
+text-natural (pos n) b f e h = rw e
+text-natural (negsuc n) b f e h = absurd (omega (arith, f .sfits))
+
+pub text-negative : (x : ℤ) (b : ℕ) → SFits w64 x → b ≡ ofZ w64 x → 2 ^ 63 ≤ b → 45 ∷ decimalOf (18446744073709551615 - b + 1) ≡ textOf x
+unfolding textOf
+text-negative (pos n) b f e h = absurd (omega (arith, f .sfits))
+text-negative (negsuc n) b f e h =
+    let same : 18446744073709551615 - b + 1 ≡ suc n = omega (arith, f .sfits) in
+    rw same
+
+pub negative-is : (x : ℤ) (out : List ℕ) (at m after : ℕ) → at < length out → 45 ∷ decimalOf m ≡ textOf x → take (at + 1) (set out at 45) ++ (decimalOf m ++ (after ∷ [])) ≡ take at out ++ (textOf x ++ (after ∷ []))
+negative-is x out at m after h e = rw (← e, one-more out (take at out) at 45 h refl, append-assoc)
 
 pub unknown-is : (out : List ℕ) (at line : ℕ) → at + 1 < length out → take (at + 2) (set (set out at 63) (at + 1) 32) ++ (decimalOf line ++ (10 ∷ [])) ≡ take at out ++ unknownOf line
 unfolding unknownOf

@@ -6,7 +6,7 @@ ghost use Prim.Native.Nat.{_+_, _*_, _<_, _≤_};
 ghost use lib.Dec.{eqb};
 ghost use lib.IntN.{pos};
 ghost use lib.ListN.{length, take};
-ghost use Rattle.printing.specs.Rows.{decimalOf, rowOf, unknownOf, Printed};
+ghost use Rattle.printing.specs.Rows.{decimalOf, textOf, rowOf, unknownOf, Printed};
 
 fn copy(text: &[u8], out: &mut [u8], at: usize)
     requires { ⌜ at + length (now text) ≤ length (now out) ⌝ }
@@ -49,6 +49,34 @@ pub fn row(out: &mut [u8], at: usize, xs: &[u64]) -> usize
     while i < xs.len() {
         let after = separator(xs.len() - i - 1);
         end = put(out, end, xs[i], after);
+        i += 1;
+    }
+    end
+}
+
+// A signed number, and the byte after it.
+fn put_signed(out: &mut [u8], at: usize, x: i64, after: u8) -> usize
+    requires { ⌜ at + 22 ≤ length (now out) ⌝ }
+    ensures { λ r. ⌜ (r ≤ at + 22) × Printed (now (out .entry)) at (textOf x ++ (after ∷ [])) (now (out .exit)) r ⌝ }
+{
+    let bits = words::bits(x);
+    if bits < 0x8000_0000_0000_0000 {
+        return put(out, at, bits, after);
+    }
+    out[at] = b'-';
+    put(out, at + 1, u64::MAX - bits + 1, after)
+}
+
+// A row of signed numbers.
+pub fn signed_row(out: &mut [u8], at: usize, xs: &[i64]) -> usize
+    requires { ⌜ at + 22 * length (now xs) ≤ length (now out) ⌝ }
+    ensures { λ r. ⌜ (r ≤ at + 22 * length (now (xs .entry))) × Printed (now (out .entry)) at (rowOf (now (xs .entry))) (now (out .exit)) r ⌝ }
+{
+    let mut end = at;
+    let mut i = 0;
+    while i < xs.len() {
+        let after = separator(xs.len() - i - 1);
+        end = put_signed(out, end, xs[i], after);
         i += 1;
     }
     end

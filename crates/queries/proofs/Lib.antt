@@ -1,2 +1,3 @@
 -- Laws of these calls.
 pub mod Lines
+pub mod Rows

@@ -3,16 +3,16 @@ use mathlib.Core.List.{_++_, map}
 use Prim.Native.Nat.{_+_, _*_, _-_, _≤_}
 use native.Mathlib.Omega.{arith}
 use lib.IntN.{pos}
-use lib.ListN.{length, take, drop}
+use lib.ListN.{length, take, drop, length-map}
 use Rattle.printing.specs.Rows.{rowOf}
-use Rattle.printing.proofs.Rows.{row-more, row-end}
+use Rattle.printing.proofs.Rows.{natural-more, row-end}
 use borrow.Author.Needs.{needs}
 use Rattle.printing.proofs.row.Statement.{statement}
 use Rattle.printing.proofs.row.Tie as tie
 
 abbrev Inv-loop : tie.InvT-loop
 Inv-loop out₀ at xs end₀ i₀ out end i =
-    (i ≤ length xs) × (at ≤ end) × (end ≤ at + 21 * i) × (length out ≡ length out₀) × (take end out ++ rowOf (map pos (drop i xs)) ≡ take at out₀ ++ rowOf (map pos xs))
+    (i ≤ length xs) × (at ≤ end) × (end ≤ at + 21 * i) × (length out ≡ length out₀) × (take end out ++ rowOf (drop i (map pos xs)) ≡ take at out₀ ++ rowOf (map pos xs))
 
 abbrev μ-loop : tie.MeasureT-loop
 μ-loop out₀ at xs end₀ i₀ out end i = length xs - i
@@ -49,7 +49,7 @@ loop-again c =
     let s = c .before .before .before .before .before .before .before .before .before .before in
     let l = c .before .before .before .before .before .before .before .loop in
     let p = c .before .before .put in
-    (search needs, omega (arith, p .ensures .1 .from), search needs, search needs, row-more (s .args .xs .now) (l .i) (take (l .end) (l .out)) _ (c .before .before .before .before .before .separator .result) (omega arith) (c .before .before .before .before .before .separator .ensures) (p .ensures .1 .written) ∙ l .inv .4)
+    (search needs, omega (arith, p .ensures .1 .from), search needs, search needs, natural-more (s .args .xs .now) (l .i) (take (l .end) (l .out)) _ (c .before .before .before .before .before .separator .result) (omega arith) (c .before .before .before .before .before .separator .ensures) (p .ensures .1 .written) ∙ l .inv .4)
 
 same-length : tie.Need-same-length Inv-loop μ-loop
 same-length c = search needs
@@ -58,7 +58,7 @@ returns : tie.Need-returns Inv-loop μ-loop
 returns c =
     let s = c .before .before .before .before in
     let l = c .before .loop in
-    (search needs, record { from = search needs; written = sym (row-end (s .args .xs .now) (l .i) (take (l .end) (l .out)) (c .loop-test .left)) ∙ l .inv .4 })
+    (search needs, record { from = search needs; written = sym (row-end (map pos (s .args .xs .now)) (l .i) (take (l .end) (l .out)) (rw length-map (c .loop-test .left))) ∙ l .inv .4 })
 
 pub row-spec : {M : Type 1} → statement M
 row-spec =

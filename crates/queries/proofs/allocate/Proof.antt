@@ -1,0 +1,45 @@
+use mathlib.Core.Path.{refl, sym, ap, _∙_}
+use borrow.Author.Tests.{ne-eqb}
+use lib.IntN.{negsuc}
+use lib.ListN.{take, replicate}
+use Rattle.daybook.specs.declared.AllocationQuery.{AllocationQuery}
+use Rattle.answers.proofs.Lines.{nothing, called}
+use Rattle.queries.specs.Lines.{allocationRow, allocateLine}
+use Rattle.queries.proofs.Rows.{take-replicate}
+use borrow.Author.Needs.{needs}
+use Rattle.queries.proofs.allocate.Statement.{statement}
+use Rattle.queries.proofs.allocate.Tie as tie
+
+returns : tie.Need-returns
+unfolding allocateLine
+returns c = nothing _ _ _ (rw (ne-eqb _ _ (c .if1 .taken)))
+
+to-allocation-requires : tie.Need-to-allocation-requires
+to-allocation-requires c κs = search needs
+
+slice-aggregate-print-allocation : tie.Need-slice-aggregate-print-allocation
+slice-aggregate-print-allocation c = search needs
+
+print-allocation-requires : tie.Need-print-allocation-requires
+print-allocation-requires c κs = search needs
+
+same-length : tie.Need-same-length
+same-length c = search needs
+
+returns-2 : tie.Need-returns-2
+unfolding allocateLine
+returns-2 c =
+    let s = c .before .before .before .before .before .before .before .before .before in
+    let p = c .before .before .before .print-allocation in
+    called (λ (q : AllocationQuery). (allocationRow (s .args .t .now) q (replicate (s .args .room) (negsuc 6)), s .args .t .now)) 6 (s .args .nums .now) _ (c .before .before .before .before .before .before .before .if1 .left) (c .before .before .before .before .before .before .to-allocation .ensures) refl refl (p .ensures .0) (rw (take-replicate (s .args .room) 64 (negsuc 6) (s .pre .0)) at (p .ensures .1))
+
+pub allocate-spec : {M : Type 1} → statement M
+allocate-spec =
+    tie.close
+    (tie.spec
+    returns
+    to-allocation-requires
+    slice-aggregate-print-allocation
+    print-allocation-requires
+    same-length
+    returns-2)
