@@ -1,7 +1,6 @@
 #include "player.h"
 
 #include "petlumas.h"
-#include "words.h"
 
 #include <inttypes.h>
 #include <stdlib.h>
@@ -72,35 +71,35 @@ static struct sums sum_numbers(const uint8_t *bytes, size_t count) {
 /* ---- calls on the lent numbers */
 
 static bool play_fresh(struct player *p, struct numbers n) {
-    uint8_t answer[8];
+    uint8_t answer[PETLUMAS_FRESH_ANSWER_BYTES];
     petlumas_fresh(p->buffer, lent_bytes(p), answer, sizeof answer, n.at[0], n.at[1]);
-    return print_answer(p, answer, 1);
+    return print_answer(p, answer, sizeof answer / 8);
 }
 
 static bool play_open(struct player *p, struct numbers n) {
-    uint8_t answer[8];
+    uint8_t answer[PETLUMAS_OPEN_ANSWER_BYTES];
     petlumas_open(p->buffer, lent_bytes(p), answer, sizeof answer, n.at[0], n.at[1], n.at[2],
                   n.at[3], n.at[4]);
-    return print_answer(p, answer, 1);
+    return print_answer(p, answer, sizeof answer / 8);
 }
 
 static bool play_energy(struct player *p, struct numbers n) {
-    uint8_t answer[40];
+    uint8_t answer[PETLUMAS_ENERGY_ANSWER_BYTES];
     petlumas_energy(p->buffer, lent_bytes(p), answer, sizeof answer, n.at[0], n.at[1], n.at[2],
                     n.at[3], n.at[4], n.at[5]);
-    return print_answer(p, answer, 5);
+    return print_answer(p, answer, sizeof answer / 8);
 }
 
 static bool play_status(struct player *p, struct numbers n) {
-    uint8_t answer[8];
+    uint8_t answer[PETLUMAS_STATUS_ANSWER_BYTES];
     petlumas_status(p->buffer, lent_bytes(p), answer, sizeof answer, n.at[0], n.at[1], n.at[2]);
-    return print_answer(p, answer, 1);
+    return print_answer(p, answer, sizeof answer / 8);
 }
 
 /* MIRN, User, proposed day, no-change, and a list of holidays with its count in front. */
 static bool play_request(struct player *p, struct numbers n) {
     uint8_t holidays[8 * LINE_NUMBERS];
-    uint8_t answer[24];
+    uint8_t answer[PETLUMAS_REQUEST_ANSWER_BYTES];
     if (n.count < 5 || n.at[4] < 0 || (uint64_t)n.at[4] != n.count - 5)
         return false;
     size_t count = n.count - 5;
@@ -108,45 +107,45 @@ static bool play_request(struct player *p, struct numbers n) {
         put_number(holidays, k, n.at[5 + k]);
     petlumas_request(p->buffer, lent_bytes(p), holidays, 8 * count, answer, sizeof answer, n.at[0],
                      n.at[1], n.at[2], n.at[3]);
-    return print_answer(p, answer, 3);
+    return print_answer(p, answer, sizeof answer / 8);
 }
 
 static bool play_withdraw(struct player *p, struct numbers n) {
-    uint8_t answer[8];
+    uint8_t answer[PETLUMAS_WITHDRAW_ANSWER_BYTES];
     petlumas_withdraw(p->buffer, lent_bytes(p), answer, sizeof answer, n.at[0], n.at[1]);
-    return print_answer(p, answer, 1);
+    return print_answer(p, answer, sizeof answer / 8);
 }
 
 static bool play_account(struct player *p, struct numbers n) {
-    uint8_t answer[16];
+    uint8_t answer[PETLUMAS_ACCOUNT_ANSWER_BYTES];
     petlumas_account(p->buffer, lent_bytes(p), answer, sizeof answer, n.at[0], n.at[1], n.at[2]);
-    return print_answer(p, answer, 2);
+    return print_answer(p, answer, sizeof answer / 8);
 }
 
 static bool play_allocate(struct player *p, struct numbers n) {
-    uint8_t answer[144];
+    uint8_t answer[PETLUMAS_ALLOCATE_ANSWER_BYTES];
     uint8_t table[8 * SHARES_MOST];
     for (size_t k = 0; k < p->shares; k++)
         put_number(table, k, -7); /* shows what is left alone */
     petlumas_allocate(p->buffer, lent_bytes(p), answer, sizeof answer, table, 8 * p->shares,
                       n.at[0], n.at[1], n.at[2], n.at[3], n.at[4], n.at[5]);
-    print_numbers(p->out, answer, 18);
+    print_numbers(p->out, answer, sizeof answer / 8);
     if (p->shares > 0)
         putc(' ', p->out);
     return print_answer(p, table, p->shares);
 }
 
 static bool play_date(struct player *p, struct numbers n) {
-    uint8_t answer[16];
+    uint8_t answer[PETLUMAS_DATE_ANSWER_BYTES];
     petlumas_date(answer, sizeof answer, n.at[0], n.at[1], n.at[2]);
-    return print_answer(p, answer, 2);
+    return print_answer(p, answer, sizeof answer / 8);
 }
 
 /* ---- lines that look at the buffer */
 
 /* An account with good numbers is refused only where the register is short or unsound. */
 static bool is_sound(const struct player *p) {
-    uint8_t answer[16];
+    uint8_t answer[PETLUMAS_ACCOUNT_ANSWER_BYTES];
     return petlumas_account(p->buffer, lent_bytes(p), answer, sizeof answer, 1, 0, 0) == 0;
 }
 

@@ -3,14 +3,12 @@
 #define HUB_PLAYER_H
 
 #include "line.h"
+#include "words.h"
 
 enum {
-    REGISTER_NUMBERS = 7688,
     PAST_NUMBERS = 16, /* stand behind the register; no call may touch them */
     BUFFER_NUMBERS = REGISTER_NUMBERS + PAST_NUMBERS,
     BUFFER_BYTES = 8 * BUFFER_NUMBERS,
-    POINT_NUMBERS = 240,
-    POINTS_START = 8,
     SHARES_MOST = 64,   /* numbers of the longest answer table */
     REPLY_BYTES = 4096, /* the longest answer or answer table of a hub line */
 };
