@@ -222,42 +222,40 @@ static void make_empty(struct both *both) {
 
 /* ---- times */
 
-/* A call to time; what it gives is added up, so that no call can be left out. */
-typedef int64_t timed(struct both *both, const int64_t *args);
+/* A call to time. Both sides are compiled apart, so no call can be left out. */
+typedef void timed(struct both *both, const int64_t *args);
 
-static int64_t time_library_energy(struct both *both, const int64_t *args) {
+static void time_library_energy(struct both *both, const int64_t *args) {
     uint8_t answer[PETLUMAS_ENERGY_ANSWER_BYTES];
-    return library_energy(both->bytes, answer, args);
+    library_energy(both->bytes, answer, args);
 }
 
-static int64_t time_c_energy(struct both *both, const int64_t *args) {
-    return c_energy(both->table, args).refusal;
+static void time_c_energy(struct both *both, const int64_t *args) {
+    c_energy(both->table, args);
 }
 
-static int64_t time_library_account(struct both *both, const int64_t *args) {
+static void time_library_account(struct both *both, const int64_t *args) {
     uint8_t answer[PETLUMAS_ACCOUNT_ANSWER_BYTES];
     library_account(both->bytes, answer, args);
-    return get_number(answer, 1);
 }
 
-static int64_t time_c_account(struct both *both, const int64_t *args) {
-    return c_account(both->table, args).sum;
+static void time_c_account(struct both *both, const int64_t *args) {
+    c_account(both->table, args);
 }
 
-static int64_t time_c_account_by_days(struct both *both, const int64_t *args) {
-    return c_account_by_days(both->table, args).sum;
+static void time_c_account_by_days(struct both *both, const int64_t *args) {
+    c_account_by_days(both->table, args);
 }
 
-static int64_t time_library_allocate(struct both *both, const int64_t *args) {
+static void time_library_allocate(struct both *both, const int64_t *args) {
     uint8_t answer[PETLUMAS_ALLOCATE_ANSWER_BYTES];
     uint8_t shares[PETLUMAS_ALLOCATE_TABLE_BYTES];
     library_allocate(both->bytes, answer, shares, args);
-    return get_number(answer, 1);
 }
 
-static int64_t time_c_allocate(struct both *both, const int64_t *args) {
+static void time_c_allocate(struct both *both, const int64_t *args) {
     int64_t shares[POINTS];
-    return c_allocate(both->table, shares, args).nsl;
+    c_allocate(both->table, shares, args);
 }
 
 /* Processor time, so that other programs count for little. */
@@ -272,14 +270,10 @@ static double now(void) {
 
 /* Microseconds a call over one batch. */
 static double time_batch(timed *call, struct both *both, const int64_t *args, int calls) {
-    static volatile int64_t sink;
-    int64_t sum = 0;
     double start = now();
     for (int k = 0; k < calls; k++)
-        sum ^= call(both, args);
-    double end = now();
-    sink ^= sum;
-    return (end - start) / calls;
+        call(both, args);
+    return (now() - start) / calls;
 }
 
 struct pair {

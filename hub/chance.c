@@ -142,9 +142,10 @@ void choose_withdraw(struct chance *c, int64_t *args) {
 }
 
 void choose_account(struct chance *c, int64_t *args) {
+    int64_t from = between(c, 0, 3000);
     args[0] = choose_user(c);
-    args[1] = mostly(c, between(c, 0, 3000));
-    args[2] = mostly(c, between(c, 0, 3000));
+    args[1] = mostly(c, from);
+    args[2] = mostly(c, from + between(c, -100, 3000));
 }
 
 void choose_allocate(struct chance *c, int64_t *args) {
