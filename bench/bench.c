@@ -11,7 +11,7 @@
 #include <string.h>
 #include <time.h>
 
-enum { BYTES = PETLUMAS_REGISTER_BYTES, POINTS = 32, RECORDS = 48, REGISTRATIONS = 8, SPANS = 8 };
+enum { BYTES = PETLUMAS_REGISTER_BYTES, POINTS = 32, RECORDS = 48, REGISTRATIONS = 8 };
 
 struct both {
     uint8_t bytes[BYTES];
@@ -179,8 +179,9 @@ static void must_enter(int64_t refusal, const char *what) {
     exit(1);
 }
 
-/* A point's rows, all of them full: every sixth record is followed by a day off and ends a User. */
-static void fill_point(uint8_t *reg, int64_t mirn, int64_t kind, int64_t days) {
+/* A point with all its records and registrations: every sixth record ends a User's days, and a day
+   off follows it if there are spans. */
+static void fill_point(uint8_t *reg, int64_t mirn, int64_t kind, int64_t days, bool spans) {
     uint8_t answer[PETLUMAS_ENERGY_ANSWER_BYTES];
     uint8_t none[1] = {0};
     int64_t day = mirn % 7;
@@ -197,7 +198,7 @@ static void fill_point(uint8_t *reg, int64_t mirn, int64_t kind, int64_t days) {
                                    1000 * mirn + 37 * k - 5000, 0, 1),
                    "record");
         day = end + 1;
-        if (k % 6 == 5 && row <= SPANS) {
+        if (k % 6 == 5 && spans) {
             must_enter(petlumas_status(reg, BYTES, answer, sizeof answer, mirn, day, 0), "off");
             must_enter(petlumas_status(reg, BYTES, answer, sizeof answer, mirn, day + 1, 1), "on");
             day++;
@@ -206,11 +207,11 @@ static void fill_point(uint8_t *reg, int64_t mirn, int64_t kind, int64_t days) {
 }
 
 /* Every eighth point is daily, the others have records over nearly all days. */
-static void make_full(struct both *both) {
+static void make_full(struct both *both, bool spans) {
     uint8_t answer[PETLUMAS_FRESH_ANSWER_BYTES];
     must_enter(petlumas_fresh(both->bytes, BYTES, answer, sizeof answer, -1, -1), "start");
     for (int64_t mirn = 1; mirn <= POINTS; mirn++)
-        fill_point(both->bytes, mirn, mirn % 8 == 0, mirn % 8 == 0 ? 1 : 832);
+        fill_point(both->bytes, mirn, mirn % 8 == 0, mirn % 8 == 0 ? 1 : 832, spans);
     decode(both->bytes, both->table);
 }
 
@@ -316,7 +317,7 @@ static void time_against_c(const char *which, struct both *both) {
     putchar('\n');
 }
 
-static void time_days(struct both *both) {
+static void time_days(const char *which, struct both *both) {
     const int64_t all_days[ARGS_MOST] = {1, 0, 39999};
     const int64_t one_day[ARGS_MOST] = {1, 20000, 20000};
     const int64_t window[ARGS_MOST] = {1, 19600, 19999};
@@ -327,27 +328,30 @@ static void time_days(struct both *both) {
         time_pair(time_library_account, all_days, time_library_account, one_day, both, 200);
     struct pair three =
         time_pair(time_library_allocate, allocate, time_library_account, window, both, 200);
-    puts("library, full register");
-    printf("  account, all days: %.2f, a C loop over the days: %.2f, %.0f times as fast\n",
+    puts(which);
+    printf("  library's account of all days %.2f, a C loop over the days %.2f, %.0f times\n",
            walk.first, walk.second, walk.second / walk.first);
-    printf("  account, all days: %.2f, one day: %.2f, ratio %.2f\n", span.first, span.second,
-           span.first / span.second);
-    printf("  allocate, 400 days: %.2f, three accounts of them: %.2f, ratio %.2f\n", three.first,
-           3 * three.second, three.first / (3 * three.second));
+    printf("  library's account of all days %.2f, of one day %.2f, ratio %.2f\n", span.first,
+           span.second, span.first / span.second);
+    printf("  library's allocate over 400 days %.2f, three accounts of these %.2f, ratio %.2f\n",
+           three.first, 3 * three.second, three.first / (3 * three.second));
 }
 
 int main(int argc, char **argv) {
     static struct compared compared; /* large for a stack */
-    static struct both full, empty;
+    static struct both full, spans, empty;
     uint64_t seed = argc > 1 ? strtoull(argv[1], NULL, 10) : 20790707;
     compared.chance.random = seed != 0 ? seed : 1; /* the generator stays at 0 */
     printf("seed %" PRIu64 "\n", seed);
     compare(&compared, 60, 100);
-    make_full(&full);
+    make_full(&full, false);
+    make_full(&spans, true);
     make_empty(&empty);
     puts("microseconds a call, the least of 25 batches");
     time_against_c("full register", &full);
+    time_against_c("full register, 8 off spans a point", &spans);
     time_against_c("empty register", &empty);
-    time_days(&full);
+    time_days("full register", &full);
+    time_days("full register, 8 off spans a point", &spans);
     return 0;
 }
