@@ -6,7 +6,7 @@ LIB := target/lib/libpetlumas.a
 PC := target/lib/petlumas.pc
 SOURCES := crates.txt $(shell find crates -name '*.rt' -o -name '*.antt')
 
-.PHONY: lib install test-c test-c-plain test-c-sanitized test-c-valgrind bench
+.PHONY: lib install test-c test-c-plain test-c-example test-c-sanitized test-c-valgrind bench
 
 lib: $(LIB)
 
@@ -37,11 +37,15 @@ BENCH_SOURCES := bench/bench.c bench/plain.c hub/chance.c hub/words.c
 HEADERS := include/petlumas.h $(wildcard hub/*.h bench/*.h)
 BUILD_C = mkdir -p $(@D) && $(CC) $(STRICT) $(CFLAGS) $(filter %.c,$^) $(LIB) -o $@
 
-test-c: test-c-plain test-c-sanitized test-c-valgrind
+test-c: test-c-plain test-c-example test-c-sanitized test-c-valgrind
 
 test-c-plain: target/c/hub target/c/damage
 	hub/test.sh target/c/hub $(JOURNALS)
 	target/c/damage $(CASES)
+
+# The example of a guide compiles and prints what its comment says.
+test-c-example: target/c/example
+	test "$$(target/c/example)" = '0 6'
 
 # Only the C program is instrumented: what the library does outside a buffer is for valgrind and damage.c's pages.
 test-c-sanitized: target/c/hub-sanitized target/c/damage-sanitized
@@ -61,6 +65,13 @@ target/c/hub: $(HUB_SOURCES) $(HEADERS) $(LIB)
 
 target/c/damage: $(DAMAGE_SOURCES) $(HEADERS) $(LIB)
 	$(BUILD_C)
+
+target/c/example: target/c/example.c include/petlumas.h $(LIB)
+	$(BUILD_C)
+
+target/c/example.c: hub/README.md
+	mkdir -p $(@D)
+	sed -n '/^```c$$/,/^```$$/{/^```/!p}' $< > $@
 
 target/c/bench: $(BENCH_SOURCES) $(HEADERS) $(LIB)
 	$(BUILD_C)
