@@ -142,17 +142,18 @@ void choose_withdraw(struct chance *c, int64_t *args) {
 }
 
 void choose_account(struct chance *c, int64_t *args) {
-    int64_t from = between(c, 0, 3000);
+    int64_t from = between(c, 0, 600);
     args[0] = choose_user(c);
     args[1] = mostly(c, from);
-    args[2] = mostly(c, from + between(c, -100, 3000));
+    args[2] = mostly(c, from + between(c, -100, 1000));
 }
 
 void choose_allocate(struct chance *c, int64_t *args) {
-    int64_t gasday = between(c, 0, 3000);
+    int64_t gasday = between(c, 1, one_in(c, 2) ? 130 : 1200);
+    int64_t to = between(c, gasday > 100 ? gasday - 100 : 0, gasday - 1);
     args[0] = mostly(c, gasday);
-    args[1] = mostly(c, gasday - between(c, 1, 400));
-    args[2] = mostly(c, gasday - 1);
+    args[1] = mostly(c, between(c, to > 400 ? to - 400 : 0, to));
+    args[2] = mostly(c, to);
     args[3] = mostly(c, between(c, 0, 1000000000));
     args[4] = mostly(c, between(c, -1000000, 1000000));
     args[5] = mostly(c, between(c, -1000000, 1000000));
