@@ -194,7 +194,7 @@ static void feed(struct chance *c, uint64_t ways) {
     uint8_t none[1] = {0};
     int64_t a[ARGS_MOST];
     uint64_t way = below(c, ways);
-    if (way < 12) {
+    if (way < 9) {
         choose_energy_notice(c, a);
         petlumas_energy(c->reg, PETLUMAS_REGISTER_BYTES, answer, sizeof answer, a[0], a[1], a[2],
                         a[3], a[4], 1);
