@@ -1,10 +1,12 @@
 -- The calls on bytes, 8 a number, little endian. A buffer may be longer than its numbers; the bytes past them stay.
 use mathlib.Core.Bool.{cond}
-use mathlib.Core.List.{List}
+use mathlib.Core.List.{List, map}
 use Prim.Native.Nat.{ℕ, _*_, _/_}
 use lib.Dec.{leb}
 use lib.IntN.{ℤ, pos}
 use lib.ListN.{length, getD, replicate}
+use mir.Syntax.{w64}
+use mir.Val.{ofZ}
 use Rattle.numbers.specs.Naturals.{sameZ}
 use Rattle.words.specs.Tables.{decodedInto, encodedInto}
 use Rattle.daybook.specs.Notices.{Numbers}
@@ -17,6 +19,10 @@ numbersIn b n = decodedInto (replicate n (pos 0)) 0 b 0 n
 -- b with these numbers from its first byte on.
 unfoldable pub withNumbers : List ℤ → List ℕ → List ℕ
 withNumbers xs b = encodedInto b 0 xs 0 (length xs)
+
+-- The 64 bits of each number, in two's complement.
+abbrev pub bitsOf : List ℤ → List ℕ
+bitsOf xs = map (ofZ w64) xs
 
 -- A register's table: none of its numbers, so that it gets 1, where its bytes are too few.
 unfoldable pub tableIn : List ℕ → List ℤ

@@ -6,9 +6,11 @@ ghost use Prim.Native.Nat.{_*_, _/_, _≤_, min};
 ghost use lib.IntN.{pos};
 ghost use lib.ListN.{length, getD};
 ghost use Rattle.calendar.specs.Calendar.{dateNumbers};
-ghost use Rattle.daybook.specs.Calls.{noticeNumbers, energyNumbers, requestNumbers};
-ghost use Rattle.buffers.specs.Buffers.{numbersIn, withNumbers, tableIn, replied, written};
+ghost use Rattle.daybook.specs.Calls.{noticeNumbers, energyNumbers, requestNumbers, accountNumbers, allocationNumbers};
+ghost use Rattle.buffers.specs.Buffers.{numbersIn, withNumbers, bitsOf, tableIn, replied, written};
 use calendar::DateAnswer;
+use daybook::AccountAnswer;
+use daybook::AllocationAnswer;
 use daybook::EnergyAnswer;
 use daybook::NoticeAnswer;
 use daybook::RequestAnswer;
@@ -45,7 +47,7 @@ pub fn holidays_in<'a, 'b>(holidays: &'a [u8], t: &'b mut [i64]) -> &'b mut [i64
     numbers_in(holidays, t, n)
 }
 
-// Numbers from the first byte on.
+// Writes numbers, given as their bits, from the first byte on.
 fn put_numbers(b: &mut [u8], numbers: &[u64])
     requires { ⌜ 8 * length (now numbers) ≤ length (now b) ⌝ }
     ensures { λ _. ⌜ now (b .exit) ≡ withNumbers (map pos (now (numbers .entry))) (now (b .entry)) ⌝ }
@@ -86,9 +88,9 @@ pub fn finish(buffer: &mut [u8], answer: &mut [u8], t: &[i64], numbers: &[u64]) 
     0
 }
 
-// The numbers of an answer: the refusal, then the fields.
+// The numbers of an answer, as their bits: the refusal, then the fields.
 pub fn notice_numbers(a: NoticeAnswer) -> [u64; 1]
-    ensures { λ r. ⌜ map pos r ≡ noticeNumbers a ⌝ }
+    ensures { λ r. ⌜ r ≡ bitsOf (noticeNumbers a) ⌝ }
 {
     match a {
         NoticeAnswer::Entered => [0],
@@ -97,7 +99,7 @@ pub fn notice_numbers(a: NoticeAnswer) -> [u64; 1]
 }
 
 pub fn energy_numbers(a: EnergyAnswer) -> [u64; 5]
-    ensures { λ r. ⌜ map pos r ≡ energyNumbers a ⌝ }
+    ensures { λ r. ⌜ r ≡ bitsOf (energyNumbers a) ⌝ }
 {
     match a {
         EnergyAnswer::Entered {
@@ -111,7 +113,7 @@ pub fn energy_numbers(a: EnergyAnswer) -> [u64; 5]
 }
 
 pub fn request_numbers(a: RequestAnswer) -> [u64; 3]
-    ensures { λ r. ⌜ map pos r ≡ requestNumbers a ⌝ }
+    ensures { λ r. ⌜ r ≡ bitsOf (requestNumbers a) ⌝ }
 {
     match a {
         RequestAnswer::Entered { first, last } => [0, first.0, last.0],
@@ -120,10 +122,35 @@ pub fn request_numbers(a: RequestAnswer) -> [u64; 3]
 }
 
 pub fn date_numbers(a: DateAnswer) -> [u64; 2]
-    ensures { λ r. ⌜ map pos r ≡ dateNumbers a ⌝ }
+    ensures { λ r. ⌜ r ≡ bitsOf (dateNumbers a) ⌝ }
 {
     match a {
         DateAnswer::OnDay(d) => [0, d.0],
         DateAnswer::Refused(r) => [r, 0],
     }
+}
+
+pub fn account_numbers(a: AccountAnswer) -> [u64; 2]
+    ensures { λ r. ⌜ r ≡ bitsOf (accountNumbers a) ⌝ }
+{
+    match a {
+        AccountAnswer::Given(sum) => [0, words::bits(sum)],
+        AccountAnswer::Refused(r) => [r, 0],
+    }
+}
+
+pub fn allocation_numbers(a: AllocationAnswer) -> [u64; 18]
+    ensures { λ r. ⌜ r ≡ bitsOf (allocationNumbers a) ⌝ }
+{
+    let nsl = a.nsl;
+    let totals = a.totals;
+    let mut numbers = [0u64; 18];
+    numbers[0] = a.refusal;
+    numbers[1] = words::bits(nsl);
+    let mut k = 0;
+    while k < 16 {
+        numbers[2 + k] = words::bits(totals[k]);
+        k += 1;
+    }
+    numbers
 }

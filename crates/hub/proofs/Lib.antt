@@ -1,4 +1,3 @@
 -- Laws that the proofs of the functions cite.
 mod Refusals
 mod Holidays
-mod Ends

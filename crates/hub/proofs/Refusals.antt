@@ -7,7 +7,7 @@ use Prim.Native.Nat.{ℕ, zero, suc, _≤_}
 use native.Mathlib.Omega.{arith}
 use lib.Dec.{leb}
 use lib.IntN.{ℤ, pos}
-use lib.ListN.{length, getD, replicate}
+use lib.ListN.{length, replicate}
 use borrow.Author.Tests.{leb-true}
 use Rattle.numbers.specs.Naturals.{natOf}
 use Rattle.numbers.specs.Search.{maybe}
@@ -28,9 +28,7 @@ use Rattle.opening.specs.Opening.{freshCall, openCall}
 use Rattle.energy.specs.Energy.{energyCall}
 use Rattle.status.specs.Status.{statusCall}
 use Rattle.transfer.specs.Transfer.{requestCall, withdrawCall}
-
-abbrev pub refusalOf : Numbers → ℕ
-refusalOf ns = natOf (getD ns 0 (pos 0))
+use Rattle.buffers.proofs.Ends.{refusalOf}
 
 -- Every number of the rows is at most 16. On rows with written numbers this computes.
 unfoldable small : List Row → Bool

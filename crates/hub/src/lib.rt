@@ -1,5 +1,5 @@
 // The register for C. Each function decodes the register's bytes into a table of its own, runs the proved call on that
-// and encodes what it gives; no input is excluded.
+// and encodes what it gives; no input is excluded. include/petlumas.h says the same in C's words.
 ghost use mathlib.Core.Path.{_≡_};
 ghost use Rattle.calendar.specs.Calendar.{dateCall};
 ghost use Rattle.opening.specs.Opening.{freshCall, openCall};

@@ -34,7 +34,7 @@ fn signed(n: u64) -> i64
 }
 
 // The bits of a signed number.
-fn bits(x: i64) -> u64
+pub fn bits(x: i64) -> u64
     ensures { λ r. ⌜ r ≡ ofZ w64 x ⌝ }
 {
     if x >= 0 {

@@ -1,4 +1,5 @@
-use mathlib.Core.Path.{_∙_}
+use native.Mathlib.Omega.{arith}
+use mathlib.Core.Path.{_≡_, _∙_}
 use mir.Facts.{toZ-ofZ}
 use borrow.Author.Needs.{needs}
 use Rattle.buffers.proofs.Bytes.{written-none, written-all}
@@ -17,7 +18,7 @@ same-length c = search needs
 returns : tie.Need-returns
 returns c =
     let p = c .before .before .before .before in
-    written-none _ _ _ _ _ (p .reply .ensures .0) (c .before .if1 .taken) _ (toZ-ofZ (search needs) ∙ c .integer .ensures)
+    written-none _ _ _ _ (p .reply .result) (p .reply .ensures .0) (λ (z : p .reply .result ≡ 0). omega arith) _ (toZ-ofZ (search needs) ∙ c .integer .ensures)
 
 encode-requires : tie.Need-encode-requires
 encode-requires c κs = search needs
@@ -32,7 +33,7 @@ returns-2 : tie.Need-returns-2
 returns-2 c =
     let e = c .before .before in
     let p = e .before .before .before .before .before in
-    written-all _ _ _ _ _ (p .reply .ensures .0) (e .before .before .if1 .left) _ (e .encode .ensures)
+    written-all _ _ _ _ (p .reply .result) (p .reply .ensures .0) (omega arith) _ (e .encode .ensures)
 
 pub finish-spec : {M : Type 1} → statement M
 finish-spec =

@@ -1,4 +1,5 @@
 use mathlib.Core.Path.{_∙_}
+use native.Mathlib.Omega.{arith}
 use borrow.Author.Needs.{needs}
 use Rattle.buffers.proofs.Bytes.{table-short, table-long}
 use Rattle.buffers.proofs.table_in.Statement.{statement}
@@ -8,13 +9,13 @@ numbers-in-requires : tie.Need-numbers-in-requires
 numbers-in-requires c κs = search needs
 
 returns : tie.Need-returns
-returns c = (c .numbers-in .ensures .0 ∙ table-short _ (c .before .if1 .taken), search needs)
+returns c = (c .numbers-in .ensures .0 ∙ table-short (c .before .before .before .args .register .now) (omega arith), search needs)
 
 numbers-in-requires-2 : tie.Need-numbers-in-requires-2
 numbers-in-requires-2 c κs = search needs
 
 returns-2 : tie.Need-returns-2
-returns-2 c = (c .numbers-in2 .ensures .0 ∙ table-long _ (c .before .if1 .left), search needs)
+returns-2 c = (c .numbers-in2 .ensures .0 ∙ table-long (c .before .before .before .args .register .now) (omega arith), search needs)
 
 pub table-in-spec : {M : Type 1} → statement M
 table-in-spec =

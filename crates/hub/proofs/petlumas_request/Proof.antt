@@ -1,14 +1,14 @@
-use mathlib.Core.Path.{_≡_, _∙_}
-use mathlib.Core.List.{List, map}
-use lib.IntN.{ℤ, pos}
+use mathlib.Core.Path.{_≡_, ap, _∙_}
+use mathlib.Core.List.{List}
+use lib.IntN.{ℤ}
 use mir.Facts.{toZ-ofZ}
 use borrow.Author.Needs.{needs}
 use Rattle.daybook.specs.Notices.{Numbers}
 use Rattle.transfer.specs.Transfer.{requestCall}
-use Rattle.buffers.specs.Buffers.{tableIn, holidaysIn}
+use Rattle.buffers.specs.Buffers.{bitsOf, tableIn, holidaysIn}
+use Rattle.buffers.proofs.Ends.{first-small, ended}
 use Rattle.hub.proofs.Refusals.{request-small}
 use Rattle.hub.proofs.Holidays.{first-513}
-use Rattle.hub.proofs.Ends.{first-small, ended}
 use Rattle.hub.proofs.petlumas_request.Statement.{statement}
 use Rattle.hub.proofs.petlumas_request.Tie as tie
 
@@ -24,15 +24,13 @@ given s =
 
 -- the answer's numbers and the table, with each number of the notice read back from its bits
 gave : (c : tie.After-request-numbers)
-    → (map pos (c .request-numbers .result) ≡ given (start c) .0) × (c .before .before .before .request .last .0 ≡ given (start c) .1)
+    → (c .request-numbers .result ≡ bitsOf (given (start c) .0)) × (c .before .before .before .request .last .0 ≡ given (start c) .1)
 gave c =
     let f = start c .fits in
     let r = c .before .before .before in
     let h = r .before .before .before in
-    let e =
-    rw (toZ-ofZ (f .mirn), toZ-ofZ (f .user), toZ-ofZ (f .proposed), toZ-ofZ (f .nochange), h .before .before .table-in .ensures .0, h .holidays-in .ensures, first-513)
-    at (r .request .ensures) in
-    (c .request-numbers .ensures ∙ e .0, e .1)
+    let e = rw (toZ-ofZ (f .mirn), toZ-ofZ (f .user), toZ-ofZ (f .proposed), toZ-ofZ (f .nochange), h .before .before .table-in .ensures .0, h .holidays-in .ensures, first-513) at (r .request .ensures) in
+    (c .request-numbers .ensures ∙ ap bitsOf (e .0), e .1)
 
 slice-aggregate-table-in : tie.Need-slice-aggregate-table-in
 slice-aggregate-table-in c = search needs
@@ -70,7 +68,7 @@ returns : tie.Need-returns
 returns c =
     let f = c .before .before .before .before .before in
     let e = f .before .before .before .before .before in
-    ended (e .request-numbers .result) _ (given (start e)) (gave e .0) (gave e .1) _ (search needs) _ _ _ _ (f .finish .ensures)
+    ended (e .request-numbers .result) (given (start e) .0) (gave e .0) (request-small _ _ _) _ _ (gave e .1) _ (search needs) _ _ _ _ (f .finish .ensures)
 
 pub petlumas-request-spec : {M : Type 1} → statement M
 petlumas-request-spec =

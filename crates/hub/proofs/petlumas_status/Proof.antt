@@ -1,13 +1,13 @@
-use mathlib.Core.Path.{_≡_, _∙_}
-use mathlib.Core.List.{List, map}
-use lib.IntN.{ℤ, pos}
+use mathlib.Core.Path.{_≡_, ap, _∙_}
+use mathlib.Core.List.{List}
+use lib.IntN.{ℤ}
 use mir.Facts.{toZ-ofZ}
 use borrow.Author.Needs.{needs}
 use Rattle.daybook.specs.Notices.{Numbers}
 use Rattle.status.specs.Status.{statusCall}
-use Rattle.buffers.specs.Buffers.{tableIn}
+use Rattle.buffers.specs.Buffers.{bitsOf, tableIn}
+use Rattle.buffers.proofs.Ends.{first-small, ended}
 use Rattle.hub.proofs.Refusals.{status-small}
-use Rattle.hub.proofs.Ends.{first-small, ended}
 use Rattle.hub.proofs.petlumas_status.Statement.{statement}
 use Rattle.hub.proofs.petlumas_status.Tie as tie
 
@@ -23,13 +23,11 @@ given s =
 
 -- the answer's numbers and the table, with each number of the notice read back from its bits
 gave : (c : tie.After-notice-numbers)
-    → (map pos (c .notice-numbers .result) ≡ given (start c) .0) × (c .before .before .status .last .0 ≡ given (start c) .1)
+    → (c .notice-numbers .result ≡ bitsOf (given (start c) .0)) × (c .before .before .status .last .0 ≡ given (start c) .1)
 gave c =
     let f = start c .fits in
-    let e =
-    rw (toZ-ofZ (f .mirn), toZ-ofZ (f .day), toZ-ofZ (f .on), c .before .before .before .before .table-in .ensures .0)
-    at (c .before .before .status .ensures) in
-    (c .notice-numbers .ensures ∙ e .0, e .1)
+    let e = rw (toZ-ofZ (f .mirn), toZ-ofZ (f .day), toZ-ofZ (f .on), c .before .before .before .before .table-in .ensures .0) at (c .before .before .status .ensures) in
+    (c .notice-numbers .ensures ∙ ap bitsOf (e .0), e .1)
 
 slice-aggregate-table-in : tie.Need-slice-aggregate-table-in
 slice-aggregate-table-in c = search needs
@@ -61,7 +59,7 @@ returns : tie.Need-returns
 returns c =
     let f = c .before .before .before .before .before in
     let e = f .before .before .before .before .before in
-    ended (e .notice-numbers .result) _ (given (start e)) (gave e .0) (gave e .1) _ (search needs) _ _ _ _ (f .finish .ensures)
+    ended (e .notice-numbers .result) (given (start e) .0) (gave e .0) (status-small _ _) _ _ (gave e .1) _ (search needs) _ _ _ _ (f .finish .ensures)
 
 pub petlumas-status-spec : {M : Type 1} → statement M
 petlumas-status-spec =
