@@ -1,2 +1,3 @@
 -- What a User's account is told.
 pub mod Account
+pub mod Registrations

@@ -1,1 +1,121 @@
-// No code yet: what account answers.
+// account: what the shares of a User's days add up to over a period. No days are walked: a point's registrations cut
+// the period into spans with one FRO each, and a span's energy is read at once. A sum is raised, so that it is natural.
+use daybook::AccountAnswer;
+use daybook::AccountQuery;
+ghost use mathlib.Core.Path.{_≡_};
+ghost use mathlib.Core.Bool.{true, _&&_};
+ghost use Prim.Native.Nat.{_-_, _<_, _≤_};
+ghost use lib.IntN.{subℕ};
+ghost use lib.Signed.{leZ};
+ghost use Rattle.numbers.specs.Sums.{sumFrom};
+ghost use Rattle.calendar.specs.Calendar.{isDay};
+ghost use Rattle.daybook.specs.Book.{dayShare};
+ghost use Rattle.daybook.specs.Calls.{accountNumbers};
+ghost use Rattle.daybook.specs.Notices.{isUser};
+ghost use Rattle.daybook.specs.Queries.{ownShare, accountOf};
+ghost use Rattle.layout.specs.Layout.{standard, numAt, tableBook};
+ghost use Rattle.layout.specs.Sound.{sound};
+ghost use Rattle.readings.specs.Readings.{pointAt, Readable};
+ghost use Rattle.account.specs.Account.{accountCall};
+ghost use Rattle.account.specs.Registrations.{movedInto, startIn, ownIn};
+
+// Row 2.
+fn in_range(n: AccountQuery) -> bool
+    ensures { λ r. ⌜ r ≡ (isUser (n .user) && isDay (n .from) && isDay (n .to) && leZ (n .from) (n .to)) ⌝ }
+{
+    let user = n.user;
+    let from = n.from;
+    let to = n.to;
+    let u = numbers::natural(user);
+    let a = numbers::natural(from);
+    let b = numbers::natural(to);
+    ((1 <= u) & (u <= 16)) & (a <= 39999) & (b <= 39999) & (a <= b)
+}
+
+// Day d, moved into a to b.
+fn moved_into(a: u64, b: u64, d: u64) -> u64
+    requires { ⌜ a ≤ b ⌝ }
+    ensures { λ r. ⌜ r ≡ movedInto a b d ⌝ }
+{
+    if d < a {
+        return a;
+    }
+    if b < d {
+        return b;
+    }
+    d
+}
+
+// The day on which registration j starts, moved into x to y; y if there is no such registration.
+fn start_in(p: &[i64], j: usize, x: u64, y: u64) -> u64
+    requires { ⌜ Readable (now p) × (x ≤ y) ⌝ }
+    ensures { λ r. ⌜ r ≡ startIn (now (p .entry)) x y j ⌝ }
+{
+    let n = numbers::get(p, 4) as usize;
+    if n <= j {
+        return y;
+    }
+    moved_into(x, y, numbers::get(p, 16 + 2 * j))
+}
+
+// The energy of registration j's days of x to y - 1 if it is the User's, raised by 2,000,000,000.
+fn registration_energy(p: &[i64], j: usize, user: u64, x: u64, y: u64) -> u64
+    requires { ⌜ Readable (now p) × (j < numAt (now p) 4) × (x ≤ y) ⌝ }
+    ensures { λ r. ⌜ (subℕ r 2000000000 ≡ ownIn (dayShare (pointAt (now (p .entry)))) user (now (p .entry)) x y j) × (r ≤ 4000000000) ⌝ }
+{
+    if numbers::get(p, 16 + 2 * j + 1) != user {
+        return 2000000000;
+    }
+    let start = start_in(p, j, x, y);
+    let next = start_in(p, j + 1, x, y);
+    readings::energy_between(p, start, next)
+}
+
+// The energy of the User's days of x to y - 1 at one point, raised by 16,000,000,000.
+fn point_energy(p: &[i64], user: u64, x: u64, y: u64) -> u64
+    requires { ⌜ Readable (now p) × (1 ≤ user) × (x ≤ y) ⌝ }
+    ensures { λ r. ⌜ (subℕ r 16000000000 ≡ sumFrom (ownShare user (pointAt (now (p .entry)))) x (y - x)) × (r ≤ 32000000000) ⌝ }
+{
+    let n = numbers::get(p, 4);
+    let mut sum: u64 = 0;
+    let mut j: u64 = 0;
+    while j < n {
+        sum += registration_energy(p, j as usize, user, x, y);
+        j += 1;
+    }
+    sum + 16000000000 - 2000000000 * n
+}
+
+// The energy of the User's days of a to b at all points.
+fn table_energy(t: &[i64], user: u64, a: u64, b: u64) -> i64
+    requires { ⌜ (sound standard (now t) ≡ true) × (1 ≤ user) × (a ≤ b) × (b ≤ 39999) ⌝ }
+    ensures { λ r. ⌜ r ≡ accountOf user a b (tableBook standard (now (t .entry))) ⌝ }
+{
+    let n = numbers::get(t, 0);
+    let mut sum: u64 = 0;
+    let mut i: u64 = 0;
+    while i < n {
+        sum += point_energy(table::part(t, i as usize), user, a, b + 1);
+        i += 1;
+    }
+    numbers::difference(sum, 16000000000 * n)
+}
+
+// On any table and any numbers.
+pub fn account(t: &[i64], n: AccountQuery) -> AccountAnswer
+    ensures { λ r. ⌜ accountNumbers r ≡ accountCall (now (t .entry)) n ⌝ }
+{
+    if !table::sound(t) {
+        return AccountAnswer::Refused(1);
+    }
+    if !in_range(n) {
+        return AccountAnswer::Refused(2);
+    }
+    let user = n.user;
+    let from = n.from;
+    let to = n.to;
+    let u = numbers::natural(user);
+    let a = numbers::natural(from);
+    let b = numbers::natural(to);
+    AccountAnswer::Given(table_energy(t, u, a, b))
+}

@@ -1,13 +1,18 @@
 -- What the functions behind allocate say: of arrays of 32, a place for each point and 0 past the last one.
-use mathlib.Core.Bool.{cond}
-use mathlib.Core.List.{List, _++_}
+use mathlib.Core.Path.{_≡_}
+use mathlib.Core.Bool.{true, cond}
+use mathlib.Core.List.{List, _∷_, _++_, map}
 use Prim.Native.Nat.{ℕ, zero, suc, _+_, _-_, _≤_, _<_}
 use lib.Dec.{eqb}
 use lib.IntN.{ℤ, pos, subℕ, _-ℤ_}
 use lib.ListN.{length, getD, replicate}
 use Rattle.daybook.specs.declared.AllocationQuery.{AllocationQuery}
-use Rattle.daybook.specs.Book.{Point}
+use Rattle.numbers.specs.Naturals.{natOf}
+use Rattle.daybook.specs.Book.{Point, Book}
+use Rattle.daybook.specs.Notices.{Numbers}
+use Rattle.daybook.specs.Queries.{allocationInRange, nslOf, weights, total, pointShares, totalOf, users}
 use Rattle.layout.specs.Layout.{standard, numAt, tableBook}
+use Rattle.layout.specs.Sound.{sound}
 
 abbrev pub pointsOf : List ℤ → List Point
 pointsOf t = tableBook standard t .points
@@ -31,3 +36,19 @@ Below most l = (k : ℕ) → getD l k 0 ≤ most
 
 abbrev pub SharesBelow : ℕ → List ℤ → Type 0
 SharesBelow most l = (k : ℕ) → k < 32 → numAt l k ≤ most
+
+-- What a given allocation answers, and what it gives the answer table.
+unfoldable pub givenOf : AllocationQuery → Book → Numbers × List ℤ
+givenOf q B = (
+  pos (nslOf q B) ∷ map (λ u. totalOf (natOf (q .gasday)) u (B .points) (pointShares q B)) users,
+  pointShares q B ++ replicate (32 - length (B .points)) (pos 0),
+)
+
+-- The tests before the split were passed: ws are the weights, and s is their sum.
+pub record Given (t : List ℤ) (q : AllocationQuery) (ws : List ℕ) (s room : ℕ) : Type 0 where
+  pub isSound : sound standard t ≡ true
+  pub inRange : allocationInRange q room ≡ true
+  pub weigh : ws ≡ padded (weights q (tableBook standard t))
+  pub sum : s ≡ total ws
+  pub some : 0 < s
+  pub few : s ≤ 1920320000

@@ -4,15 +4,18 @@ use daybook::AllocationAnswer;
 use daybook::AllocationQuery;
 ghost use mathlib.Core.Path.{_≡_};
 ghost use mathlib.Core.Bool.{true, cond};
-ghost use mathlib.Core.List.{map};
-ghost use Prim.Native.Nat.{_+_, _*_, _<_, _≤_};
+ghost use mathlib.Core.List.{_∷_, map};
+ghost use Prim.Native.Nat.{_*_, _<_, _≤_};
 ghost use lib.Dec.{eqb};
-ghost use lib.ListN.{length};
+ghost use lib.ListN.{length, replicate};
 ghost use lib.IntN.{pos, negsuc, subℕ};
 ghost use Rattle.calendar.specs.Calendar.{within};
-ghost use Rattle.daybook.specs.Queries.{allocationInRange, atLeast0, total as totalOfWeights, split, users};
-ghost use Rattle.allocate.specs.Allocate.{placed};
-ghost use Rattle.allocate.specs.Parts.{Below, SharesBelow, totalTo, loadOf};
+ghost use Rattle.daybook.specs.Queries.{allocationInRange, atLeast0, tdmOf, weight, total as totalOfWeights, split, users};
+ghost use Rattle.daybook.specs.Calls.{allocationNumbers};
+ghost use Rattle.layout.specs.Layout.{standard, numAt, tableBook};
+ghost use Rattle.layout.specs.Sound.{sound};
+ghost use Rattle.allocate.specs.Allocate.{allocateCall, placed};
+ghost use Rattle.allocate.specs.Parts.{pointsOf, padded, Below, SharesBelow, totalTo, loadOf, Given, givenOf};
 
 // Is this an amount of unaccounted gas or of a linepack change?
 fn load_ok(x: i64) -> bool
@@ -137,4 +140,104 @@ fn totals(us: &[u64], xs: &[i64]) -> [i64; 16]
         k += 1;
     }
     all
+}
+
+// The weights of the points, 0 past the last one.
+fn weights(t: &[i64], g: u64, a: u64, b: u64) -> [u64; 32]
+    requires { ⌜ (sound standard (now t) ≡ true) × (g ≤ 39999) × (a ≤ b) × (b ≤ 39999) ⌝ }
+    ensures { λ r. ⌜ (r ≡ padded (map (weight g a b) (pointsOf (now (t .entry))))) × Below 60010000 r ⌝ }
+{
+    let n = numbers::get(t, 0) as usize;
+    let mut ws = [0u64; 32];
+    let mut i: usize = 0;
+    while i < n {
+        ws[i] = readings::weight(table::part(t, i), g, a, b);
+        i += 1;
+    }
+    ws
+}
+
+// The FROs of the points on day g, 0 past the last one.
+fn fros(t: &[i64], g: u64) -> [u64; 32]
+    requires { ⌜ sound standard (now t) ≡ true ⌝ }
+    ensures { λ r. ⌜ r ≡ padded (map (λ p. p .fro g) (pointsOf (now (t .entry)))) ⌝ }
+{
+    let n = numbers::get(t, 0) as usize;
+    let mut us = [0u64; 32];
+    let mut i: usize = 0;
+    while i < n {
+        us[i] = readings::fro_on(table::part(t, i), g);
+        i += 1;
+    }
+    us
+}
+
+// TDM, raised by 1,000,000 for each point.
+fn metered(t: &[i64], g: u64) -> u64
+    requires { ⌜ (sound standard (now t) ≡ true) × (1 ≤ g) × (g ≤ 39999) ⌝ }
+    ensures { λ r. ⌜ (subℕ r (1000000 * numAt (now (t .entry)) 0) ≡ tdmOf g (tableBook standard (now (t .entry)))) × (r ≤ 2000000 * numAt (now (t .entry)) 0) ⌝ }
+{
+    let n = numbers::get(t, 0);
+    let mut sum: u64 = 0;
+    let mut i: u64 = 0;
+    while i < n {
+        sum += readings::metered(table::part(t, i as usize), g);
+        i += 1;
+    }
+    sum
+}
+
+// A refusal: every other field is 0.
+fn refused(row: u64) -> AllocationAnswer
+    ensures { λ r. ⌜ allocationNumbers r ≡ pos row ∷ replicate 17 (pos 0) ⌝ }
+{
+    AllocationAnswer {
+        refusal: row,
+        nsl: 0,
+        totals: [0; 16],
+    }
+}
+
+// The load apportioned to the points by their weights, and counted for their FROs.
+fn apportion(t: &[i64], q: AllocationQuery, ws: &[u64], s: u64, out: &mut [i64]) -> AllocationAnswer
+    requires { ⌜ Given (now t) q (now ws) s (length (now out)) ⌝ }
+    ensures { λ r. ⌜ (allocationNumbers r ≡ pos 0 ∷ givenOf q (tableBook standard (now (t .entry))) .0) × (now (out .exit) ≡ placed (givenOf q (tableBook standard (now (t .entry))) .1) (now (out .entry))) ⌝ }
+{
+    let gasday = q.gasday;
+    let g = numbers::natural(gasday);
+    let load = net_load(q, metered(t, g), numbers::get(t, 0));
+    split_to(ws, load, s, out);
+    let us = fros(t, g);
+    let all = totals(&us, out);
+    AllocationAnswer {
+        refusal: 0,
+        nsl: numbers::integer(load),
+        totals: all,
+    }
+}
+
+// On any table, any numbers and an answer table of any length.
+pub fn allocate(t: &[i64], q: AllocationQuery, out: &mut [i64]) -> AllocationAnswer
+    ensures { λ r. ⌜ (allocationNumbers r ≡ allocateCall (now (t .entry)) q (length (now (out .entry))) .0) × (now (out .exit) ≡ placed (allocateCall (now (t .entry)) q (length (now (out .entry))) .1) (now (out .entry))) ⌝ }
+{
+    if !table::sound(t) {
+        return refused(1);
+    }
+    if !in_range(q, out.len()) {
+        return refused(2);
+    }
+    let gasday = q.gasday;
+    let from = q.from;
+    let to = q.to;
+    let ws = weights(
+        t,
+        numbers::natural(gasday),
+        numbers::natural(from),
+        numbers::natural(to),
+    );
+    let s = sum_of(&ws);
+    if s == 0 {
+        return refused(15);
+    }
+    apportion(t, q, &ws, s, out)
 }

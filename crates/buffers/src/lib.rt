@@ -47,6 +47,18 @@ pub fn holidays_in<'a, 'b>(holidays: &'a [u8], t: &'b mut [i64]) -> &'b mut [i64
     numbers_in(holidays, t, n)
 }
 
+// Room for the numbers of an answer table, at most the 32 that an allocation writes.
+pub fn shares_in<'a, 'b>(shares: &'a [u8], t: &'b mut [i64]) -> &'b mut [i64]
+    requires { ⌜ length (now t) ≡ 32 ⌝ }
+    ensures { λ r. ⌜ (length (now r) ≡ min 32 (length (now (shares .entry)) / 8)) × (8 * length (now r) ≤ length (now (shares .entry))) ⌝ }
+{
+    let n = shares.len() / 8;
+    if 32 < n {
+        return &mut t[..32];
+    }
+    &mut t[..n]
+}
+
 // Writes numbers, given as their bits, from the first byte on.
 fn put_numbers(b: &mut [u8], numbers: &[u64])
     requires { ⌜ 8 * length (now numbers) ≤ length (now b) ⌝ }

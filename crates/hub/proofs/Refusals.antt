@@ -19,15 +19,20 @@ use Rattle.daybook.specs.declared.EnergyNotice.{EnergyNotice}
 use Rattle.daybook.specs.declared.StatusNotice.{StatusNotice}
 use Rattle.daybook.specs.declared.TransferRequest.{TransferRequest}
 use Rattle.daybook.specs.declared.Withdrawal.{Withdrawal}
+use Rattle.daybook.specs.declared.AccountQuery.{AccountQuery}
+use Rattle.daybook.specs.declared.AllocationQuery.{AllocationQuery}
 use Rattle.daybook.specs.Book.{Book, Point}
 use Rattle.daybook.specs.Notices.{Row, smaller, least, Numbers, decide, find, onPoint, freshRows, fresh, openingRows, opening, energyEarly, energyRows, energy, statusEarly, statusRows, status, requestEarly, requestRows, request, withdrawEarly, withdrawRows, withdraw}
+use Rattle.daybook.specs.Queries.{accountRows, account, allocateRows, allocate}
 use Rattle.layout.specs.Layout.{tableLength, standard, tableBook}
 use Rattle.layout.specs.Sound.{sound}
-use Rattle.layout.specs.Calls.{leaves, onTable}
+use Rattle.layout.specs.Calls.{leaves, onTable, ofTable}
 use Rattle.opening.specs.Opening.{freshCall, openCall}
 use Rattle.energy.specs.Energy.{energyCall}
 use Rattle.status.specs.Status.{statusCall}
 use Rattle.transfer.specs.Transfer.{requestCall, withdrawCall}
+use Rattle.account.specs.Account.{accountCall}
+use Rattle.allocate.specs.Allocate.{allocateCall}
 use Rattle.buffers.proofs.Ends.{refusalOf}
 
 -- Every number of the rows is at most 16. On rows with written numbers this computes.
@@ -117,4 +122,22 @@ date-small y m d = go (isDate y m d)
   where
     go : (b : Bool) → refusalOf (cond b (pos 0 ∷ pos (dayOf (natOf y) (natOf m) (natOf d)) ∷ []) (pos 2 ∷ pos 0 ∷ [])) ≤ 16
     go true = omega arith
+    go false = omega arith
+
+-- ---- the queries
+
+pub account-small : (t : List ℤ) (n : AccountQuery) → refusalOf (accountCall t n) ≤ 16
+unfolding accountCall account accountRows ofTable small
+account-small t n = go (sound standard t)
+  where
+    go : (s : Bool) → refusalOf (cond s (account n (tableBook standard t)) (pos 1 ∷ pos 0 ∷ [])) ≤ 16
+    go true = rw decided (small-least (accountRows n) refl)
+    go false = omega arith
+
+pub allocate-small : (t : List ℤ) (q : AllocationQuery) (room : ℕ) → refusalOf (allocateCall t q room .0) ≤ 16
+unfolding allocateCall allocate allocateRows ofTable small
+allocate-small t q room = go (sound standard t)
+  where
+    go : (s : Bool) → refusalOf (cond s (allocate q room (tableBook standard t)) (pos 1 ∷ replicate 17 (pos 0), []) .0) ≤ 16
+    go true = rw decided (small-least (allocateRows q room (tableBook standard t)) refl)
     go false = omega arith

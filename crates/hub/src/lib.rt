@@ -1,13 +1,19 @@
 // The register for C. Each function decodes the register's bytes into a table of its own, runs the proved call on that
 // and encodes what it gives; no input is excluded. include/petlumas.h says the same in C's words.
 ghost use mathlib.Core.Path.{_≡_};
+ghost use Prim.Native.Nat.{_/_};
+ghost use lib.ListN.{length};
 ghost use Rattle.calendar.specs.Calendar.{dateCall};
 ghost use Rattle.opening.specs.Opening.{freshCall, openCall};
 ghost use Rattle.energy.specs.Energy.{energyCall};
 ghost use Rattle.status.specs.Status.{statusCall};
 ghost use Rattle.transfer.specs.Transfer.{requestCall, withdrawCall};
+ghost use Rattle.account.specs.Account.{accountCall};
+ghost use Rattle.allocate.specs.Allocate.{allocateCall};
 ghost use Rattle.buffers.specs.Buffers.{tableIn, holidaysIn, replied, written};
 use calendar::YearMonthDay;
+use daybook::AccountQuery;
+use daybook::AllocationQuery;
 use daybook::EnergyNotice;
 use daybook::Opening;
 use daybook::Ranges;
@@ -146,6 +152,56 @@ pub extern "C" fn petlumas_withdraw(
     let a = transfer::withdraw(table, n);
     let numbers = buffers::notice_numbers(a);
     buffers::finish(register, answer, table, &numbers)
+}
+
+#[no_mangle]
+pub extern "C" fn petlumas_account(
+    register: &[u8],
+    answer: &mut [u8],
+    user: i64,
+    from: i64,
+    to: i64,
+) -> i64
+    ensures { λ r. ⌜ (r, now (answer .exit)) ≡ replied (accountCall (tableIn (now (register .entry))) (record { user = user; from = from; to = to })) (now (answer .entry)) ⌝ }
+{
+    let n = AccountQuery { user, from, to };
+    let mut t = [0i64; 7688];
+    let table = buffers::table_in(register, &mut t);
+    let a = account::account(table, n);
+    let numbers = buffers::account_numbers(a);
+    numbers::integer(buffers::reply(answer, &numbers))
+}
+
+// The answer table has as many numbers as `shares` has bytes for.
+#[no_mangle]
+pub extern "C" fn petlumas_allocate(
+    register: &[u8],
+    answer: &mut [u8],
+    shares: &mut [u8],
+    gasday: i64,
+    from: i64,
+    to: i64,
+    tdq: i64,
+    uag: i64,
+    clp: i64,
+) -> i64
+    ensures { λ r. ⌜ (r, (now (shares .exit), now (answer .exit))) ≡ written (allocateCall (tableIn (now (register .entry))) (record { gasday = gasday; from = from; to = to; tdq = tdq; uag = uag; clp = clp }) (length (now (shares .entry)) / 8)) (now (shares .entry)) (now (answer .entry)) ⌝ }
+{
+    let q = AllocationQuery {
+        gasday,
+        from,
+        to,
+        tdq,
+        uag,
+        clp,
+    };
+    let mut t = [0i64; 7688];
+    let table = buffers::table_in(register, &mut t);
+    let mut list = [0i64; 32];
+    let room = buffers::shares_in(shares, &mut list);
+    let a = allocate::allocate(table, q, room);
+    let numbers = buffers::allocation_numbers(a);
+    buffers::finish(shares, answer, room, &numbers)
 }
 
 #[no_mangle]

@@ -1,8 +1,8 @@
 -- Equations of integers for omega, which reads naturals: each z is up z - dn z, each operation has one fact of these,
 -- and eqZ is the way back. Assumes nothing.
-use mathlib.Core.Path.{_≡_, refl, sym, ap, _∙_}
+use mathlib.Core.Path.{_≡_, refl, ap}
 use mathlib.Core.Bool.{Bool, true, false}
-use Prim.Native.Nat.{ℕ, zero, suc, _+_, _*_, _^_, _≤_, _<_}
+use Prim.Native.Nat.{ℕ, zero, suc, _+_, _-_, _*_, _^_, _≤_, _<_}
 use native.Mathlib.Nat.{zero-mul}
 use native.Mathlib.Omega.{arith}
 use borrow.Author.Tests.{ltb-true, ltb-false, leb-true, leb-false}
@@ -86,6 +86,10 @@ pub sub-minus : (a b m : ℕ) → subℕ a m -ℤ subℕ b m ≡ subℕ a b
 sub-minus a b m =
     eqZ _ _ (omega (arith, sub-fact a b, sub-fact a m, sub-fact b m, minus-fact (subℕ a m) (subℕ b m)))
 
+pub add-swap : (x y z w : ℤ) → (x +ℤ y) +ℤ (z +ℤ w) ≡ (x +ℤ z) +ℤ (y +ℤ w)
+add-swap x y z w =
+    eqZ _ _ (omega (arith, add-fact (x +ℤ y) (z +ℤ w), add-fact x y, add-fact z w, add-fact (x +ℤ z) (y +ℤ w), add-fact x z, add-fact y w))
+
 pub sub-bounds : (a b : ℕ) → (up (subℕ a b) ≤ a) × (dn (subℕ a b) ≤ b)
 sub-bounds a b = go (ltb a b) refl
   where
@@ -96,3 +100,24 @@ sub-bounds a b = go (ltb a b) refl
 pub sub-sfits : (a b : ℕ) → a < 2 ^ 63 → b < 2 ^ 63 → SFits w64 (subℕ a b)
 sub-sfits a b h k =
     sfits-of-bounds (subℕ a b) (omega (arith, sub-bounds a b .0)) (omega (arith, sub-bounds a b .1))
+
+-- ---- numbers that are raised, so that they are naturals
+
+-- raised by b instead of m
+pub raise : (a m b : ℕ) → m ≤ a + b → subℕ (a + b - m) b ≡ subℕ a m
+raise a m b h = eqZ _ _ (omega (arith, sub-fact (a + b - m) b, sub-fact a m))
+
+-- one number, raised by m
+pub raised-same : (a b m : ℕ) → subℕ a m ≡ subℕ b m → a ≡ b
+raised-same a b m e = omega (arith, sub-fact a m, sub-fact b m, ap up e, ap dn e)
+
+pub pos-same : {a b : ℕ} → pos a ≡ pos b → a ≡ b
+pos-same e = cc
+
+-- numbers that are at most m apart
+pub sub-near : (a b m : ℕ) → a ≤ b + m → b ≤ a + m → (up (subℕ a b) ≤ m) × (dn (subℕ a b) ≤ m)
+sub-near a b m h k = go (ltb a b) refl
+  where
+    go : (t : Bool) → ltb a b ≡ t → (up (subℕ a b) ≤ m) × (dn (subℕ a b) ≤ m)
+    go true e = let l : a < b = ltb-true a b e in rw e (omega arith, omega arith)
+    go false e = let l : b ≤ a = ltb-false a b e in rw e (omega arith, omega arith)

@@ -1,14 +1,17 @@
 -- Shares of an entry add up to its energy, by the one telescope, and the code's raised floors are these. Assumes nothing.
 use mathlib.Core.Path.{_≡_, refl, sym, ap, ap₂, _∙_}
-use Prim.Native.Nat.{ℕ, suc, _+_, _-_, _*_, _/_, _≤_, _<_}
-use native.Mathlib.Nat.{div-le-of-le-mul, mul-le-mul, mul-le-mul-right, add-mul}
+use mathlib.Core.Bool.{Bool, true, false}
+use Prim.Native.Nat.{ℕ, _+_, _-_, _*_, _/_, _≤_, _<_}
+use native.Mathlib.Nat.{div-le-of-le-mul, le-div-iff-mul-le, mul-le-mul, mul-le-mul-right, mul-add, mul-comm, add-mul}
 use native.Mathlib.Omega.{arith}
 use native.Mathlib.Numerals.{add-one}
+use borrow.Author.Tests.{leb-true, leb-false}
+use lib.Dec.{leb}
 use lib.IntN.{ℤ, pos, subℕ, _-ℤ_, _*ℤ_, +ℤ-idr}
 use Rattle.numbers.specs.Naturals.{energyOf}
 use Rattle.numbers.specs.Sums.{sumFrom}
 use Rattle.numbers.specs.Shares.{floorDiv, floorPart, partialEnergy, share}
-use Rattle.numbers.proofs.Integers.{up, dn, eqZ, sub-fact, mul-fact, sub-minus}
+use Rattle.numbers.proofs.Integers.{up, dn, eqZ, sub-fact, minus-fact, mul-fact, sub-minus, raised-same}
 use Rattle.numbers.proofs.Sums.{telescope}
 use Rattle.numbers.proofs.Floor.{floor-shift, floor-all, floor-none}
 
@@ -67,3 +70,45 @@ raised-shares E n a b r s l p q =
 pub raised-share : (E : ℤ) (n k r s : ℕ) → energyOf r ≡ partialEnergy E n (k + 1) → energyOf s ≡ partialEnergy E n k → subℕ r s ≡ share E n k
 unfolding share
 raised-share E n k r s p q = sym (rw (← add-one k, ← p, ← q) (sub-minus r s 1000000))
+
+-- ---- the energy of an entry's first days lies between 0 and the entry's
+
+module _ (u n k : ℕ) (p : 0 < n) (l : k ≤ n) where
+  whole : u * n ≡ u * k + u * (n - k)
+  whole = let e : n ≡ k + (n - k) = omega arith in ap (λ m. u * m) e ∙ mul-add u k (n - k)
+
+  raised-low : u ≤ 1000000 → (u ≤ raisedPart u n k) × (raisedPart u n k ≤ 1000000)
+  raised-low h = (
+    le-div-iff-mul-le p .1 (omega (arith, whole, mul-le-mul-right (n - k) h)),
+    div-le-of-le-mul n (omega (arith, mul-le-mul-right k h)),
+  )
+
+  raised-high : 1000000 ≤ u → (1000000 ≤ raisedPart u n k) × (raisedPart u n k ≤ u)
+  raised-high h = (
+    le-div-iff-mul-le p .1 (omega (arith, mul-le-mul-right k h)),
+    div-le-of-le-mul n (omega (arith, whole, mul-comm n u, mul-le-mul-right (n - k) h)),
+  )
+
+-- so two of them differ by at most 1,000,000
+pub raised-near : (u n i j : ℕ) → u ≤ 2000000 → 0 < n → i ≤ n → j ≤ n → raisedPart u n i ≤ raisedPart u n j + 1000000
+raised-near u n i j s p h k = go (leb u 1000000) refl
+  where
+    go : (t : Bool) → leb u 1000000 ≡ t → raisedPart u n i ≤ raisedPart u n j + 1000000
+    go true e =
+        let l : u ≤ 1000000 = leb-true u 1000000 e in omega (arith, raised-low u n i p h l, raised-low u n j p k l)
+    go false e =
+        let l : 1000000 < u = leb-false u 1000000 e in
+        omega (arith, raised-high u n i p h (omega arith), raised-high u n j p k (omega arith))
+
+raised-is : (u n k r : ℕ) → 0 < n → k ≤ n → energyOf r ≡ partialEnergy (energyOf u) n k → r ≡ raisedPart u n k
+raised-is u n k r p l e = raised-same r (raisedPart u n k) 1000000 (e ∙ sym (raised-partial u n k p l))
+
+pub energies-near : (u n i j r s : ℕ) → u ≤ 2000000 → 0 < n → i ≤ n → j ≤ n
+    → energyOf r ≡ partialEnergy (energyOf u) n i → energyOf s ≡ partialEnergy (energyOf u) n j → r ≤ s + 1000000
+energies-near u n i j r s b p h k e f =
+    omega (arith, raised-near u n i j b p h k, raised-is u n i r p h e, raised-is u n j s p k f)
+
+-- a difference of two raised energies, raised
+pub raised-difference : (r s : ℕ) → s ≤ r + 1000000 → subℕ (r + 1000000 - s) 1000000 ≡ energyOf r -ℤ energyOf s
+raised-difference r s h =
+    eqZ _ _ (omega (arith, sub-fact (r + 1000000 - s) 1000000, minus-fact (energyOf r) (energyOf s), sub-fact r 1000000, sub-fact s 1000000))

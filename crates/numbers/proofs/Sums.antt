@@ -1,12 +1,12 @@
 -- Sums over a range: they add up, and they telescope, shown once for any function of the index. Assumes nothing.
 use mathlib.Core.Path.{_≡_, refl, sym, _∙_, ap, ap₂}
+use mathlib.Core.Bool.{Bool, true, false, cond}
 use Prim.Native.Nat.{ℕ, zero, suc, _+_, _-_, _*_, _≤_, _<_}
 use native.Mathlib.Omega.{arith}
 use native.Mathlib.Nat.{add-zero}
 use lib.IntN.{ℤ, pos, subℕ, _+ℤ_, _-ℤ_, +ℤ-idl, +ℤ-idr, +ℤ-assoc}
-use Rattle.numbers.specs.Naturals.{energyOf}
 use Rattle.numbers.specs.Sums.{sumFrom, sumOver}
-use Rattle.numbers.proofs.Integers.{up, dn, eqZ, add-fact, minus-fact, sub-fact}
+use Rattle.numbers.proofs.Integers.{eqZ, add-fact, minus-fact, sub-fact, add-swap}
 
 pub sum-none : (f : ℕ → ℤ) (a : ℕ) → sumFrom f a 0 ≡ pos 0
 unfolding sumFrom
@@ -31,11 +31,7 @@ pub sum-plus : (f g : ℕ → ℤ) (a n : ℕ) → sumFrom (λ d. f d +ℤ g d) 
 unfolding sumFrom
 sum-plus f g a zero = refl
 sum-plus f g a (suc n) =
-    ap (λ s. (f a +ℤ g a) +ℤ s) (sum-plus f g (suc a) n) ∙ swap (f a) (g a) (sumFrom f (suc a) n) (sumFrom g (suc a) n)
-  where
-    swap : (x y z w : ℤ) → (x +ℤ y) +ℤ (z +ℤ w) ≡ (x +ℤ z) +ℤ (y +ℤ w)
-    swap x y z w =
-        eqZ _ _ (omega (arith, add-fact (x +ℤ y) (z +ℤ w), add-fact x y, add-fact z w, add-fact (x +ℤ z) (y +ℤ w), add-fact x z, add-fact y w))
+    ap (λ s. (f a +ℤ g a) +ℤ s) (sum-plus f g (suc a) n) ∙ add-swap (f a) (g a) (sumFrom f (suc a) n) (sumFrom g (suc a) n)
 
 -- cut after the first m terms
 pub sum-split : (f : ℕ → ℤ) (a m n : ℕ) → sumFrom f a (m + n) ≡ sumFrom f a m +ℤ sumFrom f (a + m) n
@@ -92,3 +88,27 @@ telescope g a (suc n) =
     chain : (x y z : ℤ) → (y -ℤ x) +ℤ (z -ℤ y) ≡ z -ℤ x
     chain x y z =
         eqZ _ _ (omega (arith, add-fact (y -ℤ x) (z -ℤ y), minus-fact y x, minus-fact z y, minus-fact z x))
+
+-- one day
+pub sum-one : (f : ℕ → ℤ) (d : ℕ) → sumFrom f d (d + 1 - d) ≡ f d
+unfolding sumFrom
+sum-one f d = let e : d + 1 - d ≡ 1 = omega arith in rw e (+ℤ-idr (f d))
+
+-- all of the terms or none
+pub sum-if : (t : Bool) (f : ℕ → ℤ) (a n : ℕ) → sumFrom (λ d. cond t (f d) (pos 0)) a n ≡ cond t (sumFrom f a n) (pos 0)
+sum-if true f a n = refl
+sum-if false f a n = sum-zero _ a n (λ d h k. refl)
+
+-- ---- a loop that adds up, from index 0 on: one more term, and the end
+
+module _ (f : ℕ → ℤ) (m k acc : ℕ) where
+  -- terms raised by m
+  pub sum-turn : (u : ℕ) → sumFrom f 0 k ≡ subℕ acc (m * k) → subℕ u m ≡ f k → sumFrom f 0 (k + 1) ≡ subℕ (acc + u) (m * (k + 1))
+  sum-turn u h e = let z : k ≡ 0 + k = omega arith in sum-raised f m 0 k acc u h (e ∙ ap f z)
+
+  pub sum-end : (n : ℕ) → sumFrom f 0 k ≡ subℕ acc (m * k) → k ≡ n → subℕ acc (m * n) ≡ sumFrom f 0 n
+  sum-end n h e = rw (← e) (sym h)
+
+-- naturals
+pub count-turn : (f : ℕ → ℤ) (k acc u : ℕ) → sumFrom f 0 k ≡ pos acc → pos u ≡ f k → sumFrom f 0 (k + 1) ≡ pos (acc + u)
+count-turn f k acc u h e = let z : k ≡ 0 + k = omega arith in sum-more f 0 k ∙ ap₂ _+ℤ_ h (sym (e ∙ ap f z))

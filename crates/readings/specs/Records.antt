@@ -1,22 +1,15 @@
 -- What the functions that read one record say of it.
 use mathlib.Core.List.{List}
-use Prim.Native.Nat.{ℕ, suc, _+_, _-_, _*_}
+use Prim.Native.Nat.{ℕ, suc, _-_}
 use lib.IntN.{ℤ, pos, _-ℤ_}
-use lib.ListN.{getD}
 use Rattle.numbers.specs.Shares.{partialEnergy}
 use Rattle.daybook.specs.Book.{Entry}
-use Rattle.layout.specs.Layout.{numAt}
+use Rattle.point.proofs.Rows.{recRow}
 use Rattle.readings.specs.Readings.{daysBefore}
 
 -- Record k of a part.
 unfoldable pub recordOf : List ℤ → ℕ → Entry
-recordOf p k =
-    record {
-      start = numAt p (48 + 4 * k);
-      end = numAt p (48 + 4 * k + 1);
-      energy = getD p (48 + 4 * k + 2) (pos 0);
-      type = numAt p (48 + 4 * k + 3);
-    }
+recordOf p k = recRow p k
 
 -- What an entry has on the days x to y - 1, where its first k days have g k: the difference of two prefixes.
 unfoldable pub partBetween : (Entry → ℕ → ℤ) → ℕ → ℕ → Entry → ℤ

@@ -18,7 +18,7 @@ use Rattle.daybook.proofs.Rows.{decide-taken, decide-refused}
 use Rattle.daybook.proofs.Well.{WellFormed}
 use Rattle.layout.specs.Layout.{tableLength, partOf, withPart, pointNumbers, layout, pointFrom, registerOf, tableBook}
 use Rattle.layout.specs.Sound.{sound}
-use Rattle.layout.specs.Calls.{refused, leaves, onTable}
+use Rattle.layout.specs.Calls.{refused, leaves, onTable, ofTable}
 use Rattle.layout.proofs.Numbers.{Few}
 use Rattle.layout.proofs.Tables.{written-is}
 use Rattle.table.proofs.Found.{Found}
@@ -27,6 +27,16 @@ use Rattle.table.proofs.Found.{Found}
 pub call-unsound : (k : ℕ) (step : Book → Numbers × Book) (ed : Edition) (t : List ℤ) → sound ed t ≡ false → onTable k step ed t ≡ (pos 1 ∷ replicate k (pos 0), t)
 unfolding onTable
 call-unsound k step ed t e = rw e
+
+-- a query likewise, and else the table's book answers it
+module _ {A : Type 0} (refusal : A) (query : Book → A) (ed : Edition) (t : List ℤ) where
+  pub query-unsound : sound ed t ≡ false → ofTable refusal query ed t ≡ refusal
+  unfolding ofTable
+  query-unsound e = rw e
+
+  pub query-sound : sound ed t ≡ true → ofTable refusal query ed t ≡ query (tableBook ed t)
+  unfolding ofTable
+  query-sound e = rw e
 
 -- the two equations of a call's contract
 pub gives : {w : Numbers × List ℤ} {a : Numbers} {u : List ℤ} → w ≡ (a, u) → (a ≡ w .0) × (u ≡ w .1)

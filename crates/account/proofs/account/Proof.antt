@@ -1,0 +1,93 @@
+use mathlib.Core.Path.{_≡_, sym, ap, _∙_}
+use mathlib.Core.Bool.{true}
+use mathlib.Core.List.{[], _∷_}
+use native.Mathlib.Omega.{arith}
+use lib.IntN.{pos}
+use mir.Syntax.{w64}
+use mir.ValLaws.{toZ-ofZ}
+use borrow.Author.Needs.{sfits-of, needs}
+use borrow.Author.Tests.{not-true, not-false}
+use Rattle.numbers.specs.Naturals.{natOf}
+use Rattle.numbers.proofs.Naturals.{natural-read}
+use Rattle.daybook.specs.declared.AccountQuery.{AccountQuery}
+use Rattle.layout.specs.Layout.{standard}
+use Rattle.layout.specs.Sound.{sound}
+use Rattle.account.proofs.Call.{inRange, range-bounds, unsound-ends, range-ends, given-ends}
+use Rattle.account.proofs.account.Statement.{statement}
+use Rattle.account.proofs.account.Tie as tie
+
+-- the facts of the tests that were passed
+sound-is : (c : tie.Else1) → sound standard (c .before .before .args .t .now) ≡ true
+sound-is c = sym (c .before .sound .ensures) ∙ not-false _ (c .if1 .left)
+
+abbrev query : tie.Else2 → AccountQuery
+query c = c .before .before .before .before .args .n
+
+range-is : (c : tie.Else2) → inRange (query c) ≡ true
+range-is c = sym (c .before .in-range .ensures) ∙ not-false _ (c .if2 .left)
+
+-- the naturals that were read
+user-is : (c : tie.After-natural) → c .natural .result ≡ natOf (query (c .before .before .before .before) .user)
+user-is c =
+    let s = c .before in
+    c .natural .ensures .0
+    ∙ natural-read (query (s .before .before .before) .user) (sfits-of (s .struct-told3 .given .0 .1))
+
+from-is : (c : tie.After-natural2) → c .natural2 .result ≡ natOf (query (c .before .before .before .before .before) .from)
+from-is c =
+    let s = c .before .before in
+    c .natural2 .ensures .0
+    ∙ natural-read (query (s .before .before .before) .from) (sfits-of (s .struct-told3 .given .1 .0 .1))
+
+to-is : (c : tie.After-natural3) → c .natural3 .result ≡ natOf (query (c .before .before .before .before .before .before) .to)
+to-is c =
+    let s = c .before .before .before in
+    c .natural3 .ensures .0
+    ∙ natural-read (query (s .before .before .before) .to) (sfits-of (s .struct-told3 .given .1 .1 .0 .1))
+
+sound-requires : tie.Need-sound-requires
+sound-requires c κs = search needs
+
+returns : tie.Need-returns
+returns c = unsound-ends _ _ (sym (c .before .sound .ensures) ∙ not-true _ (c .if1 .taken))
+
+in-range-requires : tie.Need-in-range-requires
+in-range-requires c κs = search needs
+
+returns-2 : tie.Need-returns-2
+returns-2 c = range-ends _ _ (sound-is (c .before .before)) (sym (c .before .in-range .ensures) ∙ not-true _ (c .if2 .taken))
+
+natural-requires : tie.Need-natural-requires
+natural-requires c κs = search needs
+
+natural-requires-2 : tie.Need-natural-requires-2
+natural-requires-2 c κs = search needs
+
+natural-requires-3 : tie.Need-natural-requires-3
+natural-requires-3 c κs = search needs
+
+table-energy-requires : tie.Need-table-energy-requires
+table-energy-requires c κs =
+    let e = c .before .before .before .before .before .before in
+    let b = range-bounds (query e) (range-is e) in
+    (sound-is (e .before .before), omega (arith, b, user-is (c .before .before)), omega (arith, b, from-is (c .before), to-is c), omega (arith, b, to-is c))
+
+returns-3 : tie.Need-returns-3
+returns-3 c =
+    let e = c .before .before .before .before .before .before .before in
+    ap (λ z. pos 0 ∷ z ∷ []) (toZ-ofZ w64 _ (sfits-of (c .table-energy .ok)) ∙ c .table-energy .ensures)
+    ∙ given-ends _ _ (sound-is (e .before .before)) (range-is e) _ _ _ (user-is (c .before .before .before)) (from-is (c .before .before)) (to-is (c .before))
+
+pub account-spec : {M : Type 1} → statement M
+account-spec =
+    tie.close
+    (tie.spec
+    sound-requires
+    returns
+    in-range-requires
+    returns-2
+    natural-requires
+    natural-requires-2
+    natural-requires-3
+    table-energy-requires
+    returns-3)

@@ -1,0 +1,63 @@
+-- Arrays of 32 with a place for each point of a table. Assumes nothing.
+use mathlib.Core.Path.{_≡_, refl, sym, _∙_, ap, ap₂}
+use mathlib.Core.List.{List, [], _∷_, _++_, map, append-assoc}
+use Prim.Native.Nat.{ℕ, zero, suc, _+_, _-_, _≤_, _<_}
+use native.Mathlib.Omega.{arith}
+use lib.ListN.{length, getD, set, replicate}
+use lib.Seq.{set-at}
+use lib.IntN.{ℤ}
+use Rattle.daybook.specs.Book.{Point}
+use Rattle.layout.specs.Layout.{numAt}
+use Rattle.point.proofs.Rows.{rowsAt, length-rows, rows-join}
+use Rattle.readings.proofs.Points.{partPoint, points-are}
+use Rattle.allocate.specs.Parts.{pointsOf, padded, Below}
+
+map-rows : {A B : Type 0} (f : A → B) (p : ℕ → A) (i n : ℕ) → map f (rowsAt p i n) ≡ rowsAt (λ k. f (p k)) i n
+unfolding rowsAt
+map-rows f p i zero = refl
+map-rows f p i (suc n) = ap (λ l. f (p i) ∷ l) (map-rows f p (suc i) n)
+
+-- the first i places are filled
+abbrev pub filledTo : (ℕ → ℕ) → ℕ → List ℕ
+filledTo f i = rowsAt f 0 i ++ replicate (32 - i) 0
+
+pub none-filled : (f : ℕ → ℕ) → replicate 32 0 ≡ filledTo f 0
+unfolding rowsAt
+none-filled f = refl
+
+one-row : (f : ℕ → ℕ) (i : ℕ) → rowsAt f 0 i ++ (f i ∷ []) ≡ rowsAt f 0 (i + 1)
+unfolding rowsAt
+one-row f i = rows-join f i 1 0 i (omega arith)
+
+-- a turn fills one more
+pub one-filled : (f : ℕ → ℕ) (i : ℕ) → i < 32 → set (filledTo f i) i (f i) ≡ filledTo f (i + 1)
+one-filled f i h =
+    let e : 32 - i ≡ suc (32 - (i + 1)) = omega arith in
+    ap (λ k. set (rowsAt f 0 i ++ replicate k 0) i (f i)) e
+    ∙ set-at (rowsAt f 0 i) 0 (replicate (32 - (i + 1)) 0) (f i) i (length-rows f 0 i)
+    ∙ sym (append-assoc (rowsAt f 0 i) (f i ∷ []) (replicate (32 - (i + 1)) 0))
+    ∙ ap (λ l. l ++ replicate (32 - (i + 1)) 0) (one-row f i)
+
+-- at the end there is a number for each point
+pub all-filled : (f : Point → ℕ) (t : List ℤ) → filledTo (λ i. f (partPoint t i)) (numAt t 0) ≡ padded (map f (pointsOf t))
+unfolding padded
+all-filled f t =
+    let is : rowsAt (λ i. f (partPoint t i)) 0 (numAt t 0) ≡ map f (pointsOf t) = sym (ap (map f) (points-are t) ∙ map-rows f (partPoint t) 0 (numAt t 0)) in
+    ap₂ (λ l n. l ++ replicate (32 - n) 0) is (sym (length-rows (λ i. f (partPoint t i)) 0 (numAt t 0)) ∙ ap length is)
+
+-- ---- small numbers
+
+pub none-above : (most : ℕ) → Below most (replicate 32 0)
+none-above most k = go 32 k
+  where
+    go : (n k : ℕ) → getD (replicate n 0) k 0 ≤ most
+    go zero k = omega arith
+    go (suc n) zero = omega arith
+    go (suc n) (suc k) = go n k
+
+pub put-below : (most : ℕ) (l : List ℕ) (i x : ℕ) → Below most l → x ≤ most → Below most (set l i x)
+put-below most [] i x b h k = b k
+put-below most (y ∷ l) zero x b h zero = h
+put-below most (y ∷ l) zero x b h (suc k) = b (suc k)
+put-below most (y ∷ l) (suc i) x b h zero = b 0
+put-below most (y ∷ l) (suc i) x b h (suc k) = put-below most l i x (λ j. b (suc j)) h k

@@ -1,0 +1,121 @@
+use mathlib.Core.Path.{_≡_, sym, _∙_, ap, ap₂, subst}
+use mathlib.Core.List.{_∷_, map}
+use Prim.Native.Nat.{_*_}
+use native.Mathlib.Omega.{arith}
+use lib.ListN.{length}
+use lib.IntN.{pos}
+use mir.ValLaws.{toZ-ofZ}
+use mir.Syntax.{w64}
+use borrow.Author.Needs.{needs, sfits-of}
+use Rattle.numbers.proofs.Naturals.{natural-read}
+use Rattle.numbers.specs.Naturals.{natOf}
+use Rattle.daybook.specs.Queries.{atLeast0, tdmOf, nslOf, split, users}
+use Rattle.layout.specs.Layout.{standard, tableBook}
+use Rattle.table.proofs.Laws.{sound-long}
+use Rattle.allocate.specs.Allocate.{placed}
+use Rattle.allocate.specs.Parts.{pointsOf, padded, SharesBelow, totalTo, loadOf, givenOf}
+use Rattle.allocate.proofs.Apportioned.{in-range-tells, in-range, load-is, fros-32, weigh-32, split-32, placed-long, shares-are, shares-small, totals-are}
+use Rattle.allocate.proofs.apportion.Statement.{statement}
+use Rattle.allocate.proofs.apportion.Tie as tie
+
+gasday-is : (c : tie.After-natural) → c .natural .result ≡ natOf (c .before .before .before .args .q .gasday)
+gasday-is c = c .natural .ensures .0 ∙ natural-read (c .before .before .before .args .q .gasday) (sfits-of (c .before .struct-told .given .0 .1))
+
+-- the load is the book's
+nsl-is : (c : tie.After-net-load) → c .net-load .result ≡ nslOf (c .before .before .before .before .before .before .args .q) (tableBook standard (c .before .before .before .before .before .before .args .t .now))
+nsl-is c =
+    let s = c .before .before .before .before .before .before in
+    let n = c .before .get .ensures .0 in
+    let tdm = c .before .before .metered .result in
+    load-is (s .pre) tdm
+    (c .net-load .ensures .0 ∙ ap (λ k. atLeast0 (loadOf (s .args .q) tdm (1000000 * k))) n)
+    (c .before .before .metered .ensures .0 ∙ ap (λ g. tdmOf g (tableBook standard (s .args .t .now))) (gasday-is (c .before .before .before)))
+
+fros-is : (c : tie.After-fros) → c .fros .result ≡ padded (map (λ p. p .fro (natOf (c .before .before .before .before .before .before .before .before .before .before .args .q .gasday))) (pointsOf (c .before .before .before .before .before .before .before .before .before .before .args .t .now)))
+fros-is c =
+    c .fros .ensures
+    ∙ ap (λ g. padded (map (λ p. p .fro g) (pointsOf (c .before .before .before .before .before .before .before .before .before .before .args .t .now)))) (gasday-is (c .before .before .before .before .before .before .before))
+
+-- src/lib.rt:207:9
+natural-requires : tie.Need-natural-requires
+natural-requires c κs = search needs
+
+-- src/lib.rt:208:28
+metered-requires : tie.Need-metered-requires
+metered-requires c κs =
+    let s = c .before .before .before in
+    let ok = in-range (s .pre) in
+    (s .pre .isSound, rw (gasday-is c) (ok .gasdayLow), rw (gasday-is c) (ok .gasdayHigh))
+
+-- src/lib.rt:208:43
+get-requires : tie.Need-get-requires
+get-requires c κs = omega (arith, sound-long (c .before .before .before .before .args .t .now) (c .before .before .before .before .pre .isSound) .0)
+
+-- src/lib.rt:208:9
+net-load-requires : tie.Need-net-load-requires
+net-load-requires c κs =
+    let s = c .before .before .before .before .before in
+    let ok = in-range (s .pre) in
+    let n = sound-long (s .args .t .now) (s .pre .isSound) .1 in
+    (ok .tdqOk, ok .uagOk, ok .clpOk, omega (arith, c .get .ensures .0, n), rw (c .get .ensures .0) (c .before .metered .ensures .1))
+
+-- src/lib.rt:209:5
+split-to-requires : tie.Need-split-to-requires
+split-to-requires c κs =
+    let s = c .before .before .before .before .before .before .before in
+    (weigh-32 (s .pre), in-range-tells (s .args .q) (length (s .args .out .now)) (s .pre .inRange) .1, c .before .net-load .ensures .1, s .pre .some, s .pre .few, s .pre .sum)
+
+-- src/lib.rt:210:14
+fros-requires : tie.Need-fros-requires
+fros-requires c κs = search needs
+
+-- src/lib.rt:211:22
+slice-aggregate-totals : tie.Need-slice-aggregate-totals
+slice-aggregate-totals c = search needs
+
+-- src/lib.rt:211:9
+totals-requires : tie.Need-totals-requires
+totals-requires c κs =
+    let s = c .before .before .before .before .before .before .before .before .before .before .before .before in
+    let load = c .before .before .before .before .before .before in
+    let out = c .before .before .before .before .split-to .ensures in (
+      ap length (fros-is (c .before .before)) ∙ fros-32 (s .pre),
+      rw out (placed-long (split (load .net-load .result) (s .args .s) 0 (s .args .ws .now)) (s .args .out .now) (split-32 (s .pre) (load .net-load .result))),
+      subst (SharesBelow 3032000000) (sym out) (shares-small (s .pre) (nsl-is load) (load .net-load .ensures .1) (s .args .out .now)),
+    )
+
+-- src/lib.rt:214:14
+integer-requires : tie.Need-integer-requires
+integer-requires c κs = search needs
+
+-- src/lib.rt:202:1
+same-length : tie.Need-same-length
+same-length c = search needs
+
+-- src/lib.rt:202:1
+returns : tie.Need-returns
+unfolding givenOf
+returns c =
+    let s = c .before .before .before .before .before .before .before .before .before .before .before .before .before .before in
+    let load = c .before .before .before .before .before .before .before .before in
+    let is = nsl-is load in
+    let out = c .before .before .before .before .before .before .split-to .ensures in
+    let nsl = toZ-ofZ w64 (c .integer .result) (sfits-of (c .integer .ok)) ∙ c .integer .ensures ∙ ap pos is in
+    let all = c .before .totals .ensures ∙ ap₂ (λ us xs. map (λ u. pos (totalTo us xs u 32)) users) (fros-is (c .before .before .before .before)) out ∙ totals-are (s .pre) is (s .args .out .now) in
+    (ap₂ (λ z l. pos 0 ∷ z ∷ l) nsl all, out ∙ ap (λ l. placed l (s .args .out .now)) (shares-are (s .pre) is))
+
+pub apportion-spec : {M : Type 1} → statement M
+apportion-spec =
+    tie.close
+    (tie.spec
+    natural-requires
+    metered-requires
+    get-requires
+    net-load-requires
+    split-to-requires
+    fros-requires
+    slice-aggregate-totals
+    totals-requires
+    integer-requires
+    same-length
+    returns)

@@ -1,0 +1,97 @@
+use mathlib.Core.Path.{_≡_, sym, _∙_, ap, ap₂, subst}
+use Prim.Native.Nat.{_-_, _≤_}
+use native.Mathlib.Omega.{arith}
+use lib.ListN.{set}
+use borrow.Author.Needs.{needs}
+use Rattle.daybook.specs.Queries.{weight}
+use Rattle.layout.specs.Layout.{numAt}
+use Rattle.table.proofs.Laws.{sound-long}
+use Rattle.readings.specs.Readings.{pointAt, Readable}
+use Rattle.readings.proofs.Points.{partPoint, part-readable}
+use Rattle.allocate.specs.Parts.{Below}
+use Rattle.allocate.proofs.Arrays.{filledTo, none-filled, one-filled, all-filled, none-above, put-below}
+use Rattle.allocate.proofs.weights.Statement.{statement}
+use Rattle.allocate.proofs.weights.Tie as tie
+
+abbrev Inv-loop : tie.InvT-loop
+Inv-loop t g a b n ws₀ i₀ ws i = (i ≤ n) × (n ≤ 32) × (ws ≡ filledTo (λ k. weight g a b (partPoint t k)) i) × Below 60010000 ws
+
+abbrev μ-loop : tie.MeasureT-loop
+μ-loop t g a b n ws₀ i₀ ws i = n - i
+
+-- src/lib.rt:150:13
+get-requires : tie.Need-get-requires Inv-loop μ-loop
+get-requires c κs = omega (arith, sound-long (c .args .t .now) (c .pre .0) .0)
+
+-- src/lib.rt:153:5
+loop-holds : tie.Need-loop-holds Inv-loop μ-loop
+loop-holds c = (omega arith, omega (arith, c .get .ensures .0, sound-long (c .before .args .t .now) (c .before .pre .0) .1), none-filled _, none-above 60010000)
+
+-- src/lib.rt:154:34
+part-requires : tie.Need-part-requires Inv-loop μ-loop
+part-requires c κs = omega (arith, sound-long (c .before .before .before .args .t .now) (c .before .before .before .pre .0) .0)
+
+-- src/lib.rt:154:17
+weight-requires : tie.Need-weight-requires Inv-loop μ-loop
+weight-requires c κs =
+    let s = c .before .before .before .before in
+    let k = c .before .before .loop .i in
+    let ok = part-readable (s .args .t .now) (s .pre .0) k (omega (arith, c .before .before .before .get .ensures .0)) in
+    (subst Readable (sym (c .part .ensures .0)) ok, s .pre .1, s .pre .2, s .pre .3)
+
+-- src/lib.rt:154:9
+mul-ws : tie.Need-mul-ws Inv-loop μ-loop
+mul-ws c = search needs
+
+-- src/lib.rt:154:9
+array-write-ws : tie.Need-array-write-ws Inv-loop μ-loop
+array-write-ws c = omega arith
+
+-- src/lib.rt:155:9
+add-i : tie.Need-add-i Inv-loop μ-loop
+add-i c = search needs
+
+-- src/lib.rt:153:5
+loop-less : tie.Need-loop-less Inv-loop μ-loop
+loop-less c = search needs
+
+-- src/lib.rt:153:5
+loop-again : tie.Need-loop-again Inv-loop μ-loop
+loop-again c =
+    let s = c .before .before .before .before .before in
+    let k = c .before .before .before .loop in
+    let is = c .weight .ensures .0 ∙ ap (λ p. weight (s .args .g) (s .args .a) (s .args .b) (pointAt p)) (c .before .part .ensures .0) in
+    let small : c .weight .result ≤ 60010000 = omega (arith, c .weight .ensures .1, c .before .part .ensures .1) in (
+      omega arith,
+      k .inv .1,
+      ap₂ (λ l x. set l (k .i) x) (k .inv .2) is ∙ one-filled (λ i. weight (s .args .g) (s .args .a) (s .args .b) (partPoint (s .args .t .now) i)) (k .i) (omega arith),
+      put-below 60010000 (k .ws) (k .i) (c .weight .result) (k .inv .3) small,
+    )
+
+-- src/lib.rt:146:1
+returns : tie.Need-returns Inv-loop μ-loop
+returns c =
+    let s = c .before .before .before in
+    let e : c .before .loop .i ≡ numAt (s .args .t .now) 0 = omega (arith, c .before .before .get .ensures .0) in (
+      c .before .loop .inv .2
+          ∙ ap (filledTo (λ i. weight (s .args .g) (s .args .a) (s .args .b) (partPoint (s .args .t .now) i))) e
+          ∙ all-filled (weight (s .args .g) (s .args .a) (s .args .b)) (s .args .t .now),
+      c .before .loop .inv .3,
+    )
+
+pub weights-spec : {M : Type 1} → statement M
+weights-spec =
+    tie.close
+    (tie.spec
+    Inv-loop
+    μ-loop
+    get-requires
+    loop-holds
+    part-requires
+    weight-requires
+    mul-ws
+    array-write-ws
+    add-i
+    loop-less
+    loop-again
+    returns)

@@ -1,0 +1,2 @@
+-- Laws of the lines of a journal.
+pub mod Lines

@@ -1,0 +1,46 @@
+use borrow.Author.Tests.{ne-eqb}
+use Rattle.opening.specs.Opening.{freshCall}
+use Rattle.answers.specs.Lines.{freshLine}
+use Rattle.answers.proofs.Lines.{nothing, called}
+use borrow.Author.Needs.{needs}
+use Rattle.answers.proofs.fresh.Statement.{statement}
+use Rattle.answers.proofs.fresh.Tie as tie
+
+returns : tie.Need-returns
+unfolding freshLine
+returns c = nothing _ _ _ (rw (ne-eqb _ _ (c .if1 .taken)))
+
+to-ranges-requires : tie.Need-to-ranges-requires
+to-ranges-requires c κs = search needs
+
+fresh-requires : tie.Need-fresh-requires
+fresh-requires c κs = search needs
+
+notice-requires : tie.Need-notice-requires
+notice-requires c κs = search needs
+
+same-length : tie.Need-same-length
+same-length c = search needs
+
+same-length-2 : tie.Need-same-length-2
+same-length-2 c = search needs
+
+returns-2 : tie.Need-returns-2
+unfolding freshLine
+returns-2 c =
+    let s = c .before .before .before .before .before .before .before .before .before .before in
+    let f = c .before .before .before .before .before .fresh in
+    let n = c .before .before .notice in
+    called (freshCall (s .args .t .now)) 2 (s .args .nums .now) _ (c .before .before .before .before .before .before .before .before .if1 .left) (c .before .before .before .before .before .before .before .to-ranges .ensures) (f .ensures .1) (f .ensures .0) (n .ensures .0) (n .ensures .1)
+
+pub fresh-spec : {M : Type 1} → statement M
+fresh-spec =
+    tie.close
+    (tie.spec
+    returns
+    to-ranges-requires
+    fresh-requires
+    notice-requires
+    same-length
+    same-length-2
+    returns-2)

@@ -1,0 +1,46 @@
+use borrow.Author.Tests.{ne-eqb}
+use Rattle.opening.specs.Opening.{openCall}
+use Rattle.answers.specs.Lines.{openLine}
+use Rattle.answers.proofs.Lines.{nothing, called}
+use borrow.Author.Needs.{needs}
+use Rattle.answers.proofs.open.Statement.{statement}
+use Rattle.answers.proofs.open.Tie as tie
+
+returns : tie.Need-returns
+unfolding openLine
+returns c = nothing _ _ _ (rw (ne-eqb _ _ (c .if1 .taken)))
+
+to-opening-requires : tie.Need-to-opening-requires
+to-opening-requires c κs = search needs
+
+open-requires : tie.Need-open-requires
+open-requires c κs = search needs
+
+notice-requires : tie.Need-notice-requires
+notice-requires c κs = search needs
+
+same-length : tie.Need-same-length
+same-length c = search needs
+
+same-length-2 : tie.Need-same-length-2
+same-length-2 c = search needs
+
+returns-2 : tie.Need-returns-2
+unfolding openLine
+returns-2 c =
+    let s = c .before .before .before .before .before .before .before .before .before .before in
+    let f = c .before .before .before .before .before .«open» in
+    let n = c .before .before .notice in
+    called (openCall (s .args .t .now)) 5 (s .args .nums .now) _ (c .before .before .before .before .before .before .before .before .if1 .left) (c .before .before .before .before .before .before .before .to-opening .ensures) (f .ensures .1) (f .ensures .0) (n .ensures .0) (n .ensures .1)
+
+pub open-spec : {M : Type 1} → statement M
+open-spec =
+    tie.close
+    (tie.spec
+    returns
+    to-opening-requires
+    open-requires
+    notice-requires
+    same-length
+    same-length-2
+    returns-2)

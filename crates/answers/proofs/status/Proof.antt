@@ -1,0 +1,46 @@
+use borrow.Author.Tests.{ne-eqb}
+use Rattle.status.specs.Status.{statusCall}
+use Rattle.answers.specs.Lines.{statusLine}
+use Rattle.answers.proofs.Lines.{nothing, called}
+use borrow.Author.Needs.{needs}
+use Rattle.answers.proofs.status.Statement.{statement}
+use Rattle.answers.proofs.status.Tie as tie
+
+returns : tie.Need-returns
+unfolding statusLine
+returns c = nothing _ _ _ (rw (ne-eqb _ _ (c .if1 .taken)))
+
+to-status-requires : tie.Need-to-status-requires
+to-status-requires c κs = search needs
+
+status-requires : tie.Need-status-requires
+status-requires c κs = search needs
+
+notice-requires : tie.Need-notice-requires
+notice-requires c κs = search needs
+
+same-length : tie.Need-same-length
+same-length c = search needs
+
+same-length-2 : tie.Need-same-length-2
+same-length-2 c = search needs
+
+returns-2 : tie.Need-returns-2
+unfolding statusLine
+returns-2 c =
+    let s = c .before .before .before .before .before .before .before .before .before .before in
+    let f = c .before .before .before .before .before .status in
+    let n = c .before .before .notice in
+    called (statusCall (s .args .t .now)) 3 (s .args .nums .now) _ (c .before .before .before .before .before .before .before .before .if1 .left) (c .before .before .before .before .before .before .before .to-status .ensures) (f .ensures .1) (f .ensures .0) (n .ensures .0) (n .ensures .1)
+
+pub status-spec : {M : Type 1} → statement M
+status-spec =
+    tie.close
+    (tie.spec
+    returns
+    to-status-requires
+    status-requires
+    notice-requires
+    same-length
+    same-length-2
+    returns-2)

@@ -1,0 +1,46 @@
+use borrow.Author.Tests.{ne-eqb}
+use Rattle.transfer.specs.Transfer.{withdrawCall}
+use Rattle.answers.specs.Lines.{withdrawLine}
+use Rattle.answers.proofs.Lines.{nothing, called}
+use borrow.Author.Needs.{needs}
+use Rattle.answers.proofs.withdraw.Statement.{statement}
+use Rattle.answers.proofs.withdraw.Tie as tie
+
+returns : tie.Need-returns
+unfolding withdrawLine
+returns c = nothing _ _ _ (rw (ne-eqb _ _ (c .if1 .taken)))
+
+to-withdrawal-requires : tie.Need-to-withdrawal-requires
+to-withdrawal-requires c κs = search needs
+
+withdraw-requires : tie.Need-withdraw-requires
+withdraw-requires c κs = search needs
+
+notice-requires : tie.Need-notice-requires
+notice-requires c κs = search needs
+
+same-length : tie.Need-same-length
+same-length c = search needs
+
+same-length-2 : tie.Need-same-length-2
+same-length-2 c = search needs
+
+returns-2 : tie.Need-returns-2
+unfolding withdrawLine
+returns-2 c =
+    let s = c .before .before .before .before .before .before .before .before .before .before in
+    let f = c .before .before .before .before .before .withdraw in
+    let n = c .before .before .notice in
+    called (withdrawCall (s .args .t .now)) 2 (s .args .nums .now) _ (c .before .before .before .before .before .before .before .before .if1 .left) (c .before .before .before .before .before .before .before .to-withdrawal .ensures) (f .ensures .1) (f .ensures .0) (n .ensures .0) (n .ensures .1)
+
+pub withdraw-spec : {M : Type 1} → statement M
+withdraw-spec =
+    tie.close
+    (tie.spec
+    returns
+    to-withdrawal-requires
+    withdraw-requires
+    notice-requires
+    same-length
+    same-length-2
+    returns-2)

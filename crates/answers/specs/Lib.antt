@@ -1,0 +1,2 @@
+-- What the notices of a journal print and leave.
+pub mod Lines

@@ -1,0 +1,2 @@
+-- Laws of the dispatch.
+pub mod Calls

@@ -1,0 +1,2 @@
+-- Which line each call is.
+pub mod Calls

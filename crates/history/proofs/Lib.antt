@@ -1,0 +1,9 @@
+-- The claim about every list of calls: the calls follow the book, what a sound table's book adds up to, and both together.
+pub mod Steps
+pub mod Runs
+pub mod Accounts
+pub mod Entries
+pub mod Allocations
+pub mod Points
+pub mod SoundTables
+pub mod Theorem

@@ -1,0 +1,86 @@
+-- What is claimed of the table t that a list of calls left and the day book B given the same calls (demand 3).
+use mathlib.Core.Path.{_≡_}
+use mathlib.Core.Bool.{true, false}
+use mathlib.Core.Option.{Option, none, some}
+use mathlib.Core.List.{List, [], _∷_}
+use Prim.Native.Nat.{ℕ, zero, suc, _≤_, _<_}
+use lib.IntN.{ℤ, pos, _+ℤ_}
+use lib.ListN.{length, getD, drop}
+use Rattle.numbers.specs.Sums.{sumFrom, sumOver}
+use Rattle.daybook.specs.declared.AccountQuery.{AccountQuery}
+use Rattle.daybook.specs.declared.AllocationQuery.{AllocationQuery}
+use Rattle.daybook.specs.Book.{Entry, Point, Book, filled, dayShare}
+use Rattle.daybook.specs.Notices.{Numbers}
+use Rattle.daybook.specs.Queries.{sumOf, accountOf, allocate}
+use Rattle.daybook.proofs.Covering.{covering}
+use Rattle.layout.specs.Layout.{standard, partOf, pointFrom, tableBook}
+use Rattle.layout.specs.Sound.{sound}
+use Rattle.layout.specs.Calls.{refused}
+use Rattle.account.specs.Account.{accountCall}
+use Rattle.allocate.specs.Allocate.{allocateCall}
+
+-- Point i, in order of opening.
+unfoldable pub pointNo : ℕ → List Point → Option Point
+pointNo i [] = none
+pointNo zero (p ∷ ps) = some p
+pointNo (suc i) (p ∷ ps) = pointNo i ps
+
+-- User u's account over the days a to b, and the sum in its answer.
+abbrev pub query : ℕ → ℕ → ℕ → AccountQuery
+query u a b = record { user = pos u; from = pos a; to = pos b }
+
+unfoldable pub accountFrom : List ℤ → ℕ → ℕ → ℕ → ℤ
+accountFrom t u a b = getD (accountCall t (query u a b)) 1 (pos 0)
+
+-- The net section load and the sixteen totals in an allocation's answer.
+abbrev pub loadIn : Numbers → ℤ
+loadIn l = getD l 1 (pos 0)
+
+abbrev pub totalsIn : Numbers → Numbers
+totalsIn l = drop 2 l
+
+abbrev pub added : List ℤ → ℤ
+added l = sumOf (λ z. z) l
+
+-- 2. On a filled day one User of 1 to 16 is FRO, and exactly one registration row of the table covers the day: it has
+-- started by then and the next one, if any, has not. It is the FRO's.
+pub record OneUser (t : List ℤ) (i : ℕ) (p : Point) (d : ℕ) : Type 0 where
+  pub userLow : 1 ≤ p .fro d
+  pub userHigh : p .fro d ≤ 16
+  pub since : ℕ
+  pub started : since ≤ d
+  pub oneRow : covering d (pointFrom (partOf standard t i) .regs) ≡ (since, p .fro d) ∷ []
+
+-- 5. An entry that stands on day d stands on all of its days, d among them, and their shares add up to its energy.
+pub record Stands (p : Point) (d : ℕ) (e : Entry) : Type 0 where
+  pub from : e .start ≤ d
+  pub to : d ≤ e .end
+  pub whole : (x : ℕ) → e .start ≤ x → x ≤ e .end → p .entry x ≡ some e
+  pub addsUp : sumOver (dayShare p) (e .start) (e .end) ≡ e .energy
+
+-- 6. An allocation, for all its numbers and an answer table of any length, is given or refused as the book does it, the
+-- 32 numbers included. One given adds up, over Users and over points, to its net section load.
+pub record Allocated (t : List ℤ) (B : Book) (n : AllocationQuery) (room : ℕ) : Type 0 where
+  pub asBook : allocateCall t n room ≡ allocate n room B
+  pub overUsers : refused (allocateCall t n room .0) ≡ false → added (totalsIn (allocateCall t n room .0)) ≡ loadIn (allocateCall t n room .0)
+  pub overPoints : refused (allocateCall t n room .0) ≡ false → added (allocateCall t n room .1) ≡ loadIn (allocateCall t n room .0)
+  pub all32 : refused (allocateCall t n room .0) ≡ false → length (allocateCall t n room .1) ≡ 32
+
+pub record Agrees (t : List ℤ) (B : Book) : Type 0 where
+  -- 1. The table is sound, and its book is B.
+  pub isSound : sound standard t ≡ true
+  pub book : tableBook standard t ≡ B
+  pub oneUser : (i : ℕ) (p : Point) (d : ℕ) → pointNo i (B .points) ≡ some p → filled p d ≡ true → OneUser t i p d
+  -- 3. A User's account from the table is the sum of the shares of its days in B, and splits between any two days.
+  pub accounts :
+      (u a c : ℕ) → 1 ≤ u → u ≤ 16 → a ≤ c → c ≤ 39999
+      → accountCall t (query u a c) ≡ pos 0 ∷ accountOf u a c B ∷ []
+  pub accountsSplit :
+      (u a b c : ℕ) → 1 ≤ u → u ≤ 16 → a ≤ b → b < c → c ≤ 39999
+      → accountFrom t u a c ≡ accountFrom t u a b +ℤ accountFrom t u (suc b) c
+  -- 4. The sixteen accounts add up to the shares of all points' filled days.
+  pub accountsAddUp :
+      (a c : ℕ) → a ≤ c → c ≤ 39999
+      → sumFrom (λ u. accountFrom t u a c) 1 16 ≡ sumOf (λ p. sumOver (dayShare p) a c) (B .points)
+  pub entries : (i : ℕ) (p : Point) (d : ℕ) (e : Entry) → pointNo i (B .points) ≡ some p → p .entry d ≡ some e → Stands p d e
+  pub allocations : (n : AllocationQuery) (room : ℕ) → Allocated t B n room

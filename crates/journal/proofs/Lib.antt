@@ -1,0 +1,3 @@
+-- Laws of a journal's text.
+pub mod Text
+pub mod Names

@@ -1,0 +1,3 @@
+-- The text of a journal: numbers, words and the names of calls.
+pub mod Text
+pub mod Names

@@ -1,0 +1,217 @@
+// The text of a journal: the words of a line, the call that its first word names, and numbers.
+ghost use mathlib.Core.Path.{_≡_};
+ghost use Prim.Native.Nat.{_+_, _*_, _<_, _≤_, _^_};
+ghost use lib.ListN.{length, drop};
+ghost use Rattle.journal.specs.Text.{isDigit, digitsOf, capped, nonNegative, negative as Text·negative, numberOf, valueOf, Skipped, Ended, wordsOf, numbersOf, readInto, countOf};
+ghost use Rattle.journal.specs.Names.{sameBytes, noticeOf, callOf};
+
+// The calls of a journal. Lend is `tlen`.
+pub enum Call {
+    Fresh,
+    Open,
+    Energy,
+    Status,
+    Request,
+    Withdraw,
+    Date,
+    Look,
+    Poke,
+    Lend,
+    Table,
+    Unknown,
+}
+
+// What a word stands for.
+pub enum Parsed {
+    Value(i64),
+    Nothing,
+}
+
+// How many numbers were read.
+pub enum Taken {
+    Count(usize),
+    Nothing,
+}
+
+fn wide(b: u8) -> u64
+    ensures { λ r. ⌜ (r ≡ b) × (r < 256) ⌝ }
+{
+    b as u64
+}
+
+fn is_digit(b: u64) -> bool
+    ensures { λ r. ⌜ r ≡ isDigit b ⌝ }
+{
+    (48 <= b) & (b <= 57)
+}
+
+// The number of the digits from at on; 2^63 + 1 if it is above 2^63, or if anything but digits stands there.
+fn magnitude(s: &[u8], at: usize) -> u64
+    ensures { λ r. ⌜ r ≡ capped (digitsOf (drop at (now (s .entry)))) ⌝ }
+{
+    if s.len() <= at {
+        return 0x8000_0000_0000_0001;
+    }
+    let mut n: u64 = 0;
+    let mut i = at;
+    while i < s.len() {
+        let b = wide(s[i]);
+        if !is_digit(b) {
+            return 0x8000_0000_0000_0001;
+        }
+        if 922337203685477580 < n {
+            return 0x8000_0000_0000_0001;
+        }
+        n = 10 * n + (b - 48);
+        i += 1;
+    }
+    n
+}
+
+fn non_negative(m: u64) -> Parsed
+    ensures { λ r. ⌜ valueOf r ≡ nonNegative m ⌝ }
+{
+    if 0x8000_0000_0000_0000 <= m {
+        return Parsed::Nothing;
+    }
+    Parsed::Value(numbers::integer(m))
+}
+
+fn negative(m: u64) -> Parsed
+    ensures { λ r. ⌜ valueOf r ≡ Text·negative m ⌝ }
+{
+    if m < 0x8000_0000_0000_0000 {
+        return Parsed::Value(numbers::difference(0, m));
+    }
+    if m == 0x8000_0000_0000_0000 {
+        return Parsed::Value(i64::MIN);
+    }
+    Parsed::Nothing
+}
+
+// The number that a word stands for.
+pub fn number(s: &[u8]) -> Parsed
+    ensures { λ r. ⌜ valueOf r ≡ numberOf (now (s .entry)) ⌝ }
+{
+    if s.len() == 0 {
+        return Parsed::Nothing;
+    }
+    if s[0] == b'-' {
+        return negative(magnitude(s, 1));
+    }
+    non_negative(magnitude(s, 0))
+}
+
+// The first place from at on that holds no space.
+pub fn skip(line: &[u8], at: usize) -> usize
+    requires { ⌜ at ≤ length (now line) ⌝ }
+    ensures { λ r. ⌜ Skipped (now (line .entry)) at r ⌝ }
+{
+    let mut i = at;
+    while i < line.len() {
+        if line[i] != b' ' {
+            return i;
+        }
+        i += 1;
+    }
+    i
+}
+
+// The first place from at on that holds a space.
+pub fn word_end(line: &[u8], at: usize) -> usize
+    requires { ⌜ at ≤ length (now line) ⌝ }
+    ensures { λ r. ⌜ Ended (now (line .entry)) at r ⌝ }
+{
+    let mut i = at;
+    while i < line.len() {
+        if line[i] == b' ' {
+            return i;
+        }
+        i += 1;
+    }
+    i
+}
+
+fn same(a: &[u8], b: &[u8]) -> bool
+    ensures { λ r. ⌜ r ≡ sameBytes (now (a .entry)) (now (b .entry)) ⌝ }
+{
+    if a.len() != b.len() {
+        return false;
+    }
+    let mut i = 0;
+    while i < a.len() {
+        if a[i] != b[i] {
+            return false;
+        }
+        i += 1;
+    }
+    true
+}
+
+fn notice(w: &[u8]) -> Call
+    ensures { λ r. ⌜ r ≡ noticeOf (now (w .entry)) ⌝ }
+{
+    if same(w, b"fresh") {
+        return Call::Fresh;
+    }
+    if same(w, b"open") {
+        return Call::Open;
+    }
+    if same(w, b"energy") {
+        return Call::Energy;
+    }
+    if same(w, b"status") {
+        return Call::Status;
+    }
+    if same(w, b"request") {
+        return Call::Request;
+    }
+    if same(w, b"withdraw") {
+        return Call::Withdraw;
+    }
+    Call::Unknown
+}
+
+// The call that a word names.
+pub fn named(w: &[u8]) -> Call
+    ensures { λ r. ⌜ r ≡ callOf (now (w .entry)) ⌝ }
+{
+    if same(w, b"date") {
+        return Call::Date;
+    }
+    if same(w, b"look") {
+        return Call::Look;
+    }
+    if same(w, b"poke") {
+        return Call::Poke;
+    }
+    if same(w, b"tlen") {
+        return Call::Lend;
+    }
+    if same(w, b"table") {
+        return Call::Table;
+    }
+    notice(w)
+}
+
+// Reads the words from at on as numbers.
+pub fn take_numbers(line: &[u8], at: usize, nums: &mut [i64]) -> Taken
+    requires { ⌜ (at ≤ length (now line)) × (length (now line) ≤ at + 2 * length (now nums)) ⌝ }
+    ensures { λ r. ⌜ (readInto r (now (nums .exit)) ≡ numbersOf (wordsOf (drop at (now (line .entry))))) × (countOf r ≤ length (now (nums .entry))) ⌝ }
+{
+    let mut n = 0;
+    let mut i = skip(line, at);
+    while i < line.len() {
+        let e = word_end(line, i);
+        let Parsed::Value(x) = number(&line[i..e]) else {
+            return Taken::Nothing;
+        };
+        nums[n] = x;
+        n += 1;
+        if e == line.len() {
+            return Taken::Count(n);
+        }
+        i = skip(line, e + 1);
+    }
+    Taken::Count(n)
+}

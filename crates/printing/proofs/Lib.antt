@@ -1,0 +1,2 @@
+-- Laws of printed rows.
+pub mod Rows

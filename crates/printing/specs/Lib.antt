@@ -1,0 +1,2 @@
+-- Rows of numbers as text.
+pub mod Rows

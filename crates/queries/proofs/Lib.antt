@@ -1,0 +1,2 @@
+-- Laws of these calls.
+pub mod Lines

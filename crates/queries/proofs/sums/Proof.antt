@@ -1,0 +1,71 @@
+use mathlib.Core.Path.{_≡_, refl, sym, ap, _∙_}
+use Prim.Native.Nat.{ℕ, _-_, _≤_}
+use lib.IntN.{pos}
+use lib.ListN.{length, drop, getD}
+use mir.Facts.{toZ-ofZ}
+use mir.Syntax.{w64}
+use mir.Val.{ofZ}
+use Rattle.queries.specs.Sums.{sumsFrom, sumsOf}
+use Rattle.queries.proofs.Lines.{sums-more, sums-end}
+use borrow.Author.Needs.{needs}
+use Rattle.queries.proofs.sums.Statement.{statement}
+use Rattle.queries.proofs.sums.Tie as tie
+
+abbrev Inv-loop : tie.InvT-loop
+Inv-loop t s1₀ s2₀ i₀ s1 s2 i = (i ≤ length t) × (sumsFrom s1 s2 (drop i t) ≡ sumsOf t)
+
+abbrev μ-loop : tie.MeasureT-loop
+μ-loop t s1₀ s2₀ i₀ s1 s2 i = length t - i
+
+loop-holds : tie.Need-loop-holds Inv-loop μ-loop
+unfolding sumsOf
+loop-holds c = (search needs, refl)
+
+mul-bits : tie.Need-mul-bits Inv-loop μ-loop
+mul-bits c = search needs
+
+shared-slice-copy-out-bits : tie.Need-shared-slice-copy-out-bits Inv-loop μ-loop
+shared-slice-copy-out-bits c = search needs
+
+bits-requires : tie.Need-bits-requires Inv-loop μ-loop
+bits-requires c κs = search needs
+
+wrapping-add-u64-requires : tie.Need-wrapping-add-u64-requires Inv-loop μ-loop
+wrapping-add-u64-requires c κs = search needs
+
+wrapping-add-u64-requires-2 : tie.Need-wrapping-add-u64-requires-2 Inv-loop μ-loop
+wrapping-add-u64-requires-2 c κs = search needs
+
+add-i : tie.Need-add-i Inv-loop μ-loop
+add-i c = search needs
+
+loop-less : tie.Need-loop-less Inv-loop μ-loop
+loop-less c = search needs
+
+loop-again : tie.Need-loop-again Inv-loop μ-loop
+loop-again c =
+    let l = c .before .before .before .before .before .loop in
+    (search needs, sums-more (c .before .before .before .before .before .before .args .t .now) (l .i) (l .s1) (l .s2) (c .before .before .bits .result) (c .before .wrapping-add-u64 .result) (c .wrapping-add-u642 .result) (c .before .before .before .before .loop-test .taken) (c .before .before .bits .ensures ∙ ap (ofZ w64) (toZ-ofZ {w = w64} {z = getD (c .before .before .before .before .before .before .args .t .now) (l .i) (pos 0)} (search needs))) (c .before .wrapping-add-u64 .ensures) (c .wrapping-add-u642 .ensures) ∙ l .inv .1)
+
+returns : tie.Need-returns Inv-loop μ-loop
+returns c =
+    let l = c .before .loop in
+    let e = sym (sums-end (c .before .before .args .t .now) (l .i) (l .s1) (l .s2) (c .loop-test .left)) ∙ l .inv .1 in
+    (ap (λ (p : ℕ × ℕ). p .0) e, ap (λ (p : ℕ × ℕ). p .1) e)
+
+pub sums-spec : {M : Type 1} → statement M
+sums-spec =
+    tie.close
+    (tie.spec
+    Inv-loop
+    μ-loop
+    loop-holds
+    mul-bits
+    shared-slice-copy-out-bits
+    bits-requires
+    wrapping-add-u64-requires
+    wrapping-add-u64-requires-2
+    add-i
+    loop-less
+    loop-again
+    returns)

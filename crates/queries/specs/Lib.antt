@@ -1,0 +1,3 @@
+-- What the other calls of a journal print and leave.
+pub mod Sums
+pub mod Lines

@@ -1,0 +1,68 @@
+use Prim.Native.Nat.{_-_, _*_, _≤_}
+use mathlib.Core.Path.{_≡_, sym, ap, _∙_}
+use native.Mathlib.Omega.{arith}
+use lib.IntN.{pos}
+use Rattle.numbers.specs.Sums.{sumFrom}
+use Rattle.numbers.proofs.Sums.{sum-none, count-turn}
+use Rattle.numbers.proofs.Integers.{pos-same}
+use Rattle.readings.specs.Records.{recordOf, partBetween, countOf}
+use Rattle.readings.proofs.Part.{part-counted}
+use Rattle.readings.proofs.Days.{filled-by-rows}
+use borrow.Author.Needs.{needs}
+use Rattle.readings.proofs.filled_between.Statement.{statement}
+use Rattle.readings.proofs.filled_between.Tie as tie
+
+abbrev Inv-loop : tie.InvT-loop
+Inv-loop p x y n sum₀ k₀ sum k =
+    (k ≤ n) × (sum ≤ 40000 * k) × (sumFrom (λ k. partBetween countOf x y (recordOf p k)) 0 k ≡ pos sum)
+
+abbrev μ-loop : tie.MeasureT-loop
+μ-loop p x y n sum₀ k₀ sum k = n - k
+
+get-requires : tie.Need-get-requires Inv-loop μ-loop
+get-requires c κs = search needs
+
+loop-holds : tie.Need-loop-holds Inv-loop μ-loop
+loop-holds c = (omega arith, omega arith, sum-none _ 0)
+
+record-days-requires : tie.Need-record-days-requires Inv-loop μ-loop
+record-days-requires c κs = search needs
+
+add-sum : tie.Need-add-sum Inv-loop μ-loop
+add-sum c = let h = part-counted (c .before .before .before .before .pre .0) in search needs
+
+add-k : tie.Need-add-k Inv-loop μ-loop
+add-k c = search needs
+
+loop-less : tie.Need-loop-less Inv-loop μ-loop
+loop-less c = search needs
+
+loop-again : tie.Need-loop-again Inv-loop μ-loop
+loop-again c =
+    let l = c .before .before .loop in
+    (search needs, search needs, count-turn _ (l .k) (l .sum) _ (l .inv .2) (c .record-days .ensures .0))
+
+returns : tie.Need-returns Inv-loop μ-loop
+returns c =
+    let s = c .before .before .before in
+    let l = c .before .loop in
+    let e : l .k ≡ c .before .before .get .result = omega arith in
+    pos-same
+    (sym (l .inv .2)
+    ∙ ap (sumFrom _ 0) (e ∙ c .before .before .get .ensures .0)
+    ∙ filled-by-rows (s .pre .0) (s .args .x) (s .args .y) (s .pre .1))
+
+pub filled-between-spec : {M : Type 1} → statement M
+filled-between-spec =
+    tie.close
+    (tie.spec
+    Inv-loop
+    μ-loop
+    get-requires
+    loop-holds
+    record-days-requires
+    add-sum
+    add-k
+    loop-less
+    loop-again
+    returns)

@@ -1,0 +1,23 @@
+use mathlib.Core.Path.{ap, _∙_}
+use mathlib.Core.Bool.{not}
+use Rattle.point.specs.Tests.{noOff}
+use Rattle.readings.proofs.Part.{part-counted}
+use Rattle.readings.proofs.Users.{off-is}
+use borrow.Author.Needs.{needs}
+use Rattle.readings.proofs.off_on.Statement.{statement}
+use Rattle.readings.proofs.off_on.Tie as tie
+
+get-requires : tie.Need-get-requires
+get-requires c κs = search needs
+
+no-off-requires : tie.Need-no-off-requires
+no-off-requires c κs = let h = part-counted (c .before .pre .0) in search needs
+
+returns : tie.Need-returns
+returns c =
+    let s = c .before .before in
+    ap not (c .no-off .ensures ∙ ap (λ n. noOff (s .args .p .now) n (s .args .g) (s .args .g)) (c .before .get .ensures .0))
+    ∙ off-is (s .pre .0) (s .args .g) (s .pre .1)
+
+pub off-on-spec : {M : Type 1} → statement M
+off-on-spec = tie.close (tie.spec get-requires no-off-requires returns)

@@ -1,0 +1,135 @@
+use Prim.Native.Nat.{_+_, _-_}
+use mathlib.Core.Path.{_≡_, sym, ap₂, _∙_}
+use native.Mathlib.Omega.{arith}
+use Rattle.daybook.specs.Book.{Entry}
+use Rattle.readings.specs.Readings.{daysBefore}
+use Rattle.readings.specs.Records.{recordOf, partialOf}
+use Rattle.readings.proofs.Part.{part-counted, RecordOk, record-ok}
+use Rattle.readings.proofs.Records.{part-none}
+use Rattle.readings.proofs.Energy.{Parts, parts-near, parts-are}
+use borrow.Author.Needs.{needs}
+use Rattle.readings.proofs.record_energy.Statement.{statement}
+use Rattle.readings.proofs.record_energy.Tie as tie
+
+-- the record that is read, and its days before x and before y
+abbrev read : tie.Start → Entry
+read s = recordOf (s .args .p .now) (s .args .k)
+
+row : (s : tie.Start) → RecordOk (read s)
+row s = record-ok (s .pre .0) (s .args .k) (s .pre .1)
+
+before-x : (c : tie.After-days-before)
+    → let s : tie.Start = c .before .before .before in
+    c .days-before .result ≡ daysBefore (read s .start) (read s .end) (s .args .x)
+unfolding recordOf
+before-x c =
+    c .days-before .ensures .0
+    ∙ ap₂ (λ a b. daysBefore a b (c .before .before .before .args .x)) (c .before .before .get .ensures .0) (c .before .get2 .ensures .0)
+
+before-y : (c : tie.After-days-before2)
+    → let s : tie.Start = c .before .before .before .before in
+    c .days-before2 .result ≡ daysBefore (read s .start) (read s .end) (s .args .y)
+unfolding recordOf
+before-y c =
+    c .days-before2 .ensures .0
+    ∙ ap₂ (λ a b. daysBefore a b (c .before .before .before .before .args .y)) (c .before .before .before .get .ensures .0) (c .before .before .get2 .ensures .0)
+
+mul-at : tie.Need-mul-at
+mul-at c = let h = part-counted (c .pre .0) in search needs
+
+add-at : tie.Need-add-at
+add-at c = let h = part-counted (c .pre .0) in search needs
+
+get-requires : tie.Need-get-requires
+get-requires c κs = let h = part-counted (c .pre .0) in search needs
+
+add-get : tie.Need-add-get
+add-get c = let h = part-counted (c .before .pre .0) in search needs
+
+get-requires-2 : tie.Need-get-requires-2
+get-requires-2 c κs = let h = part-counted (c .before .pre .0) in search needs
+
+days-before-requires : tie.Need-days-before-requires
+unfolding recordOf
+days-before-requires c κs = let h = row (c .before .before) in omega arith
+
+days-before-requires-2 : tie.Need-days-before-requires-2
+unfolding recordOf
+days-before-requires-2 c κs = let h = row (c .before .before .before) in omega arith
+
+returns : tie.Need-returns
+returns c =
+    let s = c .before .before .before .before .before in
+    (sym (part-none partialOf (s .args .x) (s .args .y) (read s) (sym (before-x (c .before .before)) ∙ c .if1 .taken ∙ before-y (c .before))), search needs)
+
+add-get-energy : tie.Need-add-get-energy
+add-get-energy c = let h = part-counted (c .before .before .before .before .before .pre .0) in search needs
+
+get-energy-requires : tie.Need-get-energy-requires
+get-energy-requires c κs = let h = part-counted (c .before .before .before .before .before .pre .0) in search needs
+
+add-n : tie.Need-add-n
+add-n c = search needs
+
+sub-n : tie.Need-sub-n
+sub-n c = search needs
+
+partial-energy-requires : tie.Need-partial-energy-requires
+unfolding recordOf
+partial-energy-requires c κs = let h = row (c .before .before .before .before .before .before) in omega arith
+
+add-result : tie.Need-add-result
+add-result c = search needs
+
+partial-energy-requires-2 : tie.Need-partial-energy-requires-2
+unfolding recordOf
+partial-energy-requires-2 c κs = let h = row (c .before .before .before .before .before .before .before) in omega arith
+
+-- what is at hand where the two parts have been read
+parts : (c : tie.After-partial-energy2)
+    → let d : tie.After-days-before2 = c .before .before .before .before in
+    let s : tie.Start = d .before .before .before .before in
+    Parts (read s) (s .args .x) (s .args .y) (c .before .before .get-energy .result)
+    (d .before .before .get2 .result + 1 - d .before .before .before .get .result)
+    (d .before .days-before .result) (d .days-before2 .result) (c .partial-energy2 .result) (c .before .partial-energy .result)
+unfolding recordOf
+parts c =
+    let d = c .before .before .before .before in
+    record {
+      raised = c .before .before .get-energy .ensures;
+      days = omega (arith, d .before .before .get2 .ensures .0, d .before .before .before .get .ensures .0);
+      beforeX = before-x (d .before);
+      beforeY = before-y d;
+      firstI = c .partial-energy2 .ensures .0;
+      firstJ = c .before .partial-energy .ensures .0;
+    }
+
+sub-result : tie.Need-sub-result
+sub-result c = parts-near (row (c .before .before .before .before .before .before .before .before)) (parts c) .0
+
+returns-2 : tie.Need-returns-2
+returns-2 c =
+    let k = row (c .before .before .before .before .before .before .before .before) in
+    (parts-are k (parts c), omega (arith, parts-near k (parts c) .1))
+
+pub record-energy-spec : {M : Type 1} → statement M
+record-energy-spec =
+    tie.close
+    (tie.spec
+    mul-at
+    add-at
+    get-requires
+    add-get
+    get-requires-2
+    days-before-requires
+    days-before-requires-2
+    returns
+    add-get-energy
+    get-energy-requires
+    add-n
+    sub-n
+    partial-energy-requires
+    add-result
+    partial-energy-requires-2
+    sub-result
+    returns-2)

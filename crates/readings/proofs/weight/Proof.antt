@@ -1,0 +1,83 @@
+use mathlib.Core.Path.{_≡_, sym, ap₂, _∙_}
+use mathlib.Core.Bool.{_&&_}
+use native.Mathlib.Omega.{arith}
+use borrow.Author.Tests.{not-true, not-false}
+use lib.Dec.{eqb}
+use Rattle.daybook.specs.Book.{Point}
+use Rattle.daybook.specs.Queries.{active}
+use Rattle.readings.specs.Readings.{pointAt}
+use Rattle.readings.proofs.Part.{part-counted}
+use Rattle.readings.proofs.Users.{kind-is, base-is, base-few}
+use Rattle.readings.proofs.Weights.{weight-none, weight-base, weight-measured}
+use borrow.Author.Needs.{needs}
+use Rattle.readings.proofs.weight.Statement.{statement}
+use Rattle.readings.proofs.weight.Tie as tie
+
+-- the point, and what the test decides
+abbrev point : tie.Start → Point
+point s = pointAt (s .args .p .now)
+
+test-is : (c : tie.After-get)
+    → let s : tie.Start = c .before .before in
+    (c .before .active .result && eqb (c .get .result) 0) ≡ (active (s .args .g) (point s) && eqb (point s .facts .kind) 0)
+test-is c = ap₂ (λ a k. a && eqb k 0) (c .before .active .ensures) (c .get .ensures .0 ∙ kind-is (c .before .before .args .p .now))
+
+active-requires : tie.Need-active-requires
+active-requires c κs = search needs
+
+get-requires : tie.Need-get-requires
+get-requires c κs = search needs
+
+returns : tie.Need-returns
+returns c =
+    let t = c .before in
+    let s = t .before .before in
+    (weight-none (point s) (s .args .g) (s .args .a) (s .args .b) (sym (test-is t) ∙ not-true _ (c .if1 .taken)), search needs)
+
+add-filled-between : tie.Need-add-filled-between
+add-filled-between c = search needs
+
+filled-between-requires : tie.Need-filled-between-requires
+filled-between-requires c κs = search needs
+
+get-requires-2 : tie.Need-get-requires-2
+get-requires-2 c κs = search needs
+
+returns-2 : tie.Need-returns-2
+returns-2 c =
+    let i = c .before .before .before in
+    let s = i .before .before .before in
+    let h = base-few (s .pre .0) in
+    let none = sym (c .before .before .filled-between .ensures) ∙ c .before .if2 .taken in (
+      c .get2 .ensures .0 ∙ base-is (s .args .p .now)
+          ∙ weight-base (point s) (s .args .g) (s .args .a) (s .args .b) (sym (test-is (i .before)) ∙ not-false _ (i .if1 .left)) none,
+      omega arith,
+    )
+
+measured-requires : tie.Need-measured-requires
+measured-requires c κs = search needs
+
+returns-3 : tie.Need-returns-3
+returns-3 c =
+    let i = c .before .before .before in
+    let s = i .before .before .before in
+    let h = part-counted (s .pre .0) in (
+      c .measured .ensures .0
+          ∙ weight-measured (point s) (s .args .g) (s .args .a) (s .args .b) (sym (test-is (i .before)) ∙ not-false _ (i .if1 .left))
+          (λ e. c .before .if2 .left (c .before .before .filled-between .ensures ∙ e)),
+      omega arith,
+    )
+
+pub weight-spec : {M : Type 1} → statement M
+weight-spec =
+    tie.close
+    (tie.spec
+    active-requires
+    get-requires
+    returns
+    add-filled-between
+    filled-between-requires
+    get-requires-2
+    returns-2
+    measured-requires
+    returns-3)
