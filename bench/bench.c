@@ -13,6 +13,9 @@
 
 enum { BYTES = PETLUMAS_REGISTER_BYTES, POINTS = 32, RECORDS = 48, REGISTRATIONS = 8 };
 
+/* Many short batches: the least time is then one that no other program disturbed. */
+enum { ROUNDS = 200, BATCH = 20, DAYS_BATCH = 2 };
+
 struct both {
     uint8_t bytes[BYTES];
     int64_t table[REGISTER_NUMBERS];
@@ -285,7 +288,7 @@ struct pair {
 static struct pair time_pair(timed *first, const int64_t *first_args, timed *second,
                              const int64_t *second_args, struct both *both, int calls) {
     struct pair least = {1e18, 1e18};
-    for (int round = 0; round < 25; round++) {
+    for (int round = 0; round < ROUNDS; round++) {
         double a = time_batch(first, both, first_args, calls);
         double b = time_batch(second, both, second_args, calls);
         least.first = a < least.first ? a : least.first;
@@ -309,11 +312,12 @@ static void time_against_c(const char *which, struct both *both) {
     notice[1] = both->table[record];
     notice[2] = both->table[record + 1];
     printf("%-44s %10s %10s %8s\n", which, "library", "plain C", "ratio");
-    print_row("  energy", time_pair(time_library_energy, notice, time_c_energy, notice, both, 200));
+    print_row("  energy",
+              time_pair(time_library_energy, notice, time_c_energy, notice, both, BATCH));
     print_row("  account over days 0 to 39,999",
-              time_pair(time_library_account, account, time_c_account, account, both, 200));
+              time_pair(time_library_account, account, time_c_account, account, both, BATCH));
     print_row("  allocate over 400 days",
-              time_pair(time_library_allocate, allocate, time_c_allocate, allocate, both, 200));
+              time_pair(time_library_allocate, allocate, time_c_allocate, allocate, both, BATCH));
     putchar('\n');
 }
 
@@ -322,12 +326,12 @@ static void time_days(const char *which, struct both *both) {
     const int64_t one_day[ARGS_MOST] = {1, 20000, 20000};
     const int64_t window[ARGS_MOST] = {1, 19600, 19999};
     const int64_t allocate[ARGS_MOST] = {20000, 19600, 19999, 1000000000, 0, 0};
-    struct pair walk =
-        time_pair(time_library_account, all_days, time_c_account_by_days, all_days, both, 20);
+    struct pair walk = time_pair(time_library_account, all_days, time_c_account_by_days, all_days,
+                                 both, DAYS_BATCH);
     struct pair span =
-        time_pair(time_library_account, all_days, time_library_account, one_day, both, 200);
+        time_pair(time_library_account, all_days, time_library_account, one_day, both, BATCH);
     struct pair three =
-        time_pair(time_library_allocate, allocate, time_library_account, window, both, 200);
+        time_pair(time_library_allocate, allocate, time_library_account, window, both, BATCH);
     puts(which);
     printf("  library's account of all days %.2f, a C loop over the days %.2f, %.0f times\n",
            walk.first, walk.second, walk.second / walk.first);
@@ -347,7 +351,7 @@ int main(int argc, char **argv) {
     make_full(&full, false);
     make_full(&spans, true);
     make_empty(&empty);
-    puts("microseconds a call, the least of 25 batches");
+    puts("microseconds a call, the least of many short batches");
     time_against_c("full register", &full);
     time_against_c("full register, 8 off spans a point", &spans);
     time_against_c("empty register", &empty);
