@@ -1,0 +1,472 @@
+#include "plain.h"
+
+#include <string.h>
+
+enum {
+    TABLE = 7688,
+    HEADER = 8,
+    STRIDE = 240,
+    POINTS = 32,
+    REGISTRATIONS = 8,
+    SPANS = 8,
+    RECORDS = 48,
+    LAST_DAY = 39999,
+    ENERGY_MOST = 1000000,
+    AMOUNT_MOST = 1000000000,
+    USERS = 16,
+};
+
+static const int64_t MIRN_MOST = 9999999999;
+
+/* Places of a point's numbers. */
+enum {
+    MIRN,
+    KIND,
+    INSTALL,
+    BASE,
+    REGISTRATION_COUNT,
+    SPAN_COUNT,
+    RECORD_COUNT,
+    PENDING,
+    FIRST,
+    LAST,
+    SPARE,
+    REGISTRATION_ROWS = 16, /* start, User */
+    SPAN_ROWS = 32,         /* off day, on day or -1 */
+    RECORD_ROWS = 48,       /* start, end, energy, type */
+};
+
+static bool within(int64_t x, int64_t least, int64_t most) {
+    return least <= x && x <= most;
+}
+
+static bool is_day(int64_t x) {
+    return within(x, 0, LAST_DAY);
+}
+
+static bool all_zero(const int64_t *from, const int64_t *to) {
+    int64_t any = 0;
+    while (from < to)
+        any |= *from++;
+    return any == 0;
+}
+
+static int64_t least(int64_t a, int64_t b) {
+    return a < b ? a : b;
+}
+
+static int64_t most(int64_t a, int64_t b) {
+    return a > b ? a : b;
+}
+
+/* n > 0 */
+static int64_t floor_div(int64_t x, int64_t n) {
+    return x / n - (x % n < 0);
+}
+
+static const int64_t *registrations(const int64_t *p) {
+    return p + REGISTRATION_ROWS;
+}
+
+static const int64_t *registrations_end(const int64_t *p) {
+    return p + REGISTRATION_ROWS + 2 * p[REGISTRATION_COUNT];
+}
+
+static const int64_t *spans(const int64_t *p) {
+    return p + SPAN_ROWS;
+}
+
+static const int64_t *spans_end(const int64_t *p) {
+    return p + SPAN_ROWS + 2 * p[SPAN_COUNT];
+}
+
+static const int64_t *records(const int64_t *p) {
+    return p + RECORD_ROWS;
+}
+
+static const int64_t *records_end(const int64_t *p) {
+    return p + RECORD_ROWS + 4 * p[RECORD_COUNT];
+}
+
+static const int64_t *points_end(const int64_t *table) {
+    return table + HEADER + STRIDE * table[0];
+}
+
+/* ---- soundness */
+
+static bool facts_sound(const int64_t *p) {
+    return within(p[MIRN], 1, MIRN_MOST) && within(p[KIND], 0, 1) && is_day(p[INSTALL]) &&
+           within(p[BASE], 0, 10000) && within(p[REGISTRATION_COUNT], 1, REGISTRATIONS) &&
+           within(p[SPAN_COUNT], 0, SPANS) && within(p[RECORD_COUNT], 0, RECORDS) &&
+           all_zero(p + SPARE, p + REGISTRATION_ROWS);
+}
+
+static bool registrations_sound(const int64_t *p) {
+    const int64_t *end = registrations_end(p);
+    if (p[REGISTRATION_ROWS] != p[INSTALL])
+        return false;
+    for (const int64_t *r = registrations(p); r < end; r += 2) {
+        if (!within(r[1], 1, USERS))
+            return false;
+        if (r > registrations(p) && (r[0] <= r[-2] || r[0] > LAST_DAY + 1 || r[1] == r[-1]))
+            return false;
+    }
+    return all_zero(end, p + SPAN_ROWS);
+}
+
+static bool spans_sound(const int64_t *p) {
+    const int64_t *end = spans_end(p);
+    int64_t from = p[INSTALL];
+    for (const int64_t *s = spans(p); s < end; s += 2) {
+        if (!within(s[0], from, LAST_DAY))
+            return false;
+        if (s[1] == -1 && s + 2 == end)
+            break;
+        if (!within(s[1], s[0] + 1, LAST_DAY))
+            return false;
+        from = s[1] + 1;
+    }
+    return all_zero(end, p + RECORD_ROWS);
+}
+
+static bool record_fits(const int64_t *p, const int64_t *r) {
+    return is_day(r[1]) && (p[KIND] == 1 ? r[0] == r[1] : r[0] < r[1]) &&
+           within(r[2], -ENERGY_MOST, ENERGY_MOST) && within(r[3], 0, 2);
+}
+
+/* Records and spans ascend, so one pass over both finds each record's only possible start. */
+static bool records_sound(const int64_t *p) {
+    const int64_t *s = spans(p);
+    const int64_t *off_end = spans_end(p);
+    const int64_t *end = records_end(p);
+    int64_t day = p[INSTALL];
+    for (const int64_t *r = records(p); r < end; r += 4) {
+        while (s < off_end && s[1] != -1 && s[1] <= day)
+            s += 2;
+        if (s < off_end && s[0] <= day) {
+            if (s[1] == -1)
+                return false;
+            day = s[1];
+            s += 2;
+        }
+        if (r[0] != day || !record_fits(p, r) || (s < off_end && s[0] <= r[1]))
+            return false;
+        day = r[1] + 1;
+    }
+    return all_zero(end, p + STRIDE);
+}
+
+static bool pending_sound(const int64_t *p) {
+    if (p[PENDING] == 0)
+        return p[FIRST] == 0 && p[LAST] == 0;
+    return within(p[PENDING], 1, USERS) && p[PENDING] != registrations_end(p)[-1] &&
+           is_day(p[FIRST]) && within(p[LAST], p[FIRST], LAST_DAY) &&
+           p[REGISTRATION_COUNT] < REGISTRATIONS;
+}
+
+static bool mirns_differ(const int64_t *table) {
+    const int64_t *end = points_end(table);
+    for (const int64_t *p = table + HEADER; p < end; p += STRIDE)
+        for (const int64_t *q = table + HEADER; q < p; q += STRIDE)
+            if (p[MIRN] == q[MIRN])
+                return false;
+    return true;
+}
+
+bool plain_sound(const int64_t *table, size_t length) {
+    if (length < TABLE || !within(table[0], 0, POINTS) || !within(table[1], -1, ENERGY_MOST) ||
+        !within(table[2], -1, ENERGY_MOST) || !all_zero(table + 3, table + HEADER))
+        return false;
+    const int64_t *end = points_end(table);
+    for (const int64_t *p = table + HEADER; p < end; p += STRIDE)
+        if (!facts_sound(p) || !registrations_sound(p) || !spans_sound(p) || !records_sound(p) ||
+            !pending_sound(p))
+            return false;
+    return mirns_differ(table) && all_zero(end, table + TABLE);
+}
+
+/* ---- energy */
+
+static int64_t *find_point(int64_t *table, int64_t mirn) {
+    int64_t *p = table + HEADER;
+    for (int64_t i = 0; i < table[0]; i++, p += STRIDE)
+        if (p[MIRN] == mirn)
+            return p;
+    return NULL;
+}
+
+/* The row of the record with this start, or the count of records. */
+static int64_t find_record(const int64_t *p, int64_t start) {
+    for (int64_t i = 0; i < p[RECORD_COUNT]; i++)
+        if (records(p)[4 * i] == start)
+            return i;
+    return p[RECORD_COUNT];
+}
+
+static bool any_off(const int64_t *p, int64_t from, int64_t to) {
+    for (const int64_t *s = spans(p); s < spans_end(p); s += 2)
+        if (s[0] <= to && (s[1] == -1 || from < s[1]))
+            return true;
+    return false;
+}
+
+/* -1 if the point is off for good from there on. */
+static int64_t append_day(const int64_t *p) {
+    int64_t day = p[RECORD_COUNT] == 0 ? p[INSTALL] : records_end(p)[-3] + 1;
+    for (const int64_t *s = spans(p); s < spans_end(p); s += 2)
+        if (s[0] <= day && (s[1] == -1 || day < s[1]))
+            return s[1];
+    return day;
+}
+
+static int64_t refuse_record(const int64_t *table, const int64_t *p, int64_t row, int64_t start,
+                             int64_t end, int64_t energy, int64_t confirmed) {
+    int64_t range = table[1 + p[KIND]];
+    bool append = row == p[RECORD_COUNT];
+    if (p[KIND] == 0 ? start >= end : start != end)
+        return 6;
+    if (append && start != append_day(p))
+        return 7;
+    if (any_off(p, start, end))
+        return 8;
+    if (range >= 0 && confirmed == 0 && !within(energy, -range, range))
+        return 9;
+    if (append && row == RECORDS)
+        return 16;
+    return 0;
+}
+
+/* A pending request after a record that ends on this day. */
+static void settle(int64_t *p, int64_t end, struct plain_energy *answer) {
+    if (p[PENDING] == 0)
+        return;
+    if (within(end, p[FIRST], p[LAST])) {
+        int64_t *next = p + REGISTRATION_ROWS + 2 * p[REGISTRATION_COUNT];
+        if (end + 1 <= next[-2])
+            return;
+        next[0] = end + 1;
+        next[1] = p[PENDING];
+        p[REGISTRATION_COUNT]++;
+        answer->user = p[PENDING];
+    } else if (end > p[LAST]) {
+        answer->lapsed = 1;
+    } else {
+        return;
+    }
+    p[PENDING] = p[FIRST] = p[LAST] = 0;
+}
+
+static struct plain_energy enter(int64_t *p, int64_t row, int64_t start, int64_t end,
+                                 int64_t energy, int64_t type) {
+    struct plain_energy answer = {0, 1, 0, 0, 0};
+    int64_t *r = p + RECORD_ROWS + 4 * row;
+    if (row == p[RECORD_COUNT]) {
+        p[RECORD_COUNT]++;
+    } else if (r[1] == end) {
+        answer.which = 2;
+    } else {
+        answer.which = 3;
+        answer.removed = p[RECORD_COUNT] - row - 1;
+        memset(r + 4, 0, (size_t)answer.removed * 4 * sizeof *r);
+        p[RECORD_COUNT] = row + 1;
+    }
+    r[0] = start;
+    r[1] = end;
+    r[2] = energy;
+    r[3] = type;
+    settle(p, end, &answer);
+    return answer;
+}
+
+struct plain_energy plain_energy(int64_t *table, size_t length, int64_t mirn, int64_t start,
+                                 int64_t end, int64_t energy, int64_t type, int64_t confirmed) {
+    if (!plain_sound(table, length))
+        return (struct plain_energy){1, 0, 0, 0, 0};
+    if (!within(mirn, 1, MIRN_MOST) || !is_day(start) || !is_day(end) ||
+        !within(energy, -ENERGY_MOST, ENERGY_MOST) || !within(type, 0, 2) ||
+        !within(confirmed, 0, 1))
+        return (struct plain_energy){2, 0, 0, 0, 0};
+    int64_t *p = find_point(table, mirn);
+    if (p == NULL)
+        return (struct plain_energy){4, 0, 0, 0, 0};
+    int64_t row = find_record(p, start);
+    int64_t refusal = refuse_record(table, p, row, start, end, energy, confirmed);
+    if (refusal != 0)
+        return (struct plain_energy){refusal, 0, 0, 0, 0};
+    return enter(p, row, start, end, energy, type);
+}
+
+/* ---- account */
+
+/* The energy of a record's first k days. */
+static int64_t first_days(const int64_t *r, int64_t k) {
+    return floor_div(r[2] * k, r[1] - r[0] + 1);
+}
+
+/* The shares of the days from to to; *filled is set where a record has one of them. */
+static int64_t shares_between(const int64_t *p, int64_t from, int64_t to, bool *filled) {
+    int64_t sum = 0;
+    if (from > to)
+        return 0;
+    for (const int64_t *r = records(p); r < records_end(p) && r[0] <= to; r += 4) {
+        if (r[1] < from)
+            continue;
+        *filled = true;
+        int64_t a = most(from, r[0]) - r[0];
+        int64_t b = least(to, r[1]) - r[0] + 1;
+        sum += first_days(r, b) - first_days(r, a);
+    }
+    return sum;
+}
+
+static int64_t registration_last(const int64_t *p, const int64_t *r) {
+    return r + 2 < registrations_end(p) ? r[2] - 1 : LAST_DAY;
+}
+
+static int64_t refuse_account(const int64_t *table, size_t length, int64_t user, int64_t from,
+                              int64_t to) {
+    if (!plain_sound(table, length))
+        return 1;
+    return within(user, 1, USERS) && is_day(from) && is_day(to) && from <= to ? 0 : 2;
+}
+
+struct plain_account plain_account(const int64_t *table, size_t length, int64_t user, int64_t from,
+                                   int64_t to) {
+    struct plain_account answer = {refuse_account(table, length, user, from, to), 0};
+    if (answer.refusal != 0)
+        return answer;
+    bool filled;
+    for (const int64_t *p = table + HEADER; p < points_end(table); p += STRIDE)
+        for (const int64_t *r = registrations(p); r < registrations_end(p); r += 2)
+            if (r[1] == user)
+                answer.sum += shares_between(p, most(from, r[0]),
+                                             least(to, registration_last(p, r)), &filled);
+    return answer;
+}
+
+static int64_t point_by_days(const int64_t *p, int64_t user, int64_t from, int64_t to) {
+    const int64_t *r = records(p);
+    const int64_t *u = registrations(p);
+    int64_t sum = 0;
+    for (int64_t day = most(from, p[INSTALL]); day <= to; day++) {
+        while (r < records_end(p) && r[1] < day)
+            r += 4;
+        while (day > registration_last(p, u))
+            u += 2;
+        if (u[1] == user && r < records_end(p) && r[0] <= day)
+            sum += first_days(r, day - r[0] + 1) - first_days(r, day - r[0]);
+    }
+    return sum;
+}
+
+struct plain_account plain_account_by_days(const int64_t *table, size_t length, int64_t user,
+                                           int64_t from, int64_t to) {
+    struct plain_account answer = {refuse_account(table, length, user, from, to), 0};
+    if (answer.refusal != 0)
+        return answer;
+    for (const int64_t *p = table + HEADER; p < points_end(table); p += STRIDE)
+        answer.sum += point_by_days(p, user, from, to);
+    return answer;
+}
+
+/* ---- allocate */
+
+static bool is_active(const int64_t *p, int64_t gasday) {
+    return p[INSTALL] <= gasday && !any_off(p, gasday, gasday);
+}
+
+static bool is_filled(const int64_t *p, int64_t day) {
+    bool filled = false;
+    shares_between(p, day, day, &filled);
+    return filled;
+}
+
+static bool all_filled(const int64_t *p, int64_t from, int64_t to) {
+    for (int64_t day = from; day <= to; day++)
+        if (!is_filled(p, day))
+            return false;
+    return true;
+}
+
+static int64_t share_of(const int64_t *p, int64_t day) {
+    bool filled;
+    return shares_between(p, day, day, &filled);
+}
+
+/* The day's reading of a daily point, or what stands in for it. */
+static int64_t reading(const int64_t *p, int64_t gasday) {
+    if (is_filled(p, gasday))
+        return share_of(p, gasday);
+    if (gasday >= 7 && all_filled(p, gasday - 7, gasday - 1))
+        return share_of(p, gasday - 7);
+    return gasday >= 1 ? share_of(p, gasday - 1) : 0;
+}
+
+/* What the split of the load goes by. */
+static int64_t weight(const int64_t *p, int64_t from, int64_t to) {
+    bool filled = false;
+    int64_t sum = shares_between(p, from, to, &filled);
+    return filled ? most(sum, 0) : p[BASE];
+}
+
+static int64_t user_on(const int64_t *p, int64_t day) {
+    const int64_t *r = registrations(p);
+    while (day > registration_last(p, r))
+        r += 2;
+    return r[1];
+}
+
+static bool allocation_in_range(int64_t gasday, int64_t from, int64_t to, int64_t tdq, int64_t uag,
+                                int64_t clp) {
+    return is_day(gasday) && is_day(from) && is_day(to) && from <= to && to < gasday &&
+           to - from < 400 && within(tdq, 0, AMOUNT_MOST) &&
+           within(uag, -AMOUNT_MOST, AMOUNT_MOST) && within(clp, -AMOUNT_MOST, AMOUNT_MOST);
+}
+
+/* Splits nsl among the points by their weights, which add up to total. */
+static void split(const int64_t *table, const int64_t *weights, int64_t total, int64_t gasday,
+                  struct plain_allocation *answer, int64_t *shares) {
+    const int64_t *p = table + HEADER;
+    int64_t before = 0;
+    for (int64_t i = 0; i < POINTS; i++, p += STRIDE) {
+        shares[i] = 0;
+        if (weights[i] == 0)
+            continue;
+        shares[i] = answer->nsl * (before + weights[i]) / total - answer->nsl * before / total;
+        before += weights[i];
+        answer->totals[user_on(p, gasday) - 1] += shares[i];
+    }
+}
+
+struct plain_allocation plain_allocate(const int64_t *table, size_t length, int64_t *shares,
+                                       size_t shares_length, int64_t gasday, int64_t from,
+                                       int64_t to, int64_t tdq, int64_t uag, int64_t clp) {
+    struct plain_allocation answer = {0};
+    int64_t weights[POINTS] = {0};
+    int64_t total = 0;
+    int64_t daily = 0;
+    if (!plain_sound(table, length)) {
+        answer.refusal = 1;
+        return answer;
+    }
+    if (!allocation_in_range(gasday, from, to, tdq, uag, clp) || shares_length < POINTS) {
+        answer.refusal = 2;
+        return answer;
+    }
+    const int64_t *p = table + HEADER;
+    for (int64_t i = 0; i < table[0]; i++, p += STRIDE) {
+        if (!is_active(p, gasday))
+            continue;
+        if (p[KIND] == 1)
+            daily += reading(p, gasday);
+        else
+            total += weights[i] = weight(p, from, to);
+    }
+    if (total == 0) {
+        answer.refusal = 15;
+        return answer;
+    }
+    answer.nsl = most(tdq - daily - uag - clp, 0);
+    split(table, weights, total, gasday, &answer, shares);
+    return answer;
+}

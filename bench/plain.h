@@ -1,0 +1,38 @@
+/* The register in plain C, on a table of numbers: what the library is compared with and timed
+   against. Nothing here is proved. */
+#ifndef BENCH_PLAIN_H
+#define BENCH_PLAIN_H
+
+#include <stdbool.h>
+#include <stddef.h>
+#include <stdint.h>
+
+struct plain_energy {
+    int64_t refusal, which, removed, user, lapsed;
+};
+
+struct plain_account {
+    int64_t refusal, sum;
+};
+
+struct plain_allocation {
+    int64_t refusal, nsl, totals[16];
+};
+
+bool plain_sound(const int64_t *table, size_t length);
+
+struct plain_energy plain_energy(int64_t *table, size_t length, int64_t mirn, int64_t start,
+                                 int64_t end, int64_t energy, int64_t type, int64_t confirmed);
+
+struct plain_account plain_account(const int64_t *table, size_t length, int64_t user, int64_t from,
+                                   int64_t to);
+
+/* The same sum, day by day. */
+struct plain_account plain_account_by_days(const int64_t *table, size_t length, int64_t user,
+                                           int64_t from, int64_t to);
+
+struct plain_allocation plain_allocate(const int64_t *table, size_t length, int64_t *shares,
+                                       size_t shares_length, int64_t gasday, int64_t from,
+                                       int64_t to, int64_t tdq, int64_t uag, int64_t clp);
+
+#endif

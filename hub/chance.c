@@ -1,0 +1,227 @@
+#include "chance.h"
+
+#include "petlumas.h"
+#include "words.h"
+
+enum { POINTS_MOST = 32 };
+
+static uint64_t next_random(struct chance *c) {
+    c->random ^= c->random >> 12;
+    c->random ^= c->random << 25;
+    c->random ^= c->random >> 27;
+    return c->random * UINT64_C(2685821657736338717);
+}
+
+uint64_t below(struct chance *c, uint64_t n) {
+    return next_random(c) % n;
+}
+
+bool one_in(struct chance *c, uint64_t n) {
+    return below(c, n) == 0;
+}
+
+int64_t between(struct chance *c, int64_t least, int64_t most) {
+    return least + (int64_t)below(c, (uint64_t)(most - least + 1));
+}
+
+int64_t wild(struct chance *c) {
+    static const int64_t limits[] = {INT64_MIN, INT64_MAX, -1000000, 1000000, -1,         0,
+                                     39999,     40000,     -2,       17,      9999999999, 1};
+    uint8_t bytes[8];
+    if (one_in(c, 4)) {
+        for (size_t k = 0; k < sizeof bytes; k++)
+            bytes[k] = (uint8_t)below(c, 256);
+        return get_number(bytes, 0);
+    }
+    int64_t limit = limits[below(c, sizeof limits / sizeof *limits)];
+    if (limit == INT64_MIN || limit == INT64_MAX)
+        return limit;
+    return limit + between(c, -1, 1);
+}
+
+static int64_t mostly(struct chance *c, int64_t good) {
+    return one_in(c, 25) ? wild(c) : good;
+}
+
+/* ---- arguments */
+
+static size_t any_point(struct chance *c) {
+    int64_t points = get_number(c->reg, 0);
+    return POINTS_START + POINT_NUMBERS * (points == 0 ? 0 : (size_t)below(c, (uint64_t)points));
+}
+
+static int64_t number_at(const struct chance *c, size_t place) {
+    return get_number(c->reg, place);
+}
+
+static int64_t choose_mirn(struct chance *c, size_t point) {
+    return one_in(c, 20) ? between(c, 1, 60) : mostly(c, number_at(c, point));
+}
+
+static int64_t choose_user(struct chance *c) {
+    return mostly(c, between(c, 1, 16));
+}
+
+static int64_t choose_energy(struct chance *c) {
+    int64_t most = one_in(c, 2) ? 1000000 : 1000;
+    return mostly(c, between(c, -most, most));
+}
+
+/* The day after a point's last filled day, or its install day. */
+static int64_t next_day(const struct chance *c, size_t point) {
+    int64_t records = number_at(c, point + 6);
+    if (records == 0)
+        return number_at(c, point + 2);
+    return number_at(c, point + 48 + 4 * ((size_t)records - 1) + 1) + 1;
+}
+
+static int64_t choose_start(struct chance *c, size_t point) {
+    int64_t records = number_at(c, point + 6);
+    int64_t spans = number_at(c, point + 5);
+    uint64_t way = below(c, 16);
+    if (way < 3 && records > 0)
+        return number_at(c, point + 48 + 4 * (size_t)below(c, (uint64_t)records));
+    if (way < 6 && spans > 0)
+        return number_at(c, point + 32 + 2 * ((size_t)spans - 1) + 1);
+    return mostly(c, next_day(c, point));
+}
+
+void choose_fresh(struct chance *c, int64_t *args) {
+    args[0] = mostly(c, between(c, -1, 1000000));
+    args[1] = mostly(c, between(c, -1, 1000));
+}
+
+void choose_open(struct chance *c, int64_t *args) {
+    args[0] = mostly(c, between(c, 1, 60));
+    args[1] = mostly(c, between(c, 0, 1));
+    args[2] = choose_user(c);
+    args[3] = mostly(c, between(c, 0, 120));
+    args[4] = mostly(c, between(c, -1, 10000));
+}
+
+void choose_energy_notice(struct chance *c, int64_t *args) {
+    size_t point = any_point(c);
+    int64_t kind = one_in(c, 12) ? between(c, 0, 1) : number_at(c, point + 1);
+    args[0] = choose_mirn(c, point);
+    args[1] = choose_start(c, point);
+    args[2] = args[1];
+    if (kind == 0 && args[1] < 40000)
+        args[2] += one_in(c, 4) ? between(c, 1, 90) : between(c, 1, 12);
+    args[2] = mostly(c, args[2]);
+    args[3] = choose_energy(c);
+    args[4] = mostly(c, between(c, 0, 2));
+    args[5] = mostly(c, between(c, 0, 1));
+}
+
+/* On where the last span is open, else off after the last on day and the last filled day. */
+void choose_status(struct chance *c, int64_t *args) {
+    size_t point = any_point(c);
+    int64_t spans = number_at(c, point + 5);
+    size_t last = point + 32 + 2 * (spans == 0 ? 0 : (size_t)spans - 1);
+    bool open = spans > 0 && number_at(c, last + 1) == -1;
+    int64_t after = number_at(c, last + (open ? 0 : 1));
+    int64_t day = next_day(c, point);
+    args[0] = choose_mirn(c, point);
+    args[1] = mostly(c, (open || after > day ? after : day) + between(c, 0, 4));
+    args[2] = mostly(c, open ? 1 : 0);
+}
+
+void choose_request(struct chance *c, int64_t *args) {
+    size_t point = any_point(c);
+    args[0] = choose_mirn(c, point);
+    args[1] = choose_user(c);
+    args[2] = mostly(c, next_day(c, point) + between(c, 0, 30));
+    args[3] = mostly(c, between(c, 0, 1));
+}
+
+void choose_withdraw(struct chance *c, int64_t *args) {
+    size_t point = any_point(c);
+    int64_t pending = number_at(c, point + 7);
+    args[0] = choose_mirn(c, point);
+    args[1] = pending != 0 && !one_in(c, 3) ? pending : choose_user(c);
+}
+
+void choose_account(struct chance *c, int64_t *args) {
+    int64_t from = between(c, 0, 600);
+    args[0] = choose_user(c);
+    args[1] = mostly(c, from);
+    args[2] = mostly(c, from + between(c, -100, 1000));
+}
+
+void choose_allocate(struct chance *c, int64_t *args) {
+    int64_t gasday = between(c, 1, one_in(c, 2) ? 130 : 1200);
+    int64_t to = between(c, gasday > 100 ? gasday - 100 : 0, gasday - 1);
+    args[0] = mostly(c, gasday);
+    args[1] = mostly(c, between(c, to > 400 ? to - 400 : 0, to));
+    args[2] = mostly(c, to);
+    args[3] = mostly(c, between(c, 0, 1000000000));
+    args[4] = mostly(c, between(c, -1000000, 1000000));
+    args[5] = mostly(c, between(c, -1000000, 1000000));
+}
+
+void choose_date(struct chance *c, int64_t *args) {
+    args[0] = mostly(c, between(c, 1969, 2080));
+    args[1] = mostly(c, between(c, 0, 13));
+    args[2] = mostly(c, between(c, 0, 32));
+}
+
+/* ---- registers */
+
+static size_t any_place(struct chance *c) {
+    if (one_in(c, 8))
+        return (size_t)below(c, REGISTER_NUMBERS);
+    if (one_in(c, 8))
+        return (size_t)below(c, POINTS_START);
+    size_t within = one_in(c, 2) ? (size_t)below(c, 48) : (size_t)below(c, POINT_NUMBERS);
+    return any_point(c) + within;
+}
+
+void damage_number(struct chance *c, uint8_t *reg) {
+    size_t place = any_place(c);
+    uint64_t byte = below(c, 8);
+    if (one_in(c, 4))
+        reg[8 * place + byte] ^= (uint8_t)(1U << below(c, 8));
+    else if (one_in(c, 2))
+        put_number(reg, place, get_number(reg, any_place(c)));
+    else
+        put_number(reg, place, wild(c));
+}
+
+/* One notice on the register, most often a good one; of 18 ways three are a status, which
+   keeps a point from filling up. */
+static void feed(struct chance *c, uint64_t ways) {
+    uint8_t answer[40];
+    uint8_t none[1] = {0};
+    int64_t a[ARGS_MOST];
+    uint64_t way = below(c, ways);
+    if (way < 9) {
+        choose_energy_notice(c, a);
+        petlumas_energy(c->reg, PETLUMAS_REGISTER_BYTES, answer, sizeof answer, a[0], a[1], a[2],
+                        a[3], a[4], 1);
+    } else if (way < 15) {
+        choose_request(c, a);
+        petlumas_request(c->reg, PETLUMAS_REGISTER_BYTES, none, 0, answer, sizeof answer, a[0],
+                         a[1], a[2], a[3]);
+    } else {
+        choose_status(c, a);
+        petlumas_status(c->reg, PETLUMAS_REGISTER_BYTES, answer, sizeof answer, a[0], a[1], a[2]);
+    }
+}
+
+void start_register(struct chance *c) {
+    uint8_t answer[8];
+    int64_t points = one_in(c, 2) ? between(c, 1, POINTS_MOST) : between(c, 1, 3);
+    petlumas_fresh(c->reg, PETLUMAS_REGISTER_BYTES, answer, sizeof answer, -1,
+                   between(c, -1, 1000000));
+    for (int64_t i = 1; i <= points; i++) {
+        /* One by one: C does not say in which order arguments are computed. */
+        int64_t kind = between(c, 0, 1);
+        int64_t user = between(c, 1, 16);
+        int64_t install = between(c, 0, 60);
+        petlumas_open(c->reg, PETLUMAS_REGISTER_BYTES, answer, sizeof answer, i, kind, user,
+                      install, between(c, 0, 1));
+    }
+    uint64_t ways = one_in(c, 2) ? 15 : 18;
+    for (uint64_t count = below(c, 500); count > 0; count--)
+        feed(c, ways);
+}

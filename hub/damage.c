@@ -1,0 +1,330 @@
+/* Calls every function on damaged registers and on buffers of odd lengths and looks at what it left
+   in every buffer. A buffer has its exact size on the heap, or it ends or begins at a page that
+   nobody may touch, so that an access outside ends the program or is seen by a memory checker. */
+#define _DEFAULT_SOURCE /* MAP_ANONYMOUS */
+#include "chance.h"
+#include "petlumas.h"
+#include "words.h"
+
+#include <inttypes.h>
+#include <stdio.h>
+#include <stdlib.h>
+#include <string.h>
+#include <sys/mman.h>
+
+enum {
+    REGISTER_BYTES = PETLUMAS_REGISTER_BYTES,
+    PAST_BYTES = 128, /* lent behind a register at most */
+    SHARES_BYTES = PETLUMAS_ALLOCATE_TABLE_BYTES,
+    PAGE_BYTES = 4096,
+    ARENA_BYTES = 16 * PAGE_BYTES,
+    REFUSALS = 17,
+    CASES_PER_REGISTER = 250,
+};
+
+struct lent {
+    uint8_t *arena; /* ARENA_BYTES between two forbidden pages */
+    uint8_t *block; /* on the heap, if any */
+    uint8_t *at;
+    size_t length;
+    uint8_t before[ARENA_BYTES]; /* what it held when it was lent */
+};
+
+struct test {
+    struct chance chance;
+    uint64_t number; /* of the present case */
+    uint64_t calls;
+    uint64_t failures;
+    uint8_t work[REGISTER_BYTES + PAST_BYTES]; /* the chance's register, perhaps damaged */
+    struct lent reg, answer, table, holidays;
+};
+
+struct function {
+    const char *name;
+    size_t fields; /* numbers of its answer */
+    bool writes;   /* into the register */
+    void (*choose)(struct chance *chance, int64_t *args);
+    int64_t (*call)(struct test *test, const int64_t *args);
+};
+
+/* ---- lent buffers */
+
+static void out_of_memory(void) {
+    perror("damage");
+    exit(2);
+}
+
+static void make_arena(struct lent *lent) {
+    uint8_t *pages =
+        mmap(NULL, ARENA_BYTES + 2 * PAGE_BYTES, PROT_NONE, MAP_PRIVATE | MAP_ANONYMOUS, -1, 0);
+    if (pages == MAP_FAILED)
+        out_of_memory();
+    lent->arena = pages + PAGE_BYTES;
+    if (mprotect(lent->arena, ARENA_BYTES, PROT_READ | PROT_WRITE) != 0)
+        out_of_memory();
+}
+
+static void lend(struct test *t, struct lent *lent, const uint8_t *bytes, size_t length) {
+    uint64_t way = below(&t->chance, 3);
+    lent->block = NULL;
+    lent->length = length;
+    if (way == 0) {
+        size_t unused = length == 0 ? 1 : 0; /* so that the pointer is one */
+        lent->block = malloc(length + unused);
+        if (lent->block == NULL)
+            out_of_memory();
+        lent->at = lent->block + unused;
+    } else {
+        lent->at = way == 1 ? lent->arena : lent->arena + ARENA_BYTES - length;
+    }
+    memcpy(lent->before, bytes, length);
+    memcpy(lent->at, bytes, length);
+}
+
+static void take_back(struct lent *lent) {
+    free(lent->block);
+    lent->block = NULL;
+}
+
+static bool unchanged_from(const struct lent *lent, size_t place) {
+    return lent->length <= place ||
+           memcmp(lent->at + place, lent->before + place, lent->length - place) == 0;
+}
+
+static void lend_filled(struct test *t, struct lent *lent, size_t length) {
+    uint8_t fill[512];
+    memset(fill, (int)below(&t->chance, 256), sizeof fill);
+    lend(t, lent, fill, length);
+}
+
+/* Often what is needed, else a few bytes less or more, or none. */
+static size_t choose_length(struct test *t, size_t needed) {
+    switch (below(&t->chance, 8)) {
+    case 0:
+        return needed - (size_t)between(&t->chance, 1, 7);
+    case 1:
+        return needed + (size_t)between(&t->chance, 1, 64);
+    case 2:
+        return one_in(&t->chance, 2) ? 0 : (size_t)below(&t->chance, needed);
+    default:
+        return needed;
+    }
+}
+
+static size_t choose_register_length(struct test *t) {
+    switch (below(&t->chance, 12)) {
+    case 0:
+        return REGISTER_BYTES - (size_t)between(&t->chance, 1, 9);
+    case 1:
+        return (size_t)below(&t->chance, REGISTER_BYTES);
+    case 2:
+    case 3:
+        return REGISTER_BYTES + (size_t)between(&t->chance, 1, PAST_BYTES);
+    default:
+        return REGISTER_BYTES;
+    }
+}
+
+static void lend_holidays(struct test *t) {
+    uint8_t list[8 * 520];
+    size_t count = one_in(&t->chance, 8) ? (size_t)between(&t->chance, 505, 519)
+                                         : (size_t)below(&t->chance, 20);
+    int64_t day = between(&t->chance, 0, 300);
+    memset(list, 0, sizeof list);
+    for (size_t k = 0; k < count; k++) {
+        put_number(list, k, one_in(&t->chance, 200) ? wild(&t->chance) : day);
+        day += between(&t->chance, 1, 40);
+    }
+    lend(t, &t->holidays, list, 8 * count + (size_t)below(&t->chance, 8));
+}
+
+/* ---- calls */
+
+static int64_t call_fresh(struct test *t, const int64_t *a) {
+    return petlumas_fresh(t->reg.at, t->reg.length, t->answer.at, t->answer.length, a[0], a[1]);
+}
+
+static int64_t call_open(struct test *t, const int64_t *a) {
+    return petlumas_open(t->reg.at, t->reg.length, t->answer.at, t->answer.length, a[0], a[1], a[2],
+                         a[3], a[4]);
+}
+
+static int64_t call_energy(struct test *t, const int64_t *a) {
+    return petlumas_energy(t->reg.at, t->reg.length, t->answer.at, t->answer.length, a[0], a[1],
+                           a[2], a[3], a[4], a[5]);
+}
+
+static int64_t call_status(struct test *t, const int64_t *a) {
+    return petlumas_status(t->reg.at, t->reg.length, t->answer.at, t->answer.length, a[0], a[1],
+                           a[2]);
+}
+
+static int64_t call_request(struct test *t, const int64_t *a) {
+    return petlumas_request(t->reg.at, t->reg.length, t->holidays.at, t->holidays.length,
+                            t->answer.at, t->answer.length, a[0], a[1], a[2], a[3]);
+}
+
+static int64_t call_withdraw(struct test *t, const int64_t *a) {
+    return petlumas_withdraw(t->reg.at, t->reg.length, t->answer.at, t->answer.length, a[0], a[1]);
+}
+
+static int64_t call_account(struct test *t, const int64_t *a) {
+    return petlumas_account(t->reg.at, t->reg.length, t->answer.at, t->answer.length, a[0], a[1],
+                            a[2]);
+}
+
+static int64_t call_allocate(struct test *t, const int64_t *a) {
+    return petlumas_allocate(t->reg.at, t->reg.length, t->answer.at, t->answer.length, t->table.at,
+                             t->table.length, a[0], a[1], a[2], a[3], a[4], a[5]);
+}
+
+static int64_t call_date(struct test *t, const int64_t *a) {
+    return petlumas_date(t->answer.at, t->answer.length, a[0], a[1], a[2]);
+}
+
+enum { FRESH, OPEN, ENERGY, STATUS, REQUEST, WITHDRAW, ACCOUNT, ALLOCATE, DATE, FUNCTIONS };
+
+static const struct function functions[FUNCTIONS] = {
+    [FRESH] = {"fresh", 1, true, choose_fresh, call_fresh},
+    [OPEN] = {"open", 1, true, choose_open, call_open},
+    [ENERGY] = {"energy", 5, true, choose_energy_notice, call_energy},
+    [STATUS] = {"status", 1, true, choose_status, call_status},
+    [REQUEST] = {"request", 3, true, choose_request, call_request},
+    [WITHDRAW] = {"withdraw", 1, true, choose_withdraw, call_withdraw},
+    [ACCOUNT] = {"account", 2, false, choose_account, call_account},
+    [ALLOCATE] = {"allocate", 18, false, choose_allocate, call_allocate},
+    [DATE] = {"date", 2, false, choose_date, call_date},
+};
+
+/* ---- what a call must leave */
+
+static void expect(struct test *t, bool holds, const struct function *f, const char *what) {
+    if (holds)
+        return;
+    t->failures++;
+    fprintf(stderr, "case %" PRIu64 ", %s: %s\n", t->number, f->name, what);
+}
+
+static void check_answer(struct test *t, const struct function *f, int64_t result) {
+    if (t->answer.length < 8 * f->fields) {
+        expect(t, result == 1 || result == 2, f, "a short answer is neither 1 nor 2");
+        expect(t, unchanged_from(&t->answer, 0), f, "a short answer was written");
+        return;
+    }
+    expect(t, get_number(t->answer.at, 0) == result, f, "the result is not the refusal");
+    for (size_t k = 1; k < f->fields && result != 0; k++)
+        expect(t, get_number(t->answer.at, k) == 0, f, "a field of a refusal is not 0");
+    expect(t, unchanged_from(&t->answer, 8 * f->fields), f, "bytes past the answer changed");
+}
+
+static void check_register(struct test *t, const struct function *f, int64_t result) {
+    if (f == &functions[DATE])
+        return;
+    expect(t, t->reg.length >= REGISTER_BYTES || result == 1, f, "a short register is not 1");
+    if (f->writes && result == 0)
+        expect(t, unchanged_from(&t->reg, REGISTER_BYTES), f, "bytes past the register changed");
+    else
+        expect(t, unchanged_from(&t->reg, 0), f, "the register changed");
+}
+
+static void check_others(struct test *t, const struct function *f, int64_t result) {
+    if (f == &functions[REQUEST])
+        expect(t, unchanged_from(&t->holidays, 0), f, "the holidays changed");
+    if (f != &functions[ALLOCATE])
+        return;
+    expect(t, t->table.length >= SHARES_BYTES || result == 1 || result == 2, f,
+           "a short answer table is neither 1 nor 2");
+    expect(t, unchanged_from(&t->table, result == 0 ? SHARES_BYTES : 0), f,
+           "the answer table changed where it may not");
+}
+
+/* ---- cases */
+
+/* The current register, as it is, with a few numbers damaged, or all noise. */
+static void make_work(struct test *t) {
+    memcpy(t->work, t->chance.reg, REGISTER_BYTES);
+    memset(t->work + REGISTER_BYTES, (int)below(&t->chance, 256), PAST_BYTES);
+    if (one_in(&t->chance, 100))
+        for (size_t k = 0; k < REGISTER_BYTES; k++)
+            t->work[k] = (uint8_t)below(&t->chance, 256);
+    else if (!one_in(&t->chance, 3))
+        for (uint64_t k = below(&t->chance, 4); k > 0; k--)
+            damage_number(&t->chance, t->work);
+}
+
+/* An account with good numbers is refused only for a short or unsound register. */
+static bool is_sound(const uint8_t *reg, size_t length) {
+    uint8_t answer[16];
+    return petlumas_account(reg, length, answer, sizeof answer, 1, 0, 0) == 0;
+}
+
+static void try_function(struct test *t, const struct function *f, size_t length, bool sound,
+                         uint64_t *refusals) {
+    int64_t args[ARGS_MOST] = {0};
+    lend(t, &t->reg, t->work, length);
+    lend_filled(t, &t->answer, choose_length(t, 8 * f->fields));
+    lend_filled(t, &t->table, choose_length(t, SHARES_BYTES));
+    lend_holidays(t);
+    f->choose(&t->chance, args);
+    int64_t result = f->call(t, args);
+    t->calls++;
+    expect(t, 0 <= result && result < REFUSALS, f, "no such refusal");
+    if (0 <= result && result < REFUSALS)
+        refusals[result]++;
+    check_answer(t, f, result);
+    check_register(t, f, result);
+    check_others(t, f, result);
+    if (f != &functions[FRESH] && f != &functions[DATE])
+        expect(t, (result == 1) == !sound, f, "1 is not for what is short or unsound alone");
+    if (f->writes && result == 0) {
+        expect(t, is_sound(t->reg.at, t->reg.length), f, "an unsound register was left");
+        if (f != &functions[FRESH])
+            memcpy(t->chance.reg, t->reg.at, REGISTER_BYTES);
+    }
+    take_back(&t->reg);
+    take_back(&t->answer);
+    take_back(&t->table);
+    take_back(&t->holidays);
+}
+
+static void run_case(struct test *t, uint64_t refusals[FUNCTIONS][REFUSALS]) {
+    if (t->number % CASES_PER_REGISTER == 0)
+        start_register(&t->chance);
+    make_work(t);
+    size_t length = choose_register_length(t);
+    bool sound = is_sound(t->work, length);
+    for (size_t k = 0; k < FUNCTIONS; k++)
+        try_function(t, &functions[k], length, sound, refusals[k]);
+}
+
+static void print_counts(uint64_t refusals[FUNCTIONS][REFUSALS]) {
+    printf("%-9s", "");
+    for (size_t r = 0; r < REFUSALS; r++)
+        printf(" %6zu", r);
+    for (size_t k = 0; k < FUNCTIONS; k++) {
+        printf("\n%-9s", functions[k].name);
+        for (size_t r = 0; r < REFUSALS; r++)
+            printf(" %6" PRIu64, refusals[k][r]);
+    }
+    putchar('\n');
+}
+
+int main(int argc, char **argv) {
+    static struct test test; /* large for a stack */
+    uint64_t refusals[FUNCTIONS][REFUSALS] = {{0}};
+    uint64_t cases = argc > 1 ? strtoull(argv[1], NULL, 10) : 10000;
+    uint64_t seed = argc > 2 ? strtoull(argv[2], NULL, 10) : 20790707;
+    test.chance.random = seed != 0 ? seed : 1; /* the generator stays at 0 */
+    printf("seed %" PRIu64 "\n", seed);
+    fflush(stdout); /* an access outside a buffer may end the program */
+    make_arena(&test.reg);
+    make_arena(&test.answer);
+    make_arena(&test.table);
+    make_arena(&test.holidays);
+    for (test.number = 0; test.number < cases && test.failures < 20; test.number++)
+        run_case(&test, refusals);
+    print_counts(refusals);
+    printf("%" PRIu64 " cases, %" PRIu64 " calls, %" PRIu64 " failures\n", test.number, test.calls,
+           test.failures);
+    return test.failures != 0;
+}

@@ -1,0 +1,324 @@
+#include "player.h"
+
+#include "petlumas.h"
+
+#include <inttypes.h>
+#include <stdlib.h>
+#include <string.h>
+
+/* A call's numbers as the line gives them. */
+struct numbers {
+    const int64_t *at;
+    size_t count;
+};
+
+/* Plays a call; false if its numbers are no such call's. */
+typedef bool play_call(struct player *player, struct numbers n);
+
+struct call {
+    const char *name;
+    size_t count; /* of its numbers; ANY if the call looks itself */
+    play_call *play;
+};
+
+enum { ANY = LINE_NUMBERS + 1 };
+
+void start_player(struct player *player, FILE *out) {
+    memset(player->buffer, 0, sizeof player->buffer);
+    for (size_t k = 0; k < PAST_NUMBERS; k++)
+        put_number(player->buffer, REGISTER_NUMBERS + k, 1000 + (int64_t)k);
+    player->lent = REGISTER_NUMBERS;
+    player->shares = 32;
+    player->out = out;
+}
+
+static size_t lent_bytes(const struct player *player) {
+    return 8 * player->lent;
+}
+
+/* ---- rows */
+
+static void print_numbers(FILE *out, const uint8_t *bytes, size_t count) {
+    for (size_t k = 0; k < count; k++)
+        fprintf(out, "%s%" PRId64, k == 0 ? "" : " ", get_number(bytes, k));
+}
+
+static bool print_answer(const struct player *player, const uint8_t *answer, size_t count) {
+    print_numbers(player->out, answer, count);
+    putc('\n', player->out);
+    return true;
+}
+
+static bool print_done(const struct player *player) {
+    fputs("0\n", player->out);
+    return true;
+}
+
+struct sums {
+    uint64_t s1, s2;
+};
+
+/* The sum of the numbers and the sum of the running sums, modulo 2^64. */
+static struct sums sum_numbers(const uint8_t *bytes, size_t count) {
+    struct sums sums = {0, 0};
+    for (size_t k = 0; k < count; k++) {
+        sums.s1 += (uint64_t)get_number(bytes, k);
+        sums.s2 += sums.s1;
+    }
+    return sums;
+}
+
+/* ---- calls on the lent numbers */
+
+static bool play_fresh(struct player *p, struct numbers n) {
+    uint8_t answer[PETLUMAS_FRESH_ANSWER_BYTES];
+    petlumas_fresh(p->buffer, lent_bytes(p), answer, sizeof answer, n.at[0], n.at[1]);
+    return print_answer(p, answer, sizeof answer / 8);
+}
+
+static bool play_open(struct player *p, struct numbers n) {
+    uint8_t answer[PETLUMAS_OPEN_ANSWER_BYTES];
+    petlumas_open(p->buffer, lent_bytes(p), answer, sizeof answer, n.at[0], n.at[1], n.at[2],
+                  n.at[3], n.at[4]);
+    return print_answer(p, answer, sizeof answer / 8);
+}
+
+static bool play_energy(struct player *p, struct numbers n) {
+    uint8_t answer[PETLUMAS_ENERGY_ANSWER_BYTES];
+    petlumas_energy(p->buffer, lent_bytes(p), answer, sizeof answer, n.at[0], n.at[1], n.at[2],
+                    n.at[3], n.at[4], n.at[5]);
+    return print_answer(p, answer, sizeof answer / 8);
+}
+
+static bool play_status(struct player *p, struct numbers n) {
+    uint8_t answer[PETLUMAS_STATUS_ANSWER_BYTES];
+    petlumas_status(p->buffer, lent_bytes(p), answer, sizeof answer, n.at[0], n.at[1], n.at[2]);
+    return print_answer(p, answer, sizeof answer / 8);
+}
+
+/* MIRN, User, proposed day, no-change, and a list of holidays with its count in front. */
+static bool play_request(struct player *p, struct numbers n) {
+    uint8_t holidays[8 * LINE_NUMBERS];
+    uint8_t answer[PETLUMAS_REQUEST_ANSWER_BYTES];
+    if (n.count < 5 || n.at[4] < 0 || (uint64_t)n.at[4] != n.count - 5)
+        return false;
+    size_t count = n.count - 5;
+    for (size_t k = 0; k < count; k++)
+        put_number(holidays, k, n.at[5 + k]);
+    petlumas_request(p->buffer, lent_bytes(p), holidays, 8 * count, answer, sizeof answer, n.at[0],
+                     n.at[1], n.at[2], n.at[3]);
+    return print_answer(p, answer, sizeof answer / 8);
+}
+
+static bool play_withdraw(struct player *p, struct numbers n) {
+    uint8_t answer[PETLUMAS_WITHDRAW_ANSWER_BYTES];
+    petlumas_withdraw(p->buffer, lent_bytes(p), answer, sizeof answer, n.at[0], n.at[1]);
+    return print_answer(p, answer, sizeof answer / 8);
+}
+
+static bool play_account(struct player *p, struct numbers n) {
+    uint8_t answer[PETLUMAS_ACCOUNT_ANSWER_BYTES];
+    petlumas_account(p->buffer, lent_bytes(p), answer, sizeof answer, n.at[0], n.at[1], n.at[2]);
+    return print_answer(p, answer, sizeof answer / 8);
+}
+
+static bool play_allocate(struct player *p, struct numbers n) {
+    uint8_t answer[PETLUMAS_ALLOCATE_ANSWER_BYTES];
+    uint8_t table[8 * SHARES_MOST];
+    for (size_t k = 0; k < p->shares; k++)
+        put_number(table, k, -7); /* shows what is left alone */
+    petlumas_allocate(p->buffer, lent_bytes(p), answer, sizeof answer, table, 8 * p->shares,
+                      n.at[0], n.at[1], n.at[2], n.at[3], n.at[4], n.at[5]);
+    print_numbers(p->out, answer, sizeof answer / 8);
+    if (p->shares > 0)
+        putc(' ', p->out);
+    return print_answer(p, table, p->shares);
+}
+
+static bool play_date(struct player *p, struct numbers n) {
+    uint8_t answer[PETLUMAS_DATE_ANSWER_BYTES];
+    petlumas_date(answer, sizeof answer, n.at[0], n.at[1], n.at[2]);
+    return print_answer(p, answer, sizeof answer / 8);
+}
+
+/* ---- lines that look at the buffer */
+
+/* An account with good numbers is refused only where the register is short or unsound. */
+static bool is_sound(const struct player *p) {
+    uint8_t answer[PETLUMAS_ACCOUNT_ANSWER_BYTES];
+    return petlumas_account(p->buffer, lent_bytes(p), answer, sizeof answer, 1, 0, 0) == 0;
+}
+
+/* The place of a point's first number; 0, which is no point's, if there is no such point. */
+static size_t find_point(const struct player *p, int64_t mirn) {
+    if (!is_sound(p))
+        return 0;
+    int64_t points = get_number(p->buffer, 0);
+    size_t place = POINTS_START;
+    for (int64_t i = 0; i < points; i++, place += POINT_NUMBERS)
+        if (get_number(p->buffer, place) == mirn)
+            return place;
+    return 0;
+}
+
+static bool play_look(struct player *p, struct numbers n) {
+    size_t place = find_point(p, n.at[0]);
+    size_t count = place == 0 ? 0 : POINT_NUMBERS;
+    struct sums sums = sum_numbers(p->buffer + 8 * place, count);
+    fprintf(p->out, "%zu %" PRIu64 " %" PRIu64 "\n", count, sums.s1, sums.s2);
+    return true;
+}
+
+static bool play_poke(struct player *p, struct numbers n) {
+    if (n.at[0] < 0 || n.at[0] >= REGISTER_NUMBERS)
+        return false;
+    put_number(p->buffer, (size_t)n.at[0], n.at[1]);
+    return print_done(p);
+}
+
+static bool play_tlen(struct player *p, struct numbers n) {
+    if (n.at[0] < 0 || n.at[0] > BUFFER_NUMBERS)
+        return false;
+    p->lent = (size_t)n.at[0];
+    return print_done(p);
+}
+
+static bool play_alen(struct player *p, struct numbers n) {
+    if (n.at[0] < 0 || n.at[0] > SHARES_MOST)
+        return false;
+    p->shares = (size_t)n.at[0];
+    return print_done(p);
+}
+
+static bool play_table(struct player *p, struct numbers n) {
+    (void)n;
+    struct sums sums = sum_numbers(p->buffer, REGISTER_NUMBERS);
+    struct sums past = sum_numbers(p->buffer + 8 * REGISTER_NUMBERS, PAST_NUMBERS);
+    fprintf(p->out, "0 %" PRIu64 " %" PRIu64 " %" PRIu64 "\n", sums.s1, sums.s2, past.s2);
+    return true;
+}
+
+/* ---- hub lines: buffers of any length, each of its own exact size on the heap, so that a memory
+   checker sees every access outside */
+
+struct bytes {
+    uint8_t *at;
+    size_t length;
+};
+
+static struct bytes make_bytes(int64_t length) {
+    struct bytes b = {malloc(length == 0 ? 1 : (size_t)length), (size_t)length};
+    if (b.at == NULL) {
+        perror("hub");
+        exit(2);
+    }
+    memset(b.at, 0xaa, b.length);
+    return b;
+}
+
+static void print_hex(const struct player *p, struct bytes b) {
+    fputs(b.length == 0 ? " -" : " ", p->out);
+    for (size_t k = 0; k < b.length; k++)
+        fprintf(p->out, "%02x", b.at[k]);
+}
+
+static bool is_length(int64_t n, int64_t most) {
+    return 0 <= n && n <= most;
+}
+
+static struct bytes copy_register(const struct player *p, int64_t length) {
+    struct bytes b = make_bytes(length);
+    memcpy(b.at, p->buffer, b.length);
+    return b;
+}
+
+/* Takes the register's bytes back and prints the result and the answer. */
+static void end_hub(struct player *p, int64_t result, struct bytes reg, struct bytes answer) {
+    memcpy(p->buffer, reg.at, reg.length);
+    fprintf(p->out, "%" PRId64, result);
+    print_hex(p, answer);
+    free(reg.at);
+    free(answer.at);
+}
+
+static bool hub_energy(struct player *p, struct numbers n) {
+    if (!is_length(n.at[0], BUFFER_BYTES) || !is_length(n.at[1], REPLY_BYTES))
+        return false;
+    struct bytes reg = copy_register(p, n.at[0]);
+    struct bytes answer = make_bytes(n.at[1]);
+    int64_t result = petlumas_energy(reg.at, reg.length, answer.at, answer.length, n.at[2], n.at[3],
+                                     n.at[4], n.at[5], n.at[6], n.at[7]);
+    end_hub(p, result, reg, answer);
+    putc('\n', p->out);
+    return true;
+}
+
+static bool hub_account(struct player *p, struct numbers n) {
+    if (!is_length(n.at[0], BUFFER_BYTES) || !is_length(n.at[1], REPLY_BYTES))
+        return false;
+    struct bytes reg = copy_register(p, n.at[0]);
+    struct bytes answer = make_bytes(n.at[1]);
+    int64_t result =
+        petlumas_account(reg.at, reg.length, answer.at, answer.length, n.at[2], n.at[3], n.at[4]);
+    end_hub(p, result, reg, answer);
+    putc('\n', p->out);
+    return true;
+}
+
+static bool hub_allocate(struct player *p, struct numbers n) {
+    if (!is_length(n.at[0], BUFFER_BYTES) || !is_length(n.at[1], REPLY_BYTES) ||
+        !is_length(n.at[2], REPLY_BYTES))
+        return false;
+    struct bytes reg = copy_register(p, n.at[0]);
+    struct bytes answer = make_bytes(n.at[1]);
+    struct bytes table = make_bytes(n.at[2]);
+    int64_t result =
+        petlumas_allocate(reg.at, reg.length, answer.at, answer.length, table.at, table.length,
+                          n.at[3], n.at[4], n.at[5], n.at[6], n.at[7], n.at[8]);
+    end_hub(p, result, reg, answer);
+    print_hex(p, table);
+    free(table.at);
+    putc('\n', p->out);
+    return true;
+}
+
+/* ---- lines */
+
+static const struct call calls[] = {
+    {"fresh", 2, play_fresh},     {"open", 5, play_open},         {"energy", 6, play_energy},
+    {"status", 3, play_status},   {"request", ANY, play_request}, {"withdraw", 2, play_withdraw},
+    {"account", 3, play_account}, {"allocate", 6, play_allocate}, {"date", 3, play_date},
+    {"look", 1, play_look},       {"poke", 2, play_poke},         {"tlen", 1, play_tlen},
+    {"alen", 1, play_alen},       {"table", 0, play_table},       {NULL, 0, NULL},
+};
+
+static const struct call hub_calls[] = {
+    {"energy", 8, hub_energy},
+    {"account", 5, hub_account},
+    {"allocate", 9, hub_allocate},
+    {NULL, 0, NULL},
+};
+
+static const struct call *find_call(const struct call *among, struct word name) {
+    while (among->name != NULL && !is_name(name, among->name))
+        among++;
+    return among->name == NULL ? NULL : among;
+}
+
+bool play_line(struct player *player, const struct line *line) {
+    int64_t numbers[LINE_NUMBERS];
+    size_t count;
+    size_t at = 0;
+    struct word name = next_word(line, &at);
+    const struct call *among = calls;
+    if (is_name(name, "hub")) {
+        among = hub_calls;
+        name = next_word(line, &at);
+    }
+    const struct call *call = find_call(among, name);
+    if (call == NULL || !read_numbers(line, at, numbers, &count))
+        return false;
+    if (call->count != ANY && call->count != count)
+        return false;
+    return call->play(player, (struct numbers){numbers, count});
+}

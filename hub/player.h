@@ -1,0 +1,29 @@
+/* One register of bytes and the calls of a journal on it. */
+#ifndef HUB_PLAYER_H
+#define HUB_PLAYER_H
+
+#include "line.h"
+#include "words.h"
+
+enum {
+    PAST_NUMBERS = 16, /* stand behind the register; no call may touch them */
+    BUFFER_NUMBERS = REGISTER_NUMBERS + PAST_NUMBERS,
+    BUFFER_BYTES = 8 * BUFFER_NUMBERS,
+    SHARES_MOST = 64,   /* numbers of the longest answer table */
+    REPLY_BYTES = 4096, /* the longest answer or answer table of a hub line */
+};
+
+struct player {
+    uint8_t buffer[BUFFER_BYTES];
+    size_t lent;   /* numbers of the buffer that calls are lent */
+    size_t shares; /* numbers of allocate's answer table */
+    FILE *out;
+};
+
+void start_player(struct player *player, FILE *out);
+
+/* Plays a line that is not skipped and prints its row; false, with nothing done, if it is no call.
+ */
+bool play_line(struct player *player, const struct line *line);
+
+#endif
