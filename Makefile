@@ -43,7 +43,7 @@ test-c-plain: target/c/hub target/c/damage
 	hub/test.sh target/c/hub $(JOURNALS)
 	target/c/damage $(CASES)
 
-# The example of a guide compiles and prints what its comment says.
+# The README's example compiles and prints what its comment says.
 test-c-example: target/c/example
 	test "$$(target/c/example)" = '0 6'
 
@@ -69,7 +69,7 @@ target/c/damage: $(DAMAGE_SOURCES) $(HEADERS) $(LIB)
 target/c/example: target/c/example.c include/petlumas.h $(LIB)
 	$(BUILD_C)
 
-target/c/example.c: hub/README.md
+target/c/example.c: README.md
 	mkdir -p $(@D)
 	sed -n '/^```c$$/,/^```$$/{/^```/!p}' $< > $@
 
