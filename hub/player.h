@@ -10,7 +10,7 @@ enum {
     BUFFER_NUMBERS = REGISTER_NUMBERS + PAST_NUMBERS,
     BUFFER_BYTES = 8 * BUFFER_NUMBERS,
     SHARES_MOST = 64,   /* numbers of the longest answer table */
-    REPLY_BYTES = 4096, /* the longest answer or answer table of a hub line */
+    REPLY_BYTES = 300, /* the longest answer or answer table of a hub line */
 };
 
 struct player {
