@@ -1,19 +1,19 @@
 -- What the public call answers, for each way that its code ends. Assumes nothing.
 use mathlib.Core.Path.{_≡_, refl, sym, ap, ap₂, _∙_}
-use mathlib.Core.Bool.{Bool, true, false, not, _&&_, and-false}
+use mathlib.Core.Bool.{Bool, true, false, not, _&&_}
 use mathlib.Core.List.{List, [], _∷_}
 use Prim.Native.Nat.{ℕ, _+_, _-_, _≤_}
 use native.Mathlib.Numerals.{add-one}
 use native.Mathlib.Omega.{arith}
 use borrow.Author.Tests.{leb-true}
 use lib.Dec.{leb}
-use lib.IntN.{ℤ, pos, negsuc}
+use lib.IntN.{ℤ, pos}
 use lib.Signed.{leZ}
 use Rattle.numbers.specs.Naturals.{natOf}
 use Rattle.numbers.specs.Sums.{sumFrom, sumOver}
-use Rattle.numbers.proofs.Bools.{both}
+use Rattle.numbers.proofs.Bools.{both, and-where}
 use Rattle.calendar.specs.Calendar.{isDay}
-use Rattle.calendar.proofs.Dates.{within-natural, day-natural}
+use Rattle.calendar.proofs.Dates.{within-natural, day-natural, days-order}
 use Rattle.daybook.specs.declared.AccountQuery.{AccountQuery}
 use Rattle.daybook.specs.Notices.{decide, least, isUser}
 use Rattle.daybook.specs.Queries.{ownShare, accountOf, accountRows, account}
@@ -30,12 +30,6 @@ use Rattle.account.specs.Account.{accountCall}
 abbrev pub inRange : AccountQuery → Bool
 inRange n = isUser (n .user) && isDay (n .from) && isDay (n .to) && leZ (n .from) (n .to)
 
--- days are ordered as their naturals are
-order : (s : Bool) (x y : ℤ) → (s && isDay x && isDay y && leb (natOf x) (natOf y)) ≡ (s && isDay x && isDay y && leZ x y)
-order s (pos a) (pos b) = refl
-order s (pos a) (negsuc b) = rw (and-false (s && isDay (pos a)))
-order s (negsuc a) y = rw (and-false s)
-
 -- the code's tests of the naturals that it reads
 pub range-tests : (n : AccountQuery) (u a b : ℕ) → u ≡ natOf (n .user) → a ≡ natOf (n .from) → b ≡ natOf (n .to)
     → ((leb 1 u && leb u 16) && leb a 39999 && leb b 39999 && leb a b) ≡ inRange n
@@ -45,7 +39,8 @@ range-tests n u a b e f g =
     (ap₂ _&&_ (ap (λ u. leb 1 u && leb u 16) e ∙ within-natural 1 16 (n .user) (omega arith)) (ap (λ a. leb a 39999) f ∙ day-natural (n .from)))
     (ap (λ b. leb b 39999) g ∙ day-natural (n .to)))
     (ap₂ leb f g)
-    ∙ order (isUser (n .user)) (n .from) (n .to)
+    ∙ and-where (isUser (n .user) && isDay (n .from) && isDay (n .to)) (λ e.
+    let b = both _ (isDay (n .to)) e in days-order (n .from) (n .to) (both (isUser (n .user)) (isDay (n .from)) (b .0) .1) (b .1) .0)
 
 -- what row 2 lets through
 pub range-bounds : (n : AccountQuery) → inRange n ≡ true → (1 ≤ natOf (n .user)) × (natOf (n .from) ≤ natOf (n .to)) × (natOf (n .to) ≤ 39999)

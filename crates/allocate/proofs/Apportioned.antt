@@ -1,31 +1,30 @@
 -- The load apportioned, once the tests before it were passed: it is what the book gives. Assumes nothing.
-use mathlib.Core.Path.{_≡_, refl, sym, _∙_, ap, ap₂, subst}
-use mathlib.Core.Bool.{Bool, true, _&&_}
-use mathlib.Core.List.{List, _∷_, _++_, map}
+use mathlib.Core.Path.{_≡_, _∙_, ap, ap₂}
+use mathlib.Core.Bool.{true}
+use mathlib.Core.List.{List, _++_, map}
 use Prim.Native.Nat.{ℕ, _+_, _-_, _*_, _≤_, _<_}
 use native.Mathlib.Omega.{arith}
-use native.Mathlib.Nat.{zero-add}
-use lib.Dec.{leb, ltb}
+use lib.Dec.{leb}
 use lib.ListN.{length, drop, replicate, length-append, length-map, length-replicate, List·getD-append}
-use lib.IntN.{ℤ, pos, negsuc, subℕ, _-ℤ_}
+use lib.IntN.{ℤ, pos, subℕ, _-ℤ_}
 use lib.Signed.{leZ, ltZ}
 use borrow.Author.Tests.{leb-true, ltb-true}
 use Rattle.numbers.specs.Naturals.{natOf}
 use Rattle.numbers.proofs.Bools.{both}
 use Rattle.calendar.specs.Calendar.{within, isDay}
-use Rattle.calendar.proofs.Dates.{day-natural}
+use Rattle.calendar.proofs.Dates.{days-order}
 use Rattle.daybook.specs.declared.AllocationQuery.{AllocationQuery}
 use Rattle.daybook.specs.Book.{Point, Book}
 use Rattle.daybook.specs.Queries.{allocationInRange, atLeast0, tdmOf, nslOf, weight, weights, total, split, pointShares, totalOf, users}
+use Rattle.daybook.proofs.Bounds.{within-bounds}
+use Rattle.daybook.proofs.Splits.{split-length}
 use Rattle.layout.specs.Layout.{standard, numAt, tableBook}
-use Rattle.layout.specs.Sound.{sound}
-use Rattle.point.proofs.Rows.{rowsAt, length-rows}
+use Rattle.point.proofs.Rows.{length-rows}
 use Rattle.table.proofs.Laws.{sound-long}
 use Rattle.readings.proofs.Points.{partPoint, points-are}
 use Rattle.allocate.specs.Allocate.{placed}
 use Rattle.allocate.specs.Parts.{pointsOf, padded, SharesBelow, totalTo, loadOf, Given, givenOf}
-use Rattle.allocate.proofs.Loads.{isLoad, same-order}
-use Rattle.allocate.proofs.Splits.{length-split}
+use Rattle.allocate.proofs.Loads.{isLoad}
 use Rattle.allocate.proofs.Given.{total-padded, split-padded, split-small, user-total}
 
 -- ---- numbers in range
@@ -50,12 +49,12 @@ in-range-tells q room e =
     let c = both _ (leZ (q .from) (q .to)) (d .0) in
     let b = both _ (isDay (q .to)) (c .0) in
     let a = both (isDay (q .gasday)) (isDay (q .from)) (b .0) in
-    let day : (z : ℤ) → isDay z ≡ true → natOf z ≤ 39999 = λ z k. leb-true (natOf z) 39999 (day-natural z ∙ k) in
-    let before : natOf (q .to) < natOf (q .gasday) = ltb-true _ _ (same-order (q .to) (q .gasday) (b .1) (a .0) .1 ∙ d .1) in (
+    let day : (z : ℤ) → isDay z ≡ true → natOf z ≤ 39999 = λ z k. within-bounds 0 39999 z k .1 in
+    let before : natOf (q .to) < natOf (q .gasday) = ltb-true _ _ (days-order (q .to) (q .gasday) (b .1) (a .0) .1 ∙ d .1) in (
       record {
         gasdayLow = omega arith;
         gasdayHigh = day (q .gasday) (a .0);
-        order = leb-true _ _ (same-order (q .from) (q .to) (a .1) (b .1) .0 ∙ c .1);
+        order = leb-true _ _ (days-order (q .from) (q .to) (a .1) (b .1) .0 ∙ c .1);
         toHigh = day (q .to) (b .1);
         tdqOk = g .1;
         uagOk = h .1;
@@ -106,7 +105,7 @@ module _ {t : List ℤ} {q : AllocationQuery} {ws : List ℕ} {s room : ℕ} (gi
   weigh-32 = ap length (given .weigh) ∙ padded-32 (weights q B) (omega (arith, length-map (pointsOf t) (weight G (natOf (q .from)) (natOf (q .to))), few-points .1))
 
   pub split-32 : (load : ℕ) → length (split load s 0 ws) ≡ 32
-  split-32 load = length-split load s 0 ws ∙ weigh-32
+  split-32 load = split-length load s 0 ws ∙ weigh-32
 
   module _ {load : ℕ} (is : load ≡ nslOf q B) where
     abbrev w : Point → ℕ

@@ -7,16 +7,18 @@ use Prim.Native.Nat.{ℕ, zero, suc, _+_, _-_, _*_, _/_, _≤_, _<_}
 use native.Mathlib.Omega.{arith}
 use native.Mathlib.Nat.{add-zero, zero-add, add-assoc}
 use lib.Dec.{eqb}
-use lib.ListN.{length, getD, drop, replicate, length-map, length-append, length-replicate, getD-replicate, List·getD-append}
+use lib.ListN.{length, getD, replicate, length-map, length-append, length-replicate, getD-replicate, List·getD-append}
 use lib.Seq.{getD-append-add}
 use lib.IntN.{ℤ, pos, _+ℤ_, _-ℤ_, +ℤ-invr}
 use Rattle.numbers.specs.Naturals.{natOf}
 use Rattle.numbers.specs.Shares.{floorPart}
+use Rattle.numbers.proofs.Bools.{cond-same}
 use Rattle.daybook.specs.Book.{Point}
 use Rattle.daybook.specs.Queries.{total, split, totalOf}
+use Rattle.daybook.proofs.Splits.{total-append, split-append, split-length}
 use Rattle.layout.specs.Layout.{numAt}
 use Rattle.allocate.specs.Parts.{padded, totalTo}
-use Rattle.allocate.proofs.Splits.{part-small, share-is, length-split}
+use Rattle.allocate.proofs.Splits.{part-small, share-is}
 
 -- ---- weights of 0
 
@@ -24,11 +26,6 @@ total-zeros : (n : ℕ) → total (replicate n 0) ≡ 0
 unfolding total
 total-zeros zero = refl
 total-zeros (suc n) = zero-add _ ∙ total-zeros n
-
-total-append : (l m : List ℕ) → total (l ++ m) ≡ total l + total m
-unfolding total
-total-append [] m = sym (zero-add (total m))
-total-append (x ∷ l) m = ap (λ z. x + z) (total-append l m) ∙ sym (add-assoc x (total l) (total m))
 
 pub total-padded : (l : List ℕ) → total (padded l) ≡ total l
 unfolding padded
@@ -41,18 +38,11 @@ module _ (load s : ℕ) where
   split-zeros acc (suc n) =
       ap₂ (λ x l. x ∷ l) (rw (add-zero acc) (+ℤ-invr (floorPart (pos load) s acc))) (rw (add-zero acc) (split-zeros acc n))
 
-  split-append : (acc : ℕ) (l m : List ℕ) → split load s acc (l ++ m) ≡ split load s acc l ++ split load s (acc + total l) m
-  unfolding split total
-  split-append acc [] m = rw (add-zero acc) refl
-  split-append acc (x ∷ l) m =
-      ap (λ r. (floorPart (pos load) s (acc + x) -ℤ floorPart (pos load) s acc) ∷ r)
-      (split-append (acc + x) l m ∙ ap (λ n. split load s (acc + x) l ++ split load s n m) (add-assoc acc x (total l)))
-
   -- 0 past the last point
   pub split-padded : (l : List ℕ) → split load s 0 (padded l) ≡ split load s 0 l ++ replicate (32 - length l) (pos 0)
   unfolding padded
   split-padded l =
-      split-append 0 l (replicate (32 - length l) 0) ∙ ap (λ m. split load s 0 l ++ m) (split-zeros (0 + total l) (32 - length l))
+      split-append load s 0 l (replicate (32 - length l) 0) ∙ ap (λ m. split load s 0 l ++ m) (split-zeros (0 + total l) (32 - length l))
 
 -- ---- no share is above the load
 
@@ -113,12 +103,8 @@ module _ (u : ℕ) where
   total-past us xs n (suc m) f =
       let e : n + suc m ≡ suc (n + m) = omega arith in
       ap (totalTo us xs u) e
-      ∙ ap₂ _+_ (total-past us xs n m (λ j h. f j (omega arith))) (ap (λ x. cond (eqb (getD us (n + m) 0) u) x 0) (f m (omega arith)) ∙ none (eqb (getD us (n + m) 0) u))
+      ∙ ap₂ _+_ (total-past us xs n m (λ j h. f j (omega arith))) (ap (λ x. cond (eqb (getD us (n + m) 0) u) x 0) (f m (omega arith)) ∙ cond-same (eqb (getD us (n + m) 0) u) 0)
       ∙ add-zero (totalTo us xs u n)
-    where
-      none : (b : Bool) → _≡_ {A = ℕ} (cond b 0 0) 0
-      none true = refl
-      none false = refl
 
 module _ (load s : ℕ) (some : 0 < s) (g : ℕ) (w : Point → ℕ) (ps : List Point) (few : length ps ≤ 32) (rest : List ℤ) where
   abbrev shares : List ℤ
@@ -128,7 +114,7 @@ module _ (load s : ℕ) (some : 0 < s) (g : ℕ) (w : Point → ℕ) (ps : List 
   zeros = replicate (32 - length ps) (pos 0)
 
   as-many : length shares ≡ length ps
-  as-many = length-split load s 0 (map w ps) ∙ length-map ps w
+  as-many = split-length load s 0 (map w ps) ∙ length-map ps w
 
   past : (j : ℕ) → j < 32 - length ps → numAt ((shares ++ zeros) ++ rest) (length ps + j) ≡ 0
   past j h =

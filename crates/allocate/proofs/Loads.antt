@@ -1,28 +1,20 @@
 -- Row 2 of an allocation on naturals, and the net section load from raised numbers. Assumes nothing.
 use mathlib.Core.Path.{_≡_, refl, sym, ap, ap₂, _∙_}
 use mathlib.Core.Bool.{Bool, true, false, _&&_}
-use Prim.Native.Nat.{ℕ, _+_, _-_, _*_, _≤_, _<_, _^_}
+use Prim.Native.Nat.{ℕ, _+_, _-_, _≤_, _<_}
 use native.Mathlib.Omega.{arith}
 use lib.Dec.{leb, ltb}
 use lib.IntN.{ℤ, pos, negsuc, subℕ, _+ℤ_, _-ℤ_}
 use lib.Signed.{leZ, ltZ}
-use mir.Val.{SFits}
-use mir.ValLaws.{toZ-ofZ}
-use mir.Syntax.{w64}
-use borrow.Author.Tests.{ltb-true, ltb-false, leb-true, leb-false, le-leb, lt-leb}
+use borrow.Author.Tests.{ltb-true, leb-true, leb-false, le-leb, lt-leb}
 use Rattle.numbers.specs.Naturals.{natOf}
-use Rattle.numbers.proofs.Naturals.{rd}
-use Rattle.numbers.proofs.Bools.{both}
+use Rattle.numbers.proofs.Bools.{both, and-where}
 use Rattle.numbers.proofs.Integers.{up, dn, eqZ, add-fact, minus-fact, sub-fact, le-fact}
 use Rattle.calendar.specs.Calendar.{within, isDay}
-use Rattle.calendar.proofs.Dates.{within-natural, day-natural}
+use Rattle.calendar.proofs.Dates.{day-natural, up-to-natural, days-order}
 use Rattle.daybook.specs.declared.AllocationQuery.{AllocationQuery}
 use Rattle.daybook.specs.Queries.{allocationInRange, atLeast0}
 use Rattle.allocate.specs.Parts.{loadOf}
-
--- a field that is copied is read as it is
-pub natural-read : (z : ℤ) → SFits w64 z → natOf (rd z) ≡ natOf z
-natural-read z f = ap natOf (toZ-ofZ w64 z f)
 
 -- ---- an amount of at most 1,000,000,000 either way
 
@@ -71,17 +63,6 @@ module _ (q : AllocationQuery) (tdq tdm most uag clp : ℕ) (a : q .tdq ≡ pos 
 
 -- ---- row 2
 
--- what follows a test need agree only where it holds
-and-where : (p : Bool) {x y : Bool} → (p ≡ true → x ≡ y) → (p && x) ≡ (p && y)
-and-where true f = f refl
-and-where false f = refl
-
--- days are naturals
-pub same-order : (x y : ℤ) → isDay x ≡ true → isDay y ≡ true → (leb (natOf x) (natOf y) ≡ leZ x y) × (ltb (natOf x) (natOf y) ≡ ltZ x y)
-same-order (pos x) (pos y) e f = (refl, refl)
-same-order (pos x) (negsuc y) e f = let z : _≡_ {A = ℕ} 0 1 = cc in absurd (omega arith)
-same-order (negsuc x) y e f = let z : _≡_ {A = ℕ} 0 1 = cc in absurd (omega arith)
-
 window-is : (x y : ℕ) → leb y (x + 399) ≡ leb (y - x) 399
 window-is x y = go (leb y (x + 399)) refl
   where
@@ -97,7 +78,7 @@ module _ (g a b : ℤ) where
   in-order e =
       let d = both (isDay g && isDay a) (isDay b) e in
       let c = both (isDay g) (isDay a) (d .0) in
-      (same-order a b (c .1) (d .1) .0, same-order b g (d .1) (c .0) .1)
+      (days-order a b (c .1) (d .1) .0, days-order b g (d .1) (c .0) .1)
 
   pub window : (leb (natOf g) 39999 && leb (natOf a) 39999 && leb (natOf b) 39999 && leb (natOf a) (natOf b) && ltb (natOf b) (natOf g) && leb (natOf b) (natOf a + 399))
       ≡ (isDay g && isDay a && isDay b && leZ a b && ltZ b g && leb (natOf b - natOf a) 399)
@@ -108,11 +89,8 @@ module _ (g a b : ℤ) where
       ∙ and-where (areDays && leZ a b) (λ e. in-order (both areDays (leZ a b) e .0) .1))
       (window-is (natOf a) (natOf b))
 
-up-to : (hi : ℕ) (z : ℤ) → hi < 2 ^ 63 → leb (natOf z) hi ≡ within (pos 0) (pos hi) z
-up-to hi z h = ap (λ b. b && leb (natOf z) hi) (sym (le-leb 0 (natOf z) (omega arith))) ∙ within-natural 0 hi z h
-
 pub in-range-is : (n : AllocationQuery) (room : ℕ) {g a b q : ℕ} {u c : Bool} → g ≡ natOf (n .gasday) → a ≡ natOf (n .from) → b ≡ natOf (n .to) → q ≡ natOf (n .tdq) → u ≡ isLoad (n .uag) → c ≡ isLoad (n .clp)
     → (leb g 39999 && leb a 39999 && leb b 39999 && leb a b && ltb b g && leb b (a + 399) && leb q 1000000000 && u && c && leb 32 room) ≡ allocationInRange n room
 in-range-is n room g a b q u c =
     rw (g, a, b, q, u, c)
-    (ap₂ (λ w q. w && q && isLoad (n .uag) && isLoad (n .clp) && leb 32 room) (window (n .gasday) (n .from) (n .to)) (up-to 1000000000 (n .tdq) (omega arith)))
+    (ap₂ (λ w q. w && q && isLoad (n .uag) && isLoad (n .clp) && leb 32 room) (window (n .gasday) (n .from) (n .to)) (up-to-natural 1000000000 (n .tdq) (omega arith)))

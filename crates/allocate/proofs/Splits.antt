@@ -1,23 +1,23 @@
 -- The split of a load by an array of weights, turn by turn. Assumes nothing.
-use mathlib.Core.Path.{_≡_, refl, sym, _∙_, ap, ap₂}
+use mathlib.Core.Path.{_≡_, refl, _∙_, ap}
 use mathlib.Core.List.{List, [], _∷_, _++_, append-assoc}
 use Prim.Native.Nat.{ℕ, zero, suc, _+_, _-_, _*_, _/_, _≤_, _<_}
 use native.Mathlib.Omega.{arith}
-use native.Mathlib.Nat.{mul-le-mul, mul-le-mul-left, mul-comm, mul-zero, zero-div, div-le-of-le-mul, div-mul-le-self, le-div-iff-mul-le, add-assoc, add-zero}
+use native.Mathlib.Nat.{mul-le-mul, mul-le-mul-left, mul-comm, mul-zero, zero-div, div-le-of-le-mul, div-mul-le-self, le-div-iff-mul-le, add-zero}
 use native.Mathlib.Numerals.{add-one}
-use lib.ListN.{length, getD, take, drop, set, replicate}
-use lib.Seq.{take-suc, drop-cons, set-at}
+use lib.ListN.{length, getD, take, drop, set}
+use lib.Seq.{take-suc, drop-cons, set-at, take-all, length-take-le}
 use lib.IntN.{ℤ, pos, _-ℤ_}
 use Rattle.numbers.specs.Shares.{floorPart}
 use Rattle.numbers.proofs.Integers.{eqZ, minus-fact}
 use Rattle.daybook.specs.Queries.{total, split}
+use Rattle.daybook.proofs.Splits.{total-append, split-append, split-length}
 
 -- ---- the sum of the first k weights
 
 sum-snoc : (l : List ℕ) (x : ℕ) → total (l ++ (x ∷ [])) ≡ total l + x
 unfolding total
-sum-snoc [] x = omega arith
-sum-snoc (y ∷ l) x = ap (λ z. y + z) (sum-snoc l x) ∙ sym (add-assoc y (total l) x)
+sum-snoc l x = total-append l (x ∷ []) ∙ ap (λ z. total l + z) (add-zero x)
 
 pub sum-step : (ws : List ℕ) (k : ℕ) → k < length ws → total (take (k + 1) ws) ≡ total (take k ws) + getD ws k 0
 sum-step ws k h = rw (add-one k, take-suc ws k 0 h) (sum-snoc (take k ws) (getD ws k 0))
@@ -35,15 +35,9 @@ sum-up (w ∷ ws) zero n h = omega arith
 sum-up (w ∷ ws) (suc k) zero h = absurd (omega arith)
 sum-up (w ∷ ws) (suc k) (suc n) h = omega (arith, sum-up ws k n (omega arith))
 
-pub take-whole : {A : Type 0} (l : List A) (n : ℕ) → length l ≡ n → take n l ≡ l
-take-whole [] zero e = refl
-take-whole [] (suc n) e = refl
-take-whole (x ∷ l) zero e = absurd (omega arith)
-take-whole (x ∷ l) (suc n) e = ap (λ m. x ∷ m) (take-whole l n (omega arith))
-
 pub next-small : (ws : List ℕ) (k n s acc : ℕ) → k < n → length ws ≡ n → s ≡ total ws → acc ≡ total (take k ws) → acc + getD ws k 0 ≤ s
 next-small ws k n s acc h l e f =
-    let whole : total (take n ws) ≡ total ws = ap total (take-whole ws n l) in
+    let whole : total (take n ws) ≡ total ws = ap total (take-all n ws (omega arith)) in
     omega (arith, sum-step ws k (omega arith), sum-up ws (k + 1) n (omega arith))
 
 -- ---- floors
@@ -72,20 +66,8 @@ share-is load s acc x p =
 -- ---- the split, one more at the end
 
 split-snoc : (load s acc : ℕ) (l : List ℕ) (x : ℕ) → split load s acc (l ++ (x ∷ [])) ≡ split load s acc l ++ ((floorPart (pos load) s (acc + total l + x) -ℤ floorPart (pos load) s (acc + total l)) ∷ [])
-unfolding split total
-split-snoc load s acc [] x = rw (add-zero acc) refl
-split-snoc load s acc (y ∷ l) x =
-    ap (λ r. (floorPart (pos load) s (acc + y) -ℤ floorPart (pos load) s acc) ∷ r) (split-snoc load s (acc + y) l x ∙ rw (add-assoc acc y (total l)) refl)
-
-pub length-split : (load s acc : ℕ) (l : List ℕ) → length (split load s acc l) ≡ length l
 unfolding split
-length-split load s acc [] = refl
-length-split load s acc (y ∷ l) = ap suc (length-split load s (acc + y) l)
-
-length-take′ : {A : Type 0} (l : List A) (k : ℕ) → k ≤ length l → length (take k l) ≡ k
-length-take′ l zero h = refl
-length-take′ [] (suc k) h = absurd (omega arith)
-length-take′ (x ∷ l) (suc k) h = ap suc (length-take′ l k (omega arith))
+split-snoc load s acc l x = split-append load s acc l (x ∷ [])
 
 -- the first k shares stand, and a turn puts one more
 pub split-step : (load s : ℕ) (ws : List ℕ) (out l : List ℤ) (k : ℕ) → 0 < s → k < length ws → k < length out
@@ -94,4 +76,4 @@ pub split-step : (load s : ℕ) (ws : List ℕ) (out l : List ℤ) (k : ℕ) →
 split-step load s ws out l k p h g e =
     let z : 0 + total (take k ws) ≡ total (take k ws) = omega arith in
     rw (e, drop-cons out k (pos 0) g, add-one k, take-suc ws k 0 h, split-snoc load s 0 (take k ws) (getD ws k 0), z, append-assoc, share-is load s (total (take k ws)) (getD ws k 0) p)
-    (set-at (split load s 0 (take k ws)) _ (drop (suc k) out) _ k (length-split load s 0 (take k ws) ∙ length-take′ ws k (omega arith)))
+    (set-at (split load s 0 (take k ws)) _ (drop (suc k) out) _ k (split-length load s 0 (take k ws) ∙ length-take-le k ws (omega arith)))

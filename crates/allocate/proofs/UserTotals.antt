@@ -1,13 +1,13 @@
 -- The Users' totals, turn by turn. Assumes nothing.
 use mathlib.Core.Path.{_≡_, refl, sym, _∙_, ap}
-use mathlib.Core.Bool.{Bool, true, false, cond}
-use mathlib.Core.List.{List, [], _∷_, _++_, map, append-assoc}
-use Prim.Native.Nat.{ℕ, zero, suc, _+_, _≤_, _<_}
+use mathlib.Core.Bool.{true, cond}
+use mathlib.Core.List.{List, _++_, map, append-assoc, map-append}
+use Prim.Native.Nat.{ℕ, suc, _+_, _<_}
 use native.Mathlib.Omega.{arith}
 use native.Mathlib.Numerals.{add-one}
 use lib.Dec.{eqb}
-use lib.ListN.{length, getD, take, drop, set, length-take}
-use lib.Seq.{take-suc, drop-cons, set-at}
+use lib.ListN.{length, getD, take, drop, set, length-map}
+use lib.Seq.{take-suc, drop-cons, set-at, length-take-le}
 use lib.IntN.{ℤ, pos}
 use borrow.Author.Tests.{eqb-true}
 use Rattle.numbers.specs.Rows.{all}
@@ -24,15 +24,7 @@ pub total-step : (us : List ℕ) (xs : List ℤ) (u k : ℕ) → totalTo us xs u
 unfolding totalTo
 total-step us xs u k = rw (add-one k) refl
 
-pub own-small : (b : Bool) (x most : ℕ) → x ≤ most → cond b x 0 ≤ most
-own-small true x most h = h
-own-small false x most h = omega arith
-
 -- ---- the array of sixteen
-
-map-snoc : (h : ℕ → ℤ) (l : List ℕ) (x : ℕ) → map h (l ++ (x ∷ [])) ≡ map h l ++ (h x ∷ [])
-map-snoc h [] x = refl
-map-snoc h (y ∷ l) x = ap (λ r. h y ∷ r) (map-snoc h l x)
 
 -- User k + 1 stands at k: one test of all sixteen
 sixteen : all (λ k. eqb (getD users k 0) (k + 1)) 16 ≡ true
@@ -42,18 +34,11 @@ sixteen = refl
 user-at : (k : ℕ) → k < 16 → getD users k 0 ≡ k + 1
 user-at k h = eqb-true (getD users k 0) (k + 1) (all-at (λ k. eqb (getD users k 0) (k + 1)) 16 sixteen k h)
 
-length-map′ : (h : ℕ → ℤ) (l : List ℕ) → length (map h l) ≡ length l
-length-map′ h [] = refl
-length-map′ h (x ∷ l) = ap suc (length-map′ h l)
-
 one-more : (h : ℕ → ℤ) (us : List ℕ) (zs l : List ℤ) (k : ℕ) → k < length us → k < length zs → l ≡ map h (take k us) ++ drop k zs
     → set l k (h (getD us k 0)) ≡ map h (take (k + 1) us) ++ drop (k + 1) zs
 one-more h us zs l k u z e =
-    rw (e, drop-cons zs k (pos 0) z, add-one k, take-suc us k 0 u, map-snoc, append-assoc)
-    (set-at (map h (take k us)) (getD zs k (pos 0)) (drop (suc k) zs) (h (getD us k 0)) k (length-map′ h (take k us) ∙ short))
-  where
-    short : length (take k us) ≡ k
-    short = simp length-take (omega arith)
+    rw (e, drop-cons zs k (pos 0) z, add-one k, take-suc us k 0 u, map-append, append-assoc)
+    (set-at (map h (take k us)) (getD zs k (pos 0)) (drop (suc k) zs) (h (getD us k 0)) k (length-map (take k us) h ∙ length-take-le k us (omega arith)))
 
 pub row-step : (h : ℕ → ℤ) (zs l : List ℤ) (k : ℕ) → k < 16 → length zs ≡ 16 → l ≡ map h (take k users) ++ drop k zs
     → set l k (h (k + 1)) ≡ map h (take (k + 1) users) ++ drop (k + 1) zs

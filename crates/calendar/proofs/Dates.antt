@@ -1,19 +1,20 @@
 -- Dates: the month table's rule, 1 January by division, and dates read as naturals. Assumes nothing.
 use mathlib.Core.Path.{_≡_, refl, sym, ap, ap₂, _∙_}
-use mathlib.Core.Bool.{Bool, true, false, _&&_, _||_, and-false, cond}
+use mathlib.Core.Bool.{Bool, true, false, _&&_, _||_, and-false, cond, false≢true}
 use mathlib.Core.List.{List, [], _∷_}
 use Prim.Native.Nat.{ℕ, zero, suc, _+_, _-_, _*_, _/_, _%_, _^_, _≤_, _<_}
 use native.Mathlib.Nat.{le-trans}
 use native.Mathlib.Omega.{arith}
 use borrow.Author.Tests.{eqb-true, eqb-false, leb-true, le-leb, lt-leb}
-use lib.Dec.{leb, eqb}
+use lib.Dec.{leb, ltb, eqb}
 use lib.IntN.{ℤ, pos, negsuc}
+use lib.Signed.{leZ, ltZ}
 use lib.ListN.{getD}
-use Rattle.numbers.proofs.Bools.{both}
+use Rattle.numbers.proofs.Bools.{both, cond-small}
 use Rattle.numbers.specs.Naturals.{natOf}
 use Rattle.numbers.specs.Rows.{all}
 use Rattle.numbers.proofs.Rows.{all-at}
-use Rattle.calendar.specs.Calendar.{within, isDay, leap, commonLength, monthLength, daysBefore, newYear, dayOf, isDate, dateCall}
+use Rattle.calendar.specs.Calendar.{within, isDay, leap, monthLength, daysBefore, newYear, dayOf, isDate, dateCall}
 
 -- a table of twelve numbers that passes the test holds the days before each month
 abbrev rule : List ℕ → ℕ → Bool
@@ -43,15 +44,19 @@ pub within-natural : (lo hi : ℕ) (z : ℤ) → hi < 2 ^ 63 → (leb lo (natOf 
 within-natural lo hi (pos n) h = refl
 within-natural lo hi (negsuc n) h = rw (lt-leb (2 ^ 63) hi h) (and-false (leb lo (2 ^ 63)))
 
+pub up-to-natural : (hi : ℕ) (z : ℤ) → hi < 2 ^ 63 → leb (natOf z) hi ≡ within (pos 0) (pos hi) z
+up-to-natural hi z h = ap (λ b. b && leb (natOf z) hi) (sym (le-leb 0 (natOf z) (omega arith))) ∙ within-natural 0 hi z h
+
 pub day-natural : (z : ℤ) → leb (natOf z) 39999 ≡ isDay z
-day-natural (pos n) = rw (le-leb 0 n (omega arith))
-day-natural (negsuc n) = refl
+day-natural z = up-to-natural 39999 z (omega arith)
+
+-- days are ordered as their naturals are
+pub days-order : (x y : ℤ) → isDay x ≡ true → isDay y ≡ true → (leb (natOf x) (natOf y) ≡ leZ x y) × (ltb (natOf x) (natOf y) ≡ ltZ x y)
+days-order (pos x) (pos y) e f = (refl, refl)
+days-order (pos x) (negsuc y) e f = absurd (false≢true f)
+days-order (negsuc x) y e f = absurd (false≢true e)
 
 -- ---- the date call
-
-cond-small : (b : Bool) (x y k : ℕ) → x ≤ k → y ≤ k → cond b x y ≤ k
-cond-small true x y k h l = h
-cond-small false x y k h l = l
 
 pub month-length-bound : (y m : ℕ) → monthLength y m ≤ 31
 month-length-bound y m =

@@ -1,10 +1,9 @@
 -- The marked cases of document 01: one list, in its order and under its words. Each is proved by computing.
 use mathlib.Core.Path.{_≡_, refl}
-use mathlib.Core.Option.{Option, some}
+use mathlib.Core.Option.{some}
 use mathlib.Core.List.{List, [], _∷_, map}
-use Prim.Native.Nat.{ℕ}
-use lib.IntN.{ℤ, pos, negsuc}
-use Rattle.numbers.specs.Shares.{floorPart, share}
+use lib.IntN.{pos, negsuc}
+use Rattle.numbers.specs.Shares.{share}
 use Rattle.calendar.specs.Calendar.{dateCall, isDate, dayOf, newYear, daysBefore, allowablePeriod}
 use Rattle.daybook.specs.Book.{Edition}
 use Rattle.daybook.specs.Queries.{split}

@@ -1,7 +1,7 @@
 -- An energy notice on a point's lists: what holds where no row sends it back, that its step is the book's, and that it
 -- keeps the register well-formed.
 use mathlib.Core.Path.{_≡_, refl, sym, _∙_, ap}
-use mathlib.Core.Bool.{Bool, true, false, not, _&&_, cond, and-false}
+use mathlib.Core.Bool.{Bool, true, false, _&&_, cond, and-false}
 use mathlib.Core.Option.{Option, none, some}
 use mathlib.Core.List.{List, [], _∷_, _++_, map}
 use Prim.Native.Nat.{ℕ, suc, _≤_, _<_}
@@ -9,15 +9,15 @@ use native.Mathlib.Omega.{arith}
 use lib.Dec.{leb, ltb, eqb}
 use lib.ListN.{length}
 use lib.IntN.{pos, negsuc}
-use borrow.Author.Tests.{leb-true, leb-false, ltb-true, eqb-true, le-leb, not-false}
+use borrow.Author.Tests.{leb-false, ltb-true, le-leb, not-false}
 use Rattle.numbers.specs.Naturals.{natOf}
-use Rattle.numbers.specs.Search.{maybe}
+use Rattle.numbers.proofs.Search.{some-is}
 use Rattle.numbers.proofs.Bools.{both}
 use Rattle.calendar.specs.Calendar.{within, isDay}
-use Rattle.calendar.proofs.Dates.{within-natural, day-natural}
 use Rattle.daybook.specs.declared.EnergyNotice.{EnergyNotice}
 use Rattle.daybook.specs.Book.{Entry, Pending, Edition, days, fill, withEntries, withFro, withPending, records, latest, appendDay}
 use Rattle.daybook.specs.Notices.{least, isMirn, isFlag, Which, append, whichNumber, which, entryOf, energyEarly, energyRows, fitsKind, offWithin, beyond, kept, removed, Outcome, registers, lapses, stays, outcomeOf, outcomeNumbers, settled, entered, enter, energy}
+use Rattle.daybook.proofs.Bounds.{within-bounds}
 use Rattle.daybook.proofs.Lists.{Lists, Register, offOn, entryOn, userOn, pointOf, bookOf}
 use Rattle.daybook.proofs.Steps.{latestOf, whichIn, appendDayOf, someOverlap, recsAfter, userFrom, regsAfter, pendingAfter, enteredLists, enterLists, energyListsRows, energyLists}
 use Rattle.daybook.proofs.Well.{Regs, StartsOn, PendingOk, nopending, pending, Well, WellFormed}
@@ -46,11 +46,6 @@ pub record MayEnter (room : ℕ) (x : Entry) (q : Lists) : Type 0 where
 of-append : (w : Which) (t : Bool) → (eqb (whichNumber w) 1 && t) ≡ false → w ≡ append → t ≡ false
 of-append w t h e = rw e at h
 
--- a day that isn't refused as another day is that day
-is-day : (d : ℕ) (o : Option ℕ) → not (maybe false (eqb d) o) ≡ false → o ≡ some d
-is-day d none h = let z : _≡_ {A = ℕ} 0 1 = cc in absurd (omega arith)
-is-day d (some k) h = ap some (sym (eqb-true d k (not-false _ h)))
-
 -- row 2: the numbers of the entry are in range
 energy-numbers : (n : EnergyNotice) → least (energyEarly n) ≡ 0
     → (natOf (n .end) ≤ 39999) × (within (negsuc 999999) (pos 1000000) (n .energy) ≡ true) × (natOf (n .quality) ≤ 2)
@@ -58,8 +53,7 @@ unfolding energyEarly
 energy-numbers n e =
     let tests : (isDay (n .end) ≡ true) × (within (negsuc 999999) (pos 1000000) (n .energy) ≡ true) × (within (pos 0) (pos 2) (n .quality) ≡ true) =
     middle (isMirn (n .mirn) && isDay (n .start)) _ _ _ (isFlag (n .confirmed)) (not-false _ (least-none 1 _ [] e .0)) in
-    let type = both (leb 0 (natOf (n .quality))) _ (within-natural 0 2 (n .quality) (omega arith) ∙ tests .2) in
-    (leb-true _ _ (day-natural (n .end) ∙ tests .0), tests .1, leb-true _ _ (type .1))
+    (within-bounds 0 39999 (n .end) (tests .0) .1, tests .1, within-bounds 0 2 (n .quality) (tests .2) .1)
   where
     middle : (a b c d f : Bool) → (a && b && c && d && f) ≡ true → (b ≡ true) × (c ≡ true) × (d ≡ true)
     middle a b c d f h =
@@ -87,7 +81,7 @@ energy-clear ed n R q e =
       typeOk = numbers .2;
       fits = fits;
       on = rw (le-leb _ _ (fits-le (q .facts .kind) (natOf (n .start)) (natOf (n .end)) fits)) at (row8 .0);
-      next = λ a. is-day (natOf (n .start)) (appendDayOf q) (of-append _ _ (row7 .0) a);
+      next = λ a. some-is (natOf (n .start)) (appendDayOf q) (not-false _ (of-append _ _ (row7 .0) a));
       more = λ a. leb-false _ _ (of-append _ _ (row16 .0) a);
     }
 

@@ -4,6 +4,8 @@ pub mod Lists
 pub mod Steps
 pub mod Well
 pub mod Rows
+pub mod Last
+pub mod Splits
 pub mod Scan
 pub mod Apart
 pub mod Records

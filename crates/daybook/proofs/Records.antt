@@ -1,12 +1,12 @@
 -- Records as a list: the book reads them, their starts and the last filled day off their days. Assumes nothing.
 use mathlib.Core.Path.{_≡_, refl, sym, _∙_, ap}
-use mathlib.Core.Bool.{Bool, true, false, cond}
+use mathlib.Core.Bool.{true, cond}
 use mathlib.Core.Option.{Option, none, some, Option·none-ne-some, Option·some-injective}
 use mathlib.Core.List.{List, [], _∷_}
-use Prim.Native.Nat.{ℕ, zero, suc, _≤_, _<_}
+use Prim.Native.Nat.{ℕ, suc, _≤_, _<_}
 use native.Mathlib.Omega.{arith}
 use lib.Dec.{eqb}
-use borrow.Author.Tests.{eqb-true, eqb-false, ne-eqb}
+use borrow.Author.Tests.{ne-eqb}
 use Rattle.numbers.specs.Search.{maybe, isSome, lastBelow}
 use Rattle.numbers.proofs.Search.{last-none, last-is}
 use Rattle.daybook.specs.Book.{Entry, days, fill, lastOf, recordAt, records, lastFilled}

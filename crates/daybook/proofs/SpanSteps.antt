@@ -6,12 +6,12 @@ use mathlib.Core.Option.{Option, none, some, Option·none-ne-some}
 use mathlib.Core.List.{List, [], _∷_, _++_}
 use Prim.Native.Nat.{ℕ, suc, _≤_, _<_}
 use native.Mathlib.Omega.{arith}
-use lib.Dec.{leb, ltb, eqb}
+use lib.Dec.{leb, ltb}
 use lib.ListN.{length}
-use borrow.Author.Tests.{leb-true, leb-false, ltb-true, eqb-true, lt-leb, lt-ltb, le-ltb}
+use borrow.Author.Tests.{leb-true, leb-false, lt-leb, lt-ltb, le-ltb}
 use Rattle.numbers.specs.Search.{maybe}
 use Rattle.daybook.specs.Book.{Entry, fromOn, lastOf}
-use Rattle.daybook.specs.Notices.{fitsKind, cannotOff, cannotOn}
+use Rattle.daybook.specs.Notices.{cannotOff, cannotOn}
 use Rattle.daybook.proofs.Lists.{inSpan, offOn}
 use Rattle.daybook.proofs.Steps.{lastEnd, skip, closed}
 use Rattle.daybook.proofs.Well.{Spans, nospan, still, ended, Recs, norec, rec}

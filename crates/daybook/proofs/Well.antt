@@ -1,12 +1,13 @@
 -- Well-formed lists: document 01's sentence on a sound register, said of a point's lists. Every step keeps it.
 use mathlib.Core.Path.{_≡_}
-use mathlib.Core.Bool.{Bool, true, false}
+use mathlib.Core.Bool.{true, false}
 use mathlib.Core.Option.{Option, none, some}
 use mathlib.Core.List.{List, [], _∷_}
 use Prim.Native.Nat.{ℕ, suc, _≤_, _<_}
+use native.Mathlib.Omega.{arith}
 use lib.Dec.{eqb}
 use lib.ListN.{length}
-use lib.IntN.{ℤ, pos, negsuc}
+use lib.IntN.{pos, negsuc}
 use Rattle.calendar.specs.Calendar.{within}
 use Rattle.daybook.specs.Book.{Entry, Pending, Facts, Edition}
 use Rattle.daybook.specs.Notices.{fitsKind, isRange}
@@ -23,6 +24,10 @@ pub data Regs : ℕ → ℕ → List (ℕ × ℕ) → Type 0 where
 -- The first registration starts on the install day.
 pub data StartsOn (install : ℕ) : List (ℕ × ℕ) → Type 0 where
   starts : {x : ℕ × ℕ} {l : List (ℕ × ℕ)} → x .0 ≡ install → StartsOn install (x ∷ l)
+
+-- So there is one.
+pub some-reg : {install : ℕ} {l : List (ℕ × ℕ)} → StartsOn install l → 1 ≤ length l
+some-reg (starts e) = omega arith
 
 -- Spans from day lo on: each ends after it begins, the next begins after that on day, only the last is open.
 pub data Spans : ℕ → List (ℕ × Option ℕ) → Type 0 where

@@ -1,6 +1,6 @@
 -- The energy call, test by test. Assumes nothing.
 use mathlib.Core.Path.{_≡_, refl, sym, _∙_, ap}
-use mathlib.Core.Bool.{Bool, true, false, cond}
+use mathlib.Core.Bool.{true, false, cond}
 use mathlib.Core.List.{List, [], _∷_}
 use Prim.Native.Nat.{ℕ, _≤_}
 use native.Mathlib.Omega.{arith}
@@ -24,13 +24,13 @@ use Rattle.layout.specs.Sound.{sound}
 use Rattle.layout.proofs.Numbers.{few}
 use Rattle.layout.proofs.TableSound.{sound-lays, standard-fits}
 use Rattle.table.specs.Lookup.{indexOf}
-use Rattle.table.proofs.Laws.{part-is, range-is}
+use Rattle.table.proofs.Laws.{part-is, range-is, lent}
 use Rattle.table.proofs.Found.{Found}
 use Rattle.table.proofs.Calls.{call-unsound}
-use Rattle.table.proofs.OnPart.{onPart, lent, CallOn, point-found, on-early, on-missing, on-point}
+use Rattle.table.proofs.OnPart.{onPart, CallOn, point-found, on-early, on-missing, on-point}
 use Rattle.energy.specs.declared.Reading.{Reading}
 use Rattle.energy.specs.Energy.{energyCall}
-use Rattle.energy.specs.Parts.{readingOf, noticeOf, inRange, InRange, Laid, rangesOf, rowsOf, energyPart}
+use Rattle.energy.specs.Parts.{readingOf, noticeOf, inRange, InRange, Laid, rowsOf, energyPart}
 use Rattle.energy.proofs.Readings.{in-range-tells, in-range-is, notice-back}
 use Rattle.energy.proofs.Laying.{laid}
 

@@ -1,22 +1,21 @@
 -- A notice that its point does not send back: the entry, then the request, are the lists' one step. Assumes nothing.
 use mathlib.Core.Path.{_≡_, refl, sym, _∙_, ap, ap₂}
-use mathlib.Core.Bool.{Bool, true, false}
 use mathlib.Core.Option.{Option, none, some}
-use mathlib.Core.List.{List, [], _∷_, _++_, map}
-use Prim.Native.Nat.{ℕ, zero, suc, _≤_}
-use native.Mathlib.Omega.{arith}
+use mathlib.Core.List.{List, [], _∷_, map}
+use Prim.Native.Nat.{ℕ, zero, suc}
 use lib.ListN.{replicate}
 use lib.IntN.{ℤ, pos}
 use Rattle.daybook.specs.Book.{Entry, Pending}
-use Rattle.daybook.specs.Notices.{least, Numbers, Which, append, whichNumber, removed, Outcome, outcomeOf, outcomeNumbers, entryOf, energyEarly}
+use Rattle.daybook.specs.Notices.{least, Which, append, Outcome, outcomeOf, outcomeNumbers, entryOf, energyEarly}
 use Rattle.daybook.proofs.Lists.{Lists}
-use Rattle.daybook.proofs.Steps.{latestOf, whichIn, appendDayOf, recsAfter, withPendingLists, enteredLists, enterLists, energyListsRows}
+use Rattle.daybook.proofs.Steps.{latestOf, whichIn, appendDayOf, withPendingLists, enteredLists, enterLists, energyListsRows}
 use Rattle.daybook.proofs.Well.{nopending, Well}
 use Rattle.daybook.proofs.Rows.{above, least-append-none}
 use Rattle.daybook.proofs.EnergyStep.{MayEnter, energy-clear, enter-keeps}
 use Rattle.layout.specs.Layout.{standard, pointNumbers, pointFrom}
 use Rattle.layout.specs.Sound.{withRecs}
 use Rattle.layout.proofs.Parse.{point-alone}
+use Rattle.table.proofs.Calls.{gives}
 use Rattle.table.proofs.OnPart.{part-entered, part-refused}
 use Rattle.energy.specs.declared.Reading.{Reading}
 use Rattle.energy.specs.declared.Kept.{Kept}
@@ -83,9 +82,7 @@ module _ {p : List ℤ} (ok : Laid p) (x : Reading) (inside : InRange x) (a b : 
   pub refused : (row : ℕ) → row ≡ least (rowsOf x a b q) → (row ≡ 0 → ⊥) → (pos row ∷ replicate 4 (pos 0) ≡ energyPart x a b p .0) × (p ≡ energyPart x a b p .1)
   unfolding energyPart
   refused zero h n = absurd (n refl)
-  refused (suc r) h n =
-      let w = part-refused 4 (rowsOf x a b) (enterLists e) p r (sym h) in
-      (sym (ap (λ w. w .0) w), sym (ap (λ w. w .1) w))
+  refused (suc r) h n = gives (part-refused 4 (rowsOf x a b) (enterLists e) p r (sym h))
 
   module _ (row : ℕ) (h : row ≡ least (rowsOf x a b q)) (z : row ≡ 0) where
     clear : least (rowsOf x a b q) ≡ 0
@@ -115,8 +112,8 @@ module _ {p : List ℤ} (ok : Laid p) (x : Reading) (inside : InRange x) (a b : 
           → (pos 0 ∷ pos (k .which) ∷ pos (k .removed) ∷ pos (s .user) ∷ pos (s .lapsed) ∷ [] ≡ energyPart x a b p .0) × (p′ ≡ energyPart x a b p .1)
       unfolding energyPart enterLists enteredLists withRecs
       entered s {p′} t =
-          let w = part-entered 4 (rowsOf x a b) (enterLists e) p clear in
+          let w = gives (part-entered 4 (rowsOf x a b) (enterLists e) p clear) in
           let n : pos 0 ∷ map pos (k .which ∷ k .removed ∷ s .user ∷ s .lapsed ∷ []) ≡ pos 0 ∷ enterLists e q .0 =
           λ i. pos 0 ∷ map pos (rec .whichIs i ∷ rec .removedIs i ∷ (t .numbersAre ∙ ap outcomeNumbers outcome-same) i) in
           let l : p′ ≡ pointNumbers 48 (enterLists e q .1) = t .partIs ∙ ap₂ (λ o q. pointNumbers 48 (settledLists o (x .end) q)) outcome-same back in
-          (n ∙ sym (ap (λ w. w .0) w), l ∙ sym (ap (λ w. w .1) w))
+          (n ∙ w .0, l ∙ w .1)

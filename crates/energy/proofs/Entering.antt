@@ -1,6 +1,6 @@
 -- An entry goes onto the records of a part: what the row writers leave is the lists' step. Assumes nothing.
 use mathlib.Core.Path.{_≡_, refl, sym, _∙_, ap, ap₂, subst}
-use mathlib.Core.Bool.{Bool, true, false, cond}
+use mathlib.Core.Bool.{cond}
 use mathlib.Core.List.{List, [], _∷_, _++_}
 use Prim.Native.Nat.{ℕ, suc, _+_, _-_, _*_, _≤_, _<_}
 use native.Mathlib.Omega.{arith}
@@ -19,12 +19,12 @@ use Rattle.layout.specs.Layout.{numAt, pointNumbers, pointFrom}
 use Rattle.layout.specs.Sound.{withRecs}
 use Rattle.layout.specs.Writes.{putRecord, appendRecord, cutRecords}
 use Rattle.layout.proofs.Numbers.{Few, few}
-use Rattle.layout.proofs.Cells.{noRec}
+use Rattle.layout.proofs.Cells.{noRec, place-recs}
 use Rattle.layout.proofs.PartBlocks.{few-recs}
 use Rattle.layout.proofs.RowWrites.{put-record, append-record, cut-records}
 use Rattle.energy.specs.declared.Reading.{Reading}
 use Rattle.energy.specs.Parts.{entryFrom, Laid, rowIn, Recorded}
-use Rattle.energy.proofs.Laying.{count-recs, end-at}
+use Rattle.energy.proofs.Laying.{end-at}
 use Rattle.energy.proofs.Located.{Located, located, located-none, row-few}
 
 module _ {p : List ℤ} (ok : Laid p) (x : Reading) where
@@ -49,7 +49,7 @@ module _ {p : List ℤ} (ok : Laid p) (x : Reading) where
 
   module _ (n j : ℕ) (en : n ≡ numAt p 6) (ej : j ≡ rowIn (q .recs) (x .start)) where
     many : n ≡ length (q .recs)
-    many = en ∙ count-recs ok
+    many = en ∙ place-recs (ok .well) (ok .is)
 
     -- ---- no record starts on the day
 

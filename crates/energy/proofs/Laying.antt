@@ -1,20 +1,24 @@
 -- A part that is the layout of its own lists: its counts and the places that the code reads, and that every layout of
 -- well-formed lists is one. Assumes nothing.
-use mathlib.Core.Path.{_≡_, refl, sym, _∙_, ap, ap₂, subst}
-use mathlib.Core.List.{List, [], _∷_}
-use Prim.Native.Nat.{ℕ, suc, _+_, _-_, _*_, _≤_, _<_}
+use mathlib.Core.Path.{_≡_, sym, _∙_, ap, ap₂, subst}
+use mathlib.Core.Option.{Option, none, some}
+use mathlib.Core.List.{List}
+use Prim.Native.Nat.{ℕ, suc, _+_, _-_, _*_, _≤_}
 use native.Mathlib.Omega.{arith}
+use native.Mathlib.Numerals.{add-one}
 use lib.ListN.{length, getD}
 use lib.IntN.{ℤ}
+use Rattle.numbers.specs.Search.{maybe}
 use Rattle.daybook.specs.Book.{Entry}
 use Rattle.daybook.proofs.Lists.{Lists}
-use Rattle.daybook.proofs.Steps.{skip, lastEnd, appendDayOf}
-use Rattle.daybook.proofs.Well.{StartsOn, starts, Well}
+use Rattle.daybook.proofs.Last.{last-none, last-at}
+use Rattle.daybook.proofs.Steps.{skip, appendDayOf, lastEnd}
+use Rattle.daybook.proofs.Well.{some-reg, Well}
 use Rattle.daybook.proofs.Apart.{recs-apart}
-use Rattle.daybook.proofs.Records.{dayAfter, day-after-nil, day-after-cons, day-after-le}
+use Rattle.daybook.proofs.Records.{dayAfter, day-after-le}
 use Rattle.layout.specs.Layout.{numAt, pointNumbers, pointFrom}
 use Rattle.layout.proofs.Numbers.{few, length-point}
-use Rattle.layout.proofs.Cells.{noRec, cell-kind, cell-install, cell-regs, cell-offs, cell-recs, cell-rec-start, cell-rec-end}
+use Rattle.layout.proofs.Cells.{noRec, cell-regs, cell-offs, cell-recs, cell-rec-start, cell-rec-end, place-install, place-offs, place-recs}
 use Rattle.layout.proofs.Parse.{point-alone}
 use Rattle.point.specs.Tests.{firstOn}
 use Rattle.point.proofs.OffDays.{dayIf}
@@ -22,9 +26,6 @@ use Rattle.point.proofs.Readers.{first-on-is}
 use Rattle.energy.specs.Parts.{Laid}
 
 -- ---- every layout is laid
-
-some-reg : {install : ℕ} {l : List (ℕ × ℕ)} → StartsOn install l → 1 ≤ length l
-some-reg (starts e) = omega arith
 
 pub laid : {p : List ℤ} {q : Lists} → Well 48 q → p ≡ pointNumbers 48 q → Laid p
 laid {p} {q} w e = subst Laid (sym e) (own w)
@@ -44,15 +45,6 @@ laid {p} {q} w e = subst Laid (sym e) (own w)
 -- ---- what stands at the places
 
 module _ {p : List ℤ} (ok : Laid p) where
-  pub kind-at : numAt p 1 ≡ pointFrom p .facts .kind
-  kind-at = ap (λ t. numAt t 1) (sym (ok .is)) ∙ cell-kind 48 (pointFrom p)
-
-  pub count-offs : numAt p 5 ≡ length (pointFrom p .offs)
-  count-offs = ap (λ t. numAt t 5) (sym (ok .is)) ∙ cell-offs 48 (pointFrom p)
-
-  pub count-recs : numAt p 6 ≡ length (pointFrom p .recs)
-  count-recs = ap (λ t. numAt t 6) (sym (ok .is)) ∙ cell-recs 48 (pointFrom p)
-
   pub start-at : (j : ℕ) → numAt p (48 + 4 * j) ≡ getD (pointFrom p .recs) j noRec .start
   start-at j = ap (λ t. numAt t (48 + 4 * j)) (sym (ok .is)) ∙ cell-rec-start (few (ok .well)) j
 
@@ -62,15 +54,13 @@ module _ {p : List ℤ} (ok : Laid p) where
 -- ---- the append day
 
 after-none : (from : ℕ) (l : List Entry) → length l ≡ 0 → from ≡ dayAfter from l
-after-none from [] e = sym (day-after-nil from)
-after-none from (x ∷ l) e = absurd (omega arith)
+unfolding lastEnd
+after-none from l e = ap (λ (o : Option Entry). maybe from suc (maybe none (λ x. some (x .end)) o)) (sym (last-none l e))
 
-after-last : (from : ℕ) (l : List Entry) → 1 ≤ length l → getD l (length l - 1) noRec .end + 1 ≡ dayAfter from l
-after-last from [] h = absurd (omega arith)
-after-last from (x ∷ []) h = omega (arith, day-after-cons from x [], day-after-nil (suc (x .end)))
-after-last from (x ∷ y ∷ l) h =
-    let e : suc (suc (length l)) - 1 ≡ suc (suc (length l) - 1) = omega arith in
-    ap (λ k. getD (x ∷ y ∷ l) k noRec .end + 1) e ∙ after-last (suc (x .end)) (y ∷ l) (omega arith) ∙ sym (day-after-cons from x (y ∷ l))
+after-last : (from : ℕ) (l : List Entry) (k : ℕ) → length l ≡ suc k → getD l k noRec .end + 1 ≡ dayAfter from l
+unfolding lastEnd
+after-last from l k e =
+    add-one _ ∙ ap (λ (o : Option Entry). maybe from suc (maybe none (λ x. some (x .end)) o)) (sym (last-at noRec l k e))
 
 module _ {p : List ℤ} (ok : Laid p) where
   after-small : dayAfter (pointFrom p .facts .install) (pointFrom p .recs) ≤ 40000
@@ -81,15 +71,14 @@ module _ {p : List ℤ} (ok : Laid p) where
   append-is : (m d : ℕ) → m ≡ numAt p 5 → d ≡ dayAfter (pointFrom p .facts .install) (pointFrom p .recs) → dayIf (firstOn p m d) ≡ appendDayOf (pointFrom p)
   unfolding appendDayOf
   append-is m d em ed =
-      ap₂ (λ t k. dayIf (firstOn t k d)) (sym (ok .is)) (em ∙ count-offs ok)
+      ap₂ (λ t k. dayIf (firstOn t k d)) (sym (ok .is)) (em ∙ place-offs (ok .well) (ok .is))
       ∙ first-on-is (ok .well) d (omega (arith, after-small)) ∙ ap (skip (pointFrom p .offs)) ed
 
   pub append-first : (m n d : ℕ) → m ≡ numAt p 5 → n ≡ numAt p 6 → n ≡ 0 → d ≡ numAt p 2 → dayIf (firstOn p m d) ≡ appendDayOf (pointFrom p)
   append-first m n d em en z ed =
-      append-is m d em (ed ∙ ap (λ t. numAt t 2) (sym (ok .is)) ∙ cell-install 48 (pointFrom p) ∙ after-none _ (pointFrom p .recs) (sym (count-recs ok) ∙ sym en ∙ z))
+      append-is m d em (ed ∙ place-install (ok .well) (ok .is) ∙ after-none _ (pointFrom p .recs) (sym (place-recs (ok .well) (ok .is)) ∙ sym en ∙ z))
 
   pub append-next : (m n d : ℕ) → m ≡ numAt p 5 → n ≡ numAt p 6 → (n ≡ 0 → ⊥) → d ≡ numAt p (48 + 4 * (n - 1) + 1) → dayIf (firstOn p m (d + 1)) ≡ appendDayOf (pointFrom p)
   append-next m n d em en z ed =
-      let many : n ≡ length (pointFrom p .recs) = en ∙ count-recs ok in
       append-is m (d + 1) em
-      (ap (λ k. k + 1) (ed ∙ end-at ok (n - 1)) ∙ ap (λ k. getD (pointFrom p .recs) (k - 1) noRec .end + 1) many ∙ after-last _ (pointFrom p .recs) (omega arith))
+      (ap (λ k. k + 1) (ed ∙ end-at ok (n - 1)) ∙ after-last _ (pointFrom p .recs) (n - 1) (omega (arith, en, place-recs (ok .well) (ok .is), z)))

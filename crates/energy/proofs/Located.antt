@@ -1,12 +1,12 @@
 -- The record that starts on a day, by its index: what the search tells of the list, and its loop. Assumes nothing.
 use mathlib.Core.Path.{_≡_, refl, sym, _∙_, ap}
 use mathlib.Core.Bool.{Bool, true, false, not, cond}
-use mathlib.Core.Option.{Option, none, some}
+use mathlib.Core.Option.{none, some}
 use mathlib.Core.List.{List, [], _∷_, _++_}
-use Prim.Native.Nat.{ℕ, zero, suc, _+_, _*_, _≤_, _<_}
+use Prim.Native.Nat.{ℕ, suc, _+_, _*_, _≤_, _<_}
 use native.Mathlib.Omega.{arith}
 use native.Mathlib.Numerals.{add-one}
-use lib.Dec.{eqb, ltb, eqb·zero-suc, eqb·suc-suc}
+use lib.Dec.{eqb, eqb·zero-suc, eqb·suc-suc}
 use lib.ListN.{length, drop, getD, drop-of-length-le}
 use lib.Seq.{drop-cons}
 use lib.IntN.{ℤ}
@@ -17,9 +17,9 @@ use Rattle.daybook.specs.Notices.{laterStarts}
 use Rattle.daybook.proofs.Steps.{startingOn, earlier, replaced}
 use Rattle.daybook.proofs.Apart.{Apart, noentry, apart}
 use Rattle.layout.specs.Layout.{numAt, pointFrom}
-use Rattle.layout.proofs.Cells.{noRec}
+use Rattle.layout.proofs.Cells.{noRec, place-recs}
 use Rattle.energy.specs.Parts.{Laid, rowIn}
-use Rattle.energy.proofs.Laying.{count-recs, start-at}
+use Rattle.energy.proofs.Laying.{start-at}
 
 -- ---- what the index tells
 
@@ -127,20 +127,20 @@ module _ {p : List ℤ} (ok : Laid p) (j d r : ℕ) where
 
   pub row-hit : j < numAt p 6 → numAt p (48 + 4 * j) ≡ d → j + rowIn (drop j recs) d ≡ r → j ≡ r
   row-hit h e k =
-      let s = row-step recs d j (omega (arith, count-recs ok)) in
+      let s = row-step recs d j (omega (arith, place-recs (ok .well) (ok .is))) in
       let z : rowIn (drop j recs) d ≡ 0 = s ∙ rw (eq-eqb (getD recs j noRec .start) d (sym (start-at ok j) ∙ e)) in
       omega arith
 
   pub row-miss : j < numAt p 6 → (numAt p (48 + 4 * j) ≡ d → ⊥) → j + rowIn (drop j recs) d ≡ r → j + 1 + rowIn (drop (j + 1) recs) d ≡ r
   row-miss h e k =
-      let s = row-step recs d j (omega (arith, count-recs ok)) in
+      let s = row-step recs d j (omega (arith, place-recs (ok .well) (ok .is))) in
       let z : rowIn (drop j recs) d ≡ suc (rowIn (drop (suc j) recs) d) = s ∙ rw (ne-eqb (getD recs j noRec .start) d (λ q. e (start-at ok j ∙ q))) in
       rw (add-one j) (omega arith)
 
   pub row-end : numAt p 6 ≤ j → j + rowIn (drop j recs) d ≡ r → j ≡ r
   unfolding rowIn
   row-end h k =
-      let past : length recs ≤ j = omega (arith, count-recs ok) in
+      let past : length recs ≤ j = omega (arith, place-recs (ok .well) (ok .is)) in
       let z : drop j recs ≡ [] = drop-of-length-le recs past in
       let s : rowIn (drop j recs) d ≡ 0 = ap (λ m. rowIn m d) z in
       omega arith

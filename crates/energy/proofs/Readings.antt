@@ -1,20 +1,17 @@
 -- A notice's numbers as naturals: when they are in range, and that they are then the notice's own. Assumes nothing.
 use mathlib.Core.Path.{_≡_, refl, sym, _∙_, ap, ap₂}
 use mathlib.Core.Bool.{Bool, true, false, not, _&&_, cond}
-use mathlib.Core.List.{List, [], _∷_}
-use Prim.Native.Nat.{ℕ, suc, _+_, _-_, _≤_, _<_, _^_}
+use mathlib.Core.List.{[], _∷_}
+use Prim.Native.Nat.{ℕ, suc, _-_, _≤_, _<_}
 use native.Mathlib.Omega.{arith}
 use lib.Dec.{leb, ltb}
-use lib.IntN.{ℤ, pos, negsuc}
 use borrow.Author.Tests.{leb-true, le-leb, ltb-true, ltb-false, lt-ltb}
 use Rattle.numbers.specs.Naturals.{natOf, biasOf, energyOf}
 use Rattle.numbers.proofs.Bools.{both}
 use Rattle.numbers.proofs.Naturals.{natOf-is, bias-is}
-use Rattle.calendar.specs.Calendar.{within}
-use Rattle.calendar.proofs.Dates.{within-natural, day-natural}
+use Rattle.calendar.proofs.Dates.{within-natural, day-natural, up-to-natural}
 use Rattle.daybook.specs.declared.EnergyNotice.{EnergyNotice}
 use Rattle.daybook.specs.Notices.{least, energyEarly}
-use Rattle.daybook.proofs.Rows.{above, least-first, least-skip}
 use Rattle.point.proofs.Records.{energy-same}
 use Rattle.energy.specs.declared.Reading.{Reading}
 use Rattle.energy.specs.Parts.{readingOf, noticeOf, inRange, InRange}
@@ -45,14 +42,11 @@ in-range-tells x e =
 
 -- ---- row 2
 
-up-to : (hi : ℕ) (z : ℤ) → hi < 2 ^ 63 → leb (natOf z) hi ≡ within (pos 0) (pos hi) z
-up-to hi z h = ap (λ b. b && leb (natOf z) hi) (sym (le-leb 0 (natOf z) (omega arith))) ∙ within-natural 0 hi z h
-
 pub in-range-is : (n : EnergyNotice) → least (energyEarly n) ≡ cond (inRange (readingOf n)) 0 2
 unfolding energyEarly least
 in-range-is n =
     let same : inRange (readingOf n) ≡ _ =
-    ap₂ _&&_ (ap₂ _&&_ (ap₂ _&&_ (ap₂ _&&_ (ap₂ _&&_ (within-natural 1 9999999999 (n .mirn) (omega arith)) (day-natural (n .start))) (day-natural (n .end))) (energy-same (n .energy))) (up-to 2 (n .quality) (omega arith))) (up-to 1 (n .confirmed) (omega arith)) in
+    ap₂ _&&_ (ap₂ _&&_ (ap₂ _&&_ (ap₂ _&&_ (ap₂ _&&_ (within-natural 1 9999999999 (n .mirn) (omega arith)) (day-natural (n .start))) (day-natural (n .end))) (energy-same (n .energy))) (up-to-natural 2 (n .quality) (omega arith))) (up-to-natural 1 (n .confirmed) (omega arith)) in
     ap (λ b. least ((2, not b) ∷ [])) (sym same) ∙ go (inRange (readingOf n))
   where
     go : (b : Bool) → least ((2, not b) ∷ []) ≡ cond b 0 2

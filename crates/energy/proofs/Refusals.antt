@@ -1,15 +1,14 @@
 -- The rows that a point decides, tested in order. Assumes nothing.
 use mathlib.Core.Path.{_≡_, refl, sym, _∙_, ap, ap₂}
-use mathlib.Core.Bool.{Bool, true, false, not, _&&_, _||_, cond}
+use mathlib.Core.Bool.{Bool, true, false, not, _&&_, _||_, cond, or-false, Bool·not-not}
 use mathlib.Core.Option.{Option, none, some}
 use mathlib.Core.List.{List, [], _∷_}
 use Prim.Native.Nat.{ℕ, suc, _+_, _-_, _≤_, _<_}
 use native.Mathlib.Omega.{arith}
 use lib.Dec.{leb, ltb, eqb}
 use lib.ListN.{length}
-use lib.IntN.{ℤ, pos, negsuc, natAbs}
-use lib.Signed.{leZ}
-use borrow.Author.Tests.{leb-true, le-leb, lt-leb, ltb-true, ltb-false, lt-ltb, le-ltb, eqb-true, eqb-false, eq-eqb, ne-eqb, not-false}
+use lib.IntN.{ℤ}
+use borrow.Author.Tests.{le-leb, lt-leb, ltb-true, ltb-false, lt-ltb, le-ltb, eqb-true, eqb-false, eq-eqb, ne-eqb, not-false}
 use Rattle.numbers.specs.Naturals.{energyOf}
 use Rattle.numbers.specs.Search.{maybe, isSome}
 use Rattle.daybook.specs.Book.{Entry}
@@ -19,12 +18,12 @@ use Rattle.daybook.proofs.Steps.{startingOn, whichIn, appendDayOf, someOverlap,
 use Rattle.daybook.proofs.Rows.{above, least-first, least-skip}
 use Rattle.daybook.proofs.Apart.{fits-le}
 use Rattle.layout.specs.Layout.{numAt, pointFrom}
+use Rattle.layout.proofs.Cells.{place-kind, place-offs, place-recs}
 use Rattle.point.specs.Tests.{noOff}
 use Rattle.point.proofs.OffDays.{dayIf}
 use Rattle.point.proofs.Readers.{no-off-is}
 use Rattle.energy.specs.declared.Reading.{Reading}
 use Rattle.energy.specs.Parts.{noticeOf, Laid, rowsOf}
-use Rattle.energy.proofs.Laying.{kind-at, count-offs, count-recs}
 
 -- ---- row 9, of raised numbers
 
@@ -49,11 +48,7 @@ beyond-raised r e = go (ltb r 1000000) refl (ltb e 1000000) refl
         let h : 1000000 ≤ r = ltb-false r 1000000 p in
         let k : 1000000 ≤ e = ltb-false e 1000000 q in
         rw (p, q, le-leb 1000000 r h, le-leb 0 (r - 1000000) (omega arith), le-ltb (e + r) 2000000 (omega arith))
-        (or-no (ltb r e) ∙ ltb-same r e (r - 1000000) (e - 1000000) (λ l. omega arith) (λ l. omega arith))
-      where
-        or-no : (b : Bool) → (b || false) ≡ b
-        or-no true = refl
-        or-no false = refl
+        (or-false (ltb r e) ∙ ltb-same r e (r - 1000000) (e - 1000000) (λ l. omega arith) (λ l. omega arith))
 
 pub beyond-first : (a b k : ℕ) (z : ℤ) → k ≡ 0 → beyond (energyOf a) (energyOf a) 0 z ≡ beyond (energyOf a) (energyOf b) k z
 beyond-first a b k z e = rw e
@@ -148,7 +143,7 @@ module _ {p : List ℤ} (ok : Laid p) (x : Reading) where
   q = pointFrom p
 
   pub row6-is : {f : Bool} (k : ℕ) → k ≡ numAt p 1 → f ≡ fitsKind k (x .start) (x .end) → not f ≡ row6 x q
-  row6-is k ek ef = ap not (ef ∙ ap (λ k. fitsKind k (x .start) (x .end)) (ek ∙ kind-at ok))
+  row6-is k ek ef = ap not (ef ∙ ap (λ k. fitsKind k (x .start) (x .end)) (ek ∙ place-kind (ok .well) (ok .is)))
 
   module _ {new : Bool} (is : new ≡ not (isSome (startingOn (q .recs) (x .start)))) where
     new-here : new ≡ eqb (whichNumber (whichIn q (entry x))) 1
@@ -159,19 +154,15 @@ module _ {p : List ℤ} (ok : Laid p) (x : Reading) where
     row7-is r h e = ap₂ _&&_ new-here (day-test (x .start) r h ∙ ap (λ o. not (maybe false (eqb (x .start)) o)) e)
 
     pub row16-is : (n : ℕ) → n ≡ numAt p 6 → (new && leb 48 n) ≡ row16 x q
-    row16-is n e = ap₂ _&&_ new-here (ap (leb 48) (e ∙ count-recs ok))
+    row16-is n e = ap₂ _&&_ new-here (ap (leb 48) (e ∙ place-recs (ok .well) (ok .is)))
 
   -- where row 6 doesn't apply, the start is no later than the end
   pub row8-is : {c : Bool} (m : ℕ) → row6 x q ≡ false → x .start ≤ 39999 → m ≡ numAt p 5 → c ≡ noOff p m (x .start) (x .end) → not c ≡ row8 x q
   row8-is {c} m e6 h em ec =
       let l : x .start ≤ x .end = fits-le (q .facts .kind) (x .start) (x .end) (not-false _ e6) in
       let clear : c ≡ not (someOverlap (x .start) (x .end) (q .offs)) =
-      ec ∙ ap₂ (λ t k. noOff t k (x .start) (x .end)) (sym (ok .is)) (em ∙ count-offs ok) ∙ no-off-is (ok .well) (x .start) (x .end) (omega arith) in
-      ap not clear ∙ twice (someOverlap (x .start) (x .end) (q .offs)) ∙ ap (λ t. t && someOverlap (x .start) (x .end) (q .offs)) (sym (le-leb _ _ l))
-    where
-      twice : (t : Bool) → not (not t) ≡ t
-      twice true = refl
-      twice false = refl
+      ec ∙ ap₂ (λ t k. noOff t k (x .start) (x .end)) (sym (ok .is)) (em ∙ place-offs (ok .well) (ok .is)) ∙ no-off-is (ok .well) (x .start) (x .end) (omega arith) in
+      ap not clear ∙ Bool·not-not (someOverlap (x .start) (x .end) (q .offs)) ∙ ap (λ t. t && someOverlap (x .start) (x .end) (q .offs)) (sym (le-leb _ _ l))
 
   pub row9-is : (a b k : ℕ) {u : Bool} → k ≡ numAt p 1 → u ≡ beyond (energyOf a) (energyOf b) k (energyOf (x .energy)) → (u && eqb (x .confirmed) 0) ≡ row9 x a b q
-  row9-is a b k ek eu = ap (λ t. t && eqb (x .confirmed) 0) (eu ∙ ap (λ k. beyond (energyOf a) (energyOf b) k (energyOf (x .energy))) (ek ∙ kind-at ok))
+  row9-is a b k ek eu = ap (λ t. t && eqb (x .confirmed) 0) (eu ∙ ap (λ k. beyond (energyOf a) (energyOf b) k (energyOf (x .energy))) (ek ∙ place-kind (ok .well) (ok .is)))

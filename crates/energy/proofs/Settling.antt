@@ -1,9 +1,9 @@
 -- What a pending request comes to, on a part: the row writers leave what the lists' step says. Assumes nothing.
 use mathlib.Core.Path.{_≡_, refl, sym, _∙_, ap, ap₂, subst}
 use mathlib.Core.Bool.{Bool, true, false, not, _&&_, cond}
-use mathlib.Core.Option.{Option, none, some}
+use mathlib.Core.Option.{Option, some}
 use mathlib.Core.List.{List, [], _∷_, _++_}
-use Prim.Native.Nat.{ℕ, zero, suc, _+_, _-_, _*_, _≤_, _<_}
+use Prim.Native.Nat.{ℕ, suc, _+_, _-_, _*_, _≤_, _<_}
 use native.Mathlib.Omega.{arith}
 use native.Mathlib.Numerals.{add-one}
 use lib.Dec.{leb, ltb, eqb}
@@ -12,16 +12,17 @@ use lib.IntN.{ℤ}
 use borrow.Author.Tests.{ne-eqb, ltb-true}
 use Rattle.numbers.specs.Search.{maybe}
 use Rattle.numbers.proofs.Bools.{both}
-use Rattle.daybook.specs.Book.{Entry, Pending, lastOf}
+use Rattle.daybook.specs.Book.{Entry, Pending}
 use Rattle.daybook.specs.Notices.{append, Outcome, registers, lapses, stays, outcomeOf, outcomeNumbers}
 use Rattle.daybook.proofs.Lists.{Lists}
-use Rattle.daybook.proofs.Steps.{latestOf, regsAfter, pendingAfter, userFrom, withPendingLists}
-use Rattle.daybook.proofs.Well.{PendingOk, nopending, pending, Well}
+use Rattle.daybook.proofs.Last.{last-at}
+use Rattle.daybook.proofs.Steps.{latestOf, userFrom, withPendingLists}
+use Rattle.daybook.proofs.Well.{PendingOk, nopending, pending}
 use Rattle.daybook.proofs.Registrations.{user-from-append}
 use Rattle.layout.specs.Layout.{asked, numAt, pointNumbers, pointFrom}
 use Rattle.layout.specs.Writes.{appendRegistration, clearPending}
 use Rattle.layout.proofs.Numbers.{Few, few}
-use Rattle.layout.proofs.Cells.{noReg, cell-regs, cell-user, cell-first, cell-last, cell-reg-start}
+use Rattle.layout.proofs.Cells.{noReg, cell-reg-start, place-regs, place-user, place-first, place-last}
 use Rattle.layout.proofs.PartBlocks.{withRegs, few-regs, snoc-length}
 use Rattle.layout.proofs.RowWrites.{append-registration, clear-pending}
 use Rattle.energy.specs.declared.Reading.{Reading}
@@ -29,13 +30,9 @@ use Rattle.energy.specs.Parts.{entryFrom, Laid, outcomeAt, settledLists,
 
 -- ---- the latest registration, by its index
 
-last-at : (l : List (ℕ × ℕ)) (k : ℕ) → length l ≡ suc k → latestOf l ≡ getD l k noReg
-unfolding latestOf lastOf
-last-at [] k e = absurd (omega arith)
-last-at (x ∷ []) zero e = refl
-last-at (x ∷ []) (suc k) e = absurd (omega arith)
-last-at (x ∷ y ∷ l) zero e = absurd (omega arith)
-last-at (x ∷ y ∷ l) (suc k) e = last-at (y ∷ l) k (omega arith)
+latest-at : (l : List (ℕ × ℕ)) (k : ℕ) → length l ≡ suc k → latestOf l ≡ getD l k noReg
+unfolding latestOf
+latest-at l k e = ap (maybe (0, 0) (λ x. x)) (last-at noReg l k e)
 
 -- ---- what the code tests
 
@@ -75,23 +72,23 @@ module _ {p : List ℤ} (ok : Laid p) (x : Reading) (n user first last latest : 
   fits = few (ok .well)
 
   many : n ≡ length (q .regs)
-  many = en ∙ ap (λ t. numAt t 4) (sym (ok .is)) ∙ cell-regs 48 q
+  many = en ∙ place-regs (ok .well) (ok .is)
 
   user-is : user ≡ asked (q .pending) .user
-  user-is = eu ∙ ap (λ t. numAt t 7) (sym (ok .is)) ∙ cell-user 48 q
+  user-is = eu ∙ place-user (ok .well) (ok .is)
 
   first-is : first ≡ asked (q .pending) .first
-  first-is = ef ∙ ap (λ t. numAt t 8) (sym (ok .is)) ∙ cell-first 48 q
+  first-is = ef ∙ place-first (ok .well) (ok .is)
 
   last-is : last ≡ asked (q .pending) .last
-  last-is = el ∙ ap (λ t. numAt t 9) (sym (ok .is)) ∙ cell-last 48 q
+  last-is = el ∙ place-last (ok .well) (ok .is)
 
   latest-is : latest ≡ latestOf (q .regs) .0
   latest-is =
       let some : 1 ≤ numAt p 4 = ok .someRegs in
       let at : 14 + 2 * n ≡ 16 + 2 * (n - 1) = omega (arith, en) in
       es ∙ ap₂ numAt (sym (ok .is)) at ∙ cell-reg-start fits (n - 1) (omega (arith, en, ok .fewRegs))
-      ∙ ap (λ (r : ℕ × ℕ). r .0) (sym (last-at (q .regs) (n - 1) (omega (arith, many, en))))
+      ∙ ap (λ (r : ℕ × ℕ). r .0) (sym (latest-at (q .regs) (n - 1) (omega (arith, many, en))))
 
   abbrev first? : Bool
   first? = registersIf user first last latest (x .end)

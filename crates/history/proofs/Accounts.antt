@@ -11,7 +11,8 @@ use lib.IntN.{ℤ, pos, _+ℤ_, +ℤ-idl, +ℤ-idr}
 use borrow.Author.Tests.{eqb-true, eqb-false, ne-eqb}
 use Rattle.numbers.specs.Search.{isSome}
 use Rattle.numbers.specs.Sums.{sumFrom, sumOver}
-use Rattle.numbers.proofs.Integers.{eqZ, add-fact}
+use Rattle.numbers.proofs.Bools.{cond-same}
+use Rattle.numbers.proofs.Integers.{add-swap}
 use Rattle.numbers.proofs.Sums.{sum-same, sum-zero, sum-plus, sum-swap, sum-over-split}
 use Rattle.daybook.specs.Book.{Entry, Point, Book, filled, dayShare}
 use Rattle.daybook.specs.Queries.{sumOf, ownShare, accountOf}
@@ -27,10 +28,6 @@ pub account-splits : (u a b c : ℕ) (B : Book) → a ≤ b → b ≤ c → acco
 unfolding accountOf sumOf
 account-splits u a b c B h k = go (B .points)
   where
-    swap : (x y z w : ℤ) → (x +ℤ y) +ℤ (z +ℤ w) ≡ (x +ℤ z) +ℤ (y +ℤ w)
-    swap x y z w =
-        eqZ _ _ (omega (arith, add-fact (x +ℤ y) (z +ℤ w), add-fact x y, add-fact z w, add-fact (x +ℤ z) (y +ℤ w), add-fact x z, add-fact y w))
-
     account : ℕ → ℕ → List Point → ℤ
     account a b ps = sumOf (λ p. sumOver (ownShare u p) a b) ps
 
@@ -38,7 +35,7 @@ account-splits u a b c B h k = go (B .points)
     go [] = refl
     go (p ∷ ps) =
         ap₂ _+ℤ_ (sum-over-split (ownShare u p) a b c h k) (go ps)
-        ∙ swap (sumOver (ownShare u p) a b) (sumOver (ownShare u p) (suc b) c) (account a b ps) (account (suc b) c ps)
+        ∙ add-swap (sumOver (ownShare u p) a b) (sumOver (ownShare u p) (suc b) c) (account a b ps) (account (suc b) c ps)
 
 -- ---- what belongs to User v is counted once
 
@@ -63,11 +60,7 @@ counted-among v z a (suc n) h k = go (eqb v a) refl (counted-among v z (suc a) n
     go false e ih = +ℤ-idl later ∙ ih (omega (arith, eqb-false v a e)) (omega arith)
 
 pub counted-once : {v : ℕ} {z : ℤ} → Owned v z → sumFrom (λ u. cond (eqb v u) z (pos 0)) 1 16 ≡ z
-counted-once {v} nothing = sum-zero _ 1 16 (λ u i j. either (eqb v u))
-  where
-    either : (t : Bool) → cond t (pos 0) (pos 0) ≡ pos 0
-    either true = refl
-    either false = refl
+counted-once {v} nothing = sum-zero _ 1 16 (λ u i j. cond-same (eqb v u) (pos 0))
 counted-once {v} {z} (owned h k) = counted-among v z 1 16 h (omega arith)
 
 -- ---- a filled day has a User

@@ -19,6 +19,7 @@ use Rattle.daybook.specs.declared.AllocationQuery.{AllocationQuery}
 use Rattle.daybook.specs.Book.{Point, Book}
 use Rattle.daybook.specs.Notices.{Numbers, least, decide}
 use Rattle.daybook.specs.Queries.{sumOf, active, nslOf, weight, weights, total, split, pointShares, totalOf, users, allocateRows, allocate}
+use Rattle.daybook.proofs.Splits.{split-length}
 use Rattle.daybook.proofs.Lists.{Lists, Register, pointOf, bookOf}
 use Rattle.daybook.proofs.Well.{Well, Points, nopoint, point, WellFormed}
 use Rattle.daybook.proofs.Rows.{least-none}
@@ -54,11 +55,6 @@ module _ (nsl S : ℕ) where
   split-sum C [] = refl
   split-sum C (t ∷ ts) =
       ap (λ z. (part (C + t) -ℤ part C) +ℤ z) (split-sum (C + t) ts ∙ sym (sum-shift (nth C (t ∷ ts)) 0 (length ts)))
-
-  split-length : (C : ℕ) (ts : List ℕ) → length (split nsl S C ts) ≡ length ts
-  unfolding split
-  split-length C [] = refl
-  split-length C (t ∷ ts) = ap suc (split-length (C + t) ts)
 
 -- They telescope, from no weight to all of it.
 split-whole : (nsl : ℕ) (ts : List ℕ) → 0 < total ts → added (split nsl (total ts) 0 ts) ≡ pos nsl

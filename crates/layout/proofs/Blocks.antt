@@ -8,7 +8,6 @@ use lib.ListN.{length, replicate, set, drop, getD, length-append, length-replica
 use lib.Seq.{sets, set-at, drop-cons, drop-append-seam, append-snoc}
 use lib.IntN.{ℤ, pos}
 use Rattle.layout.specs.Layout.{pad}
-use Rattle.layout.proofs.Numbers.{length-pad}
 use Rattle.layout.specs.Writes.{cleared}
 
 abbrev pub zerosOf : ℕ → List ℤ

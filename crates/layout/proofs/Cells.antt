@@ -10,6 +10,7 @@ use lib.ListN.{length, getD, List·getD-append}
 use Rattle.numbers.specs.Naturals.{natOf}
 use Rattle.daybook.specs.Book.{Entry}
 use Rattle.daybook.proofs.Lists.{Lists}
+use Rattle.daybook.proofs.Well.{Well}
 use Rattle.layout.specs.Layout.{regNumbers, onNumber, offNumbers, recNumbers, asked, headNumbers, pointNumbers, numAt}
 use Rattle.layout.proofs.Numbers.{getD-past, Few, in-regs, in-offs, in-recs}
 
@@ -162,3 +163,30 @@ module _ {room : ℕ} {q : Lists} (f : Few room q) (k : ℕ) where
 
   pub cell-rec-type : numAt (pointNumbers room q) (48 + 4 * k + 3) ≡ getD (q .recs) k noRec .type
   cell-rec-type = ap natOf (rec-cell 3 (48 + 4 * k + 3) (omega arith) (omega arith))
+
+-- ---- the same of a part that is the layout of a well-formed point
+
+module _ {room : ℕ} {q : Lists} (w : Well room q) {p : List ℤ} (e : pointNumbers room q ≡ p) where
+  pub place-kind : numAt p 1 ≡ q .facts .kind
+  place-kind = ap (λ p. numAt p 1) (sym e) ∙ cell-kind room q
+
+  pub place-install : numAt p 2 ≡ q .facts .install
+  place-install = ap (λ p. numAt p 2) (sym e) ∙ cell-install room q
+
+  pub place-regs : numAt p 4 ≡ length (q .regs)
+  place-regs = ap (λ p. numAt p 4) (sym e) ∙ cell-regs room q
+
+  pub place-offs : numAt p 5 ≡ length (q .offs)
+  place-offs = ap (λ p. numAt p 5) (sym e) ∙ cell-offs room q
+
+  pub place-recs : numAt p 6 ≡ length (q .recs)
+  place-recs = ap (λ p. numAt p 6) (sym e) ∙ cell-recs room q
+
+  pub place-user : numAt p 7 ≡ asked (q .pending) .user
+  place-user = ap (λ p. numAt p 7) (sym e) ∙ cell-user room q
+
+  pub place-first : numAt p 8 ≡ asked (q .pending) .first
+  place-first = ap (λ p. numAt p 8) (sym e) ∙ cell-first room q
+
+  pub place-last : numAt p 9 ≡ asked (q .pending) .last
+  place-last = ap (λ p. numAt p 9) (sym e) ∙ cell-last room q

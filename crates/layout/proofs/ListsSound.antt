@@ -2,16 +2,16 @@
 -- point with only the earlier records, is the chain of well-formed records. Assumes nothing.
 use mathlib.Core.Path.{_≡_, refl, sym, ap, subst, _∙_}
 use mathlib.Core.Bool.{Bool, true, false, not, _&&_}
-use mathlib.Core.Option.{Option, none, some}
+use mathlib.Core.Option.{some}
 use mathlib.Core.List.{List, [], _∷_, _++_}
 use Prim.Native.Nat.{ℕ, suc, _-_, _≤_}
 use native.Mathlib.Omega.{arith}
 use lib.Dec.{leb, eqb}
 use lib.IntN.{pos, negsuc}
 use lib.ListN.{length}
-use borrow.Author.Tests.{leb-true, eqb-true, not-true, le-leb, eq-eqb}
+use borrow.Author.Tests.{leb-true, not-true, le-leb, eq-eqb}
 use Rattle.numbers.specs.Search.{maybe, isSome}
-use Rattle.numbers.proofs.Search.{first-none}
+use Rattle.numbers.proofs.Search.{first-none, some-is}
 use Rattle.numbers.proofs.Bools.{both, join}
 use Rattle.calendar.specs.Calendar.{within}
 use Rattle.daybook.specs.Book.{Entry, Pending, appendDay}
@@ -31,10 +31,6 @@ use Rattle.layout.proofs.RowsSound.{facts-sound, facts-ok, regs-sound, 
 day-after-last : (from : ℕ) (l : List Entry) (x : Entry) → dayAfter from (l ++ (x ∷ [])) ≡ suc (x .end)
 day-after-last from [] x = day-after-cons from x [] ∙ day-after-nil (suc (x .end))
 day-after-last from (y ∷ l) x = day-after-cons from y (l ++ (x ∷ [])) ∙ day-after-last (suc (y .end)) l x
-
-is-some : (n : ℕ) (o : Option ℕ) → maybe false (eqb n) o ≡ true → o ≡ some n
-is-some n none e = let z : _≡_ {A = ℕ} 0 1 = cc in absurd (omega arith)
-is-some n (some m) e = ap some (sym (eqb-true n m e))
 
 -- other records on a well-formed point
 with-recs : {room more : ℕ} {q : Lists} {l : List Entry} → Well room q → Recs (q .facts .kind) (q .offs) (q .facts .install) l → length l ≤ more
@@ -116,7 +112,7 @@ module _ (q : Lists) where
         let a = both (recTest x) (each recTest l) e in
         let b = both (maybe false (eqb (x .start)) (appendDay (pointOf (withRecs before q)))) (byAppendRule q (before ++ (x ∷ [])) l) k in
         let o : Alone x = alone x (a .0) in
-        let s : skip (q .offs) (dayAfter (q .facts .install) before) ≡ some (x .start) = sym (append-rule r) ∙ is-some (x .start) _ (b .0) in
+        let s : skip (q .offs) (dayAfter (q .facts .install) before) ≡ some (x .start) = sym (append-rule r) ∙ some-is (x .start) _ (b .0) in
         rec s (o .fits) (o .day) (o .energyOk) (o .typeOk) (o .on)
         (subst (λ d. Chain d l) (day-after-last (q .facts .install) before x)
         (follows (before ++ (x ∷ [])) l (recs-append x (o .fits) (o .day) (o .energyOk) (o .typeOk) (o .on) r s) (a .1) (b .1)))

@@ -5,7 +5,7 @@ use mathlib.Core.Option.{Option}
 use mathlib.Core.List.{List, [], _∷_, _++_}
 use Prim.Native.Nat.{ℕ, _+_, _-_, _*_, _/_, _≤_, _<_, _^_}
 use native.Mathlib.Omega.{arith}
-use lib.Dec.{eqb}
+use lib.Dec.{eqb, leb}
 use lib.IntN.{ℤ, pos}
 use lib.ListN.{length, getD, take, drop, take-append-drop, length-drop}
 use lib.Seq.{getD-drop, drop-drop, take-all}
@@ -20,6 +20,21 @@ use Rattle.layout.proofs.Numbers.{pad-take}
 use Rattle.layout.proofs.ListsSound.{lists-sound-well}
 use Rattle.layout.proofs.RowsLaid.{two, clean, cells, cells-take, length-regsFrom, length-offsFrom, length-recsFrom, regs-lay, offs-lay, recs-count, recs-lay, ThreeOk, pending-lay, pending-user}
 use Rattle.layout.proofs.PartSound.{zeros-at}
+
+-- What the test of a part's counts tells.
+pub record Counts (p : List ℤ) : Type 0 where
+  pub someRegs : 1 ≤ numAt p 4
+  pub fewRegs : numAt p 4 ≤ 8
+  pub fewOffs : numAt p 5 ≤ 8
+  pub fewRecs : numAt p 6 ≤ (length p - 48) / 4
+
+pub counts : (p : List ℤ) → countsSound p ≡ true → Counts p
+unfolding countsSound
+counts p e =
+    let a = both _ (leb (numAt p 6) ((length p - 48) / 4)) e in
+    let b = both _ (leb (numAt p 5) 8) (a .0) in
+    let c = both (leb 1 (numAt p 4)) (leb (numAt p 4) 8) (b .0) in
+    record { someRegs = leb-true _ _ (c .0); fewRegs = leb-true _ _ (c .1); fewOffs = leb-true _ _ (b .1); fewRecs = leb-true _ _ (a .1) }
 
 -- What the tests of a part tell beside its lists.
 record Tested (p : List ℤ) (room : ℕ) : Type 0 where
@@ -40,22 +55,20 @@ three-zeros p e u =
     (ap natOf (zeros-at p 7 10 z 8 (omega arith) (omega arith)), ap natOf (zeros-at p 7 10 z 9 (omega arith) (omega arith)))
 
 tested : (p : List ℤ) (room : ℕ) → length p ≡ 48 + 4 * room → partSound p ≡ true → Tested p room
-unfolding partSound countsSound unusedZero
+unfolding partSound unusedZero
 tested p room len e =
     let a = both _ _ e in
     let b = both _ _ (a .0) in
-    let c = both _ _ (b .0) in
-    let d = both _ _ (c .0) in
-    let f = both _ _ (d .0) in
+    let c = counts p (b .0) in
     let g = both _ _ (b .1) in
     let h = both _ _ (g .0) in
     let i = both _ _ (h .0) in
     let j = both _ _ (i .0) in
     record {
-      someReg = leb-true 1 (numAt p 4) (f .0);
-      fewRegs = leb-true (numAt p 4) 8 (f .1);
-      fewOffs = leb-true (numAt p 5) 8 (d .1);
-      fewRecs = in-room (numAt p 6) (leb-true (numAt p 6) ((length p - 48) / 4) (c .1));
+      someReg = c .someRegs;
+      fewRegs = c .fewRegs;
+      fewOffs = c .fewOffs;
+      fewRecs = in-room (numAt p 6) (c .fewRecs);
       headZeros = j .0;
       regsZeros = j .1;
       offsZeros = i .1;

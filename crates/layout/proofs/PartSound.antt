@@ -15,7 +15,7 @@ use Rattle.numbers.proofs.Rows.{all-at, all-of}
 use Rattle.numbers.proofs.Bools.{join}
 use Rattle.daybook.specs.Book.{Pending}
 use Rattle.daybook.proofs.Lists.{Lists}
-use Rattle.daybook.proofs.Well.{StartsOn, starts, PendingOk, nopending, pending, Well}
+use Rattle.daybook.proofs.Well.{some-reg, PendingOk, nopending, pending, Well}
 use Rattle.layout.specs.Layout.{regNumbers, offNumbers, recNumbers, asked, headNumbers, pointNumbers, numAt}
 use Rattle.layout.specs.Sound.{listsSound, zeros, countsSound, unusedZero, partSound}
 use Rattle.layout.proofs.Numbers.{length-regNumbers, length-offNumbers, length-recNumbers, few, length-point, in-regs, in-offs, in-recs}
@@ -42,9 +42,6 @@ zeros-of t a b f =
     all-of (λ k. eqb (numAt t (a + k)) 0) (b - a) (λ k h. ap (λ x. eqb (natOf x) 0) (f (a + k) (omega arith) (omega arith)))
 
 -- ---- the layout
-
-some-reg : {install : ℕ} {l : List (ℕ × ℕ)} → StartsOn install l → 1 ≤ length l
-some-reg (starts e) = omega arith
 
 no-user : {regs : List (ℕ × ℕ)} {o : Option Pending} → PendingOk regs o → asked o .user ≡ 0 → (asked o .first ≡ 0) × (asked o .last ≡ 0)
 no-user nopending e = (refl, refl)

@@ -1,12 +1,12 @@
 -- The layout of well-formed lists is a sound register, whatever numbers follow it. Assumes nothing.
-use mathlib.Core.Path.{_≡_, refl, sym, _∙_, ap, subst}
+use mathlib.Core.Path.{_≡_, refl, sym, _∙_, ap}
 use mathlib.Core.Bool.{Bool, true, false, not, _&&_, cond}
 use mathlib.Core.Option.{none, some}
 use mathlib.Core.List.{List, [], _∷_, _++_}
-use Prim.Native.Nat.{ℕ, zero, suc, _+_, _*_, _≤_, _<_}
+use Prim.Native.Nat.{ℕ, zero, suc, _<_}
 use native.Mathlib.Omega.{arith}
 use lib.Dec.{leb, eqb}
-use lib.ListN.{length, getD, drop, length-append, List·getD-append, List·getD-eq-default}
+use lib.ListN.{length, drop, length-append, List·getD-append, List·getD-eq-default}
 use lib.IntN.{ℤ, pos}
 use borrow.Author.Tests.{le-leb}
 use Rattle.numbers.specs.Rows.{all}
@@ -16,7 +16,7 @@ use Rattle.daybook.specs.Book.{Edition}
 use Rattle.daybook.proofs.Lists.{Lists, Register}
 use Rattle.daybook.proofs.Steps.{findLists}
 use Rattle.daybook.proofs.Well.{Well, Points, nopoint, point, WellFormed}
-use Rattle.layout.specs.Layout.{tableLength, placeOf, Fits, partOf, pad, pointsNumbers, layout, numAt, pointsFrom, registerOf}
+use Rattle.layout.specs.Layout.{tableLength, placeOf, Fits, partOf, pad, layout, pointsFrom, registerOf}
 use Rattle.layout.specs.Sound.{each, zeros, partSound, mirnsDiffer, sound}
 use Rattle.layout.proofs.Numbers.{pad-at}
 use Rattle.layout.proofs.PartSound.{zeros-of, lays-part}

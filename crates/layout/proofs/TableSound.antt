@@ -1,31 +1,32 @@
 -- A table is a sound register exactly where its first numbers are the layout of well-formed lists. Assumes nothing.
 use mathlib.Core.Path.{_≡_, refl, sym, _∙_, ap, ap₂, subst}
-use mathlib.Core.Bool.{Bool, true, false, not, _&&_, cond}
-use mathlib.Core.Option.{Option, none, some}
-use mathlib.Core.List.{List, [], _∷_, _++_, append-assoc}
-use Prim.Native.Nat.{ℕ, zero, suc, _+_, _-_, _*_, _≤_, _<_, _^_}
+use mathlib.Core.Bool.{true, not}
+use mathlib.Core.Option.{none}
+use mathlib.Core.List.{List, [], _∷_, _++_}
+use Prim.Native.Nat.{ℕ, zero, suc, _+_, _*_, _≤_, _<_}
 use native.Mathlib.Omega.{arith}
 use native.Mathlib.Nat.{mul-suc, mul-zero, mul-le-mul-left, add-mul}
 use lib.Dec.{leb, eqb, lit≤}
 use lib.ListN.{length, getD, take, drop, length-take, length-drop}
-use lib.Seq.{take-add, drop-drop, getD-drop, getD-take}
+use lib.Seq.{take-add}
 use lib.IntN.{ℤ, pos}
-use borrow.Author.Tests.{leb-true, le-leb, not-true}
+use borrow.Author.Tests.{leb-true, not-true}
 use Rattle.numbers.specs.Rows.{all}
 use Rattle.numbers.proofs.Bools.{both}
-use Rattle.numbers.proofs.Rows.{all-at, all-of}
+use Rattle.numbers.proofs.Rows.{all-at}
 use Rattle.daybook.specs.Book.{Edition}
 use Rattle.daybook.specs.Notices.{isRange}
-use Rattle.daybook.proofs.Lists.{Lists, Register}
+use Rattle.daybook.proofs.Lists.{Lists}
 use Rattle.daybook.proofs.Steps.{findLists}
 use Rattle.daybook.proofs.Well.{Well, Points, nopoint, point, WellFormed}
-use Rattle.layout.specs.Layout.{tableLength, standard, stride, placeOf, Fits, partOf, pad, pointNumbers, pointsNumbers, layout, numAt, pointFrom, pointsFrom, registerOf, tableBook}
+use Rattle.layout.specs.Layout.{tableLength, standard, stride, placeOf, Fits, partOf, pad, pointsNumbers, layout, numAt, pointsFrom, registerOf, tableBook}
 use Rattle.layout.specs.Sound.{each, zeros, partSound, mirnsDiffer, sound}
-use Rattle.layout.proofs.Numbers.{pad-take, few, length-point}
+use Rattle.layout.proofs.Numbers.{pad-take, few}
 use Rattle.layout.proofs.RowsLaid.{clean}
 use Rattle.layout.proofs.PartSound.{zeros-at}
 use Rattle.layout.proofs.PartLays.{part-lays}
 use Rattle.layout.proofs.Tables.{one-layout}
+use Rattle.layout.proofs.Mirns.{next as next-part}
 
 -- ---- MIRNs that differ
 
@@ -63,7 +64,7 @@ module _ (ed : Edition) (t : List ℤ) where
       let m : stride ed * suc k ≡ stride ed + stride ed * k = omega (arith, mul-suc (stride ed) k) in
       let e : i + suc k ≡ suc i + k = omega arith in
       let far : stride ed * suc i ≤ stride ed * (i + suc k) = mul-le-mul-left (stride ed) (omega arith) in
-      let d : drop (stride ed) (drop (placeOf ed i) t) ≡ drop (placeOf ed (suc i)) t = drop-drop (stride ed) (placeOf ed i) t ∙ ap (λ n. drop n t) (next i) in
+      let d : drop (stride ed) (drop (placeOf ed i) t) ≡ drop (placeOf ed (suc i)) t = next-part ed t i in
       let long : length (take (stride ed) (drop (placeOf ed i) t)) ≡ 48 + 4 * ed .records = simp (length-take, length-drop) (omega (arith, next i)) in
       let here = part-lays (take (stride ed) (drop (placeOf ed i) t)) (ed .records) long (f i (omega arith) (omega arith)) in
       let r = points-lay k (suc i) (rw e at h) (λ j a b. f j (omega arith) (omega arith)) in (
@@ -74,17 +75,17 @@ module _ (ed : Edition) (t : List ℤ) where
       )
 
 -- What a sound table's tests say, one by one.
-record Tested (ed : Edition) (t : List ℤ) : Type 0 where
-  long : tableLength ≤ length t
-  few : numAt t 0 ≤ ed .points
-  nondailyOk : isRange (getD t 1 (pos 0)) ≡ true
-  dailyOk : isRange (getD t 2 (pos 0)) ≡ true
-  spare : zeros t 3 8 ≡ true
-  parts : all (λ i. partSound (partOf ed t i)) (numAt t 0) ≡ true
-  mirns : mirnsDiffer (pointsFrom ed (numAt t 0) (drop 8 t)) ≡ true
-  rest : zeros t (placeOf ed (numAt t 0)) tableLength ≡ true
+pub record Tested (ed : Edition) (t : List ℤ) : Type 0 where
+  pub long : tableLength ≤ length t
+  pub few : numAt t 0 ≤ ed .points
+  pub nondailyOk : isRange (getD t 1 (pos 0)) ≡ true
+  pub dailyOk : isRange (getD t 2 (pos 0)) ≡ true
+  pub spare : zeros t 3 8 ≡ true
+  pub parts : all (λ i. partSound (partOf ed t i)) (numAt t 0) ≡ true
+  pub mirns : mirnsDiffer (pointsFrom ed (numAt t 0) (drop 8 t)) ≡ true
+  pub rest : zeros t (placeOf ed (numAt t 0)) tableLength ≡ true
 
-tested : (ed : Edition) (t : List ℤ) → sound ed t ≡ true → Tested ed t
+pub tested : (ed : Edition) (t : List ℤ) → sound ed t ≡ true → Tested ed t
 unfolding sound
 tested ed t e =
     let a = both _ (zeros t (placeOf ed (numAt t 0)) tableLength) e in
@@ -109,6 +110,11 @@ pub length-points : (ed : Edition) (n : ℕ) (t : List ℤ) → length (pointsFr
 unfolding pointsFrom
 length-points ed zero t = refl
 length-points ed (suc n) t = ap suc (length-points ed n (drop (stride ed) t))
+
+-- the count at the front is right
+pub points-count : (ed : Edition) (t : List ℤ) → length (registerOf ed t .points) ≡ numAt t 0
+unfolding registerOf
+points-count ed t = length-points ed (numAt t 0) (drop 8 t)
 
 three : (t : List ℤ) → 3 ≤ length t → getD t 0 (pos 0) ∷ getD t 1 (pos 0) ∷ getD t 2 (pos 0) ∷ [] ≡ take 3 t
 three [] h = absurd (omega arith)

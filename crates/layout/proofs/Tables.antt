@@ -1,18 +1,17 @@
 -- A whole register: its lists come back from its numbers and from its days. Assumes nothing.
 use mathlib.Core.Path.{_≡_, refl, sym, _∙_, ap, ap₂}
-use mathlib.Core.List.{List, [], _∷_, _++_, map, append-assoc}
-use Prim.Native.Nat.{ℕ, zero, suc, _+_, _-_, _*_, _≤_}
-use native.Mathlib.Omega.{arith}
-use lib.ListN.{length, getD, take, drop}
+use mathlib.Core.List.{List, _∷_, _++_, map, append-assoc}
+use Prim.Native.Nat.{ℕ}
+use lib.ListN.{length, take, drop}
 use lib.Seq.{take-at, drop-at}
-use lib.IntN.{ℤ, pos}
-use Rattle.daybook.specs.Book.{Book, Edition, records, registrations, spans}
+use lib.IntN.{ℤ}
+use Rattle.daybook.specs.Book.{Edition}
 use Rattle.daybook.proofs.Lists.{Lists, Register, pointOf, bookOf}
 use Rattle.daybook.proofs.Well.{Well, Points, nopoint, point, WellFormed}
 use Rattle.daybook.proofs.Records.{records-is}
 use Rattle.daybook.proofs.Registrations.{registrations-is}
 use Rattle.daybook.proofs.Spans.{point-spans}
-use Rattle.layout.specs.Layout.{tableLength, stride, placeOf, Fits, pad, pointNumbers, pointsNumbers, layout, pointFrom, pointsFrom, registerOf, tableBook, listsOf, bookRegister, written}
+use Rattle.layout.specs.Layout.{tableLength, stride, pad, pointNumbers, pointsNumbers, layout, pointFrom, pointsFrom, registerOf, tableBook, listsOf, bookRegister, written}
 use Rattle.layout.proofs.Numbers.{few, length-point}
 use Rattle.layout.proofs.Parse.{point-alone}
 

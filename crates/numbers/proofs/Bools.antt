@@ -1,7 +1,7 @@
 -- Tests joined by and, or and not, taken apart. Assumes nothing.
 use mathlib.Core.Path.{_≡_, refl, sym, ap₂}
-use mathlib.Core.Bool.{Bool, true, false, _&&_, _||_}
-use Prim.Native.Nat.{ℕ}
+use mathlib.Core.Bool.{Bool, true, false, _&&_, _||_, cond}
+use Prim.Native.Nat.{ℕ, _≤_}
 use native.Mathlib.Omega.{arith}
 
 pub both : (a b : Bool) → (a && b) ≡ true → (a ≡ true) × (b ≡ true)
@@ -20,3 +20,17 @@ pub iff : (a b : Bool) → (a ≡ true → b ≡ true) → (b ≡ true → a ≡
 iff true b f g = sym (f refl)
 iff false true f g = g refl
 iff false false f g = refl
+
+-- what follows a test need agree only where it holds
+pub and-where : (p : Bool) {x y : Bool} → (p ≡ true → x ≡ y) → (p && x) ≡ (p && y)
+and-where true f = f refl
+and-where false f = refl
+
+-- whichever of two it is
+pub cond-small : (b : Bool) (x y k : ℕ) → x ≤ k → y ≤ k → cond b x y ≤ k
+cond-small true x y k h l = h
+cond-small false x y k h l = l
+
+pub cond-same : {A : Type 0} (b : Bool) (x : A) → cond b x x ≡ x
+cond-same true x = refl
+cond-same false x = refl

@@ -1,6 +1,6 @@
 -- Equations of integers for omega, which reads naturals: each z is up z - dn z, each operation has one fact of these,
 -- and eqZ is the way back. Assumes nothing.
-use mathlib.Core.Path.{_≡_, refl, sym, ap, _∙_}
+use mathlib.Core.Path.{_≡_, refl, ap}
 use mathlib.Core.Bool.{Bool, true, false}
 use Prim.Native.Nat.{ℕ, zero, suc, _+_, _-_, _*_, _^_, _≤_, _<_}
 use native.Mathlib.Nat.{zero-mul}
@@ -85,6 +85,10 @@ pos-minus a b = eqZ _ _ (omega (arith, minus-fact (pos a) (pos b), sub-fact a b)
 pub sub-minus : (a b m : ℕ) → subℕ a m -ℤ subℕ b m ≡ subℕ a b
 sub-minus a b m =
     eqZ _ _ (omega (arith, sub-fact a b, sub-fact a m, sub-fact b m, minus-fact (subℕ a m) (subℕ b m)))
+
+pub add-swap : (x y z w : ℤ) → (x +ℤ y) +ℤ (z +ℤ w) ≡ (x +ℤ z) +ℤ (y +ℤ w)
+add-swap x y z w =
+    eqZ _ _ (omega (arith, add-fact (x +ℤ y) (z +ℤ w), add-fact x y, add-fact z w, add-fact (x +ℤ z) (y +ℤ w), add-fact x z, add-fact y w))
 
 pub sub-bounds : (a b : ℕ) → (up (subℕ a b) ≤ a) × (dn (subℕ a b) ≤ b)
 sub-bounds a b = go (ltb a b) refl

@@ -1,7 +1,7 @@
 -- Signed numbers as the machine holds them, read as naturals and as energies. Assumes nothing.
-use mathlib.Core.Path.{_≡_, refl, sym, ap, _∙_}
+use mathlib.Core.Path.{_≡_, refl, ap}
 use mathlib.Core.Bool.{Bool, true, false}
-use Prim.Native.Nat.{ℕ, suc, _+_, _-_, _^_, _≤_, _<_}
+use Prim.Native.Nat.{ℕ, suc, _-_, _^_, _≤_, _<_}
 use native.Mathlib.Omega.{arith}
 use borrow.Author.Tests.{ltb-true, ltb-false, lt-ltb, le-ltb, le-leb, lt-leb, eq-eqb, ne-eqb, eqb-true, eqb-false}
 use lib.Dec.{T, eqb, leb, ltb}
@@ -143,3 +143,12 @@ same-true (negsuc a) (negsuc b) e = ap negsuc (eqb-true a b e)
 pub same-refl : (a : ℤ) → sameZ a a ≡ true
 same-refl (pos a) = eq-eqb a a refl
 same-refl (negsuc a) = eq-eqb a a refl
+
+-- ---- a number that is copied is read as it is
+
+module _ (z : ℤ) (f : SFits w64 z) where
+  pub natural-read : natOf (rd z) ≡ natOf z
+  natural-read = ap natOf (toZ-ofZ w64 z f)
+
+  pub bias-read : biasOf (rd z) ≡ biasOf z
+  bias-read = ap biasOf (toZ-ofZ w64 z f)

@@ -1,6 +1,6 @@
 -- Searches, for any test: what they find, what their answer tells of the test, and a loop's turn and end. Assumes nothing.
 use mathlib.Core.Path.{_≡_, refl, sym, _∙_, ap}
-use mathlib.Core.Bool.{Bool, true, false, _||_, cond, or-true}
+use mathlib.Core.Bool.{Bool, true, false, _||_, cond, or-true, false≢true}
 use mathlib.Core.Option.{Option, none, some}
 use Prim.Native.Nat.{ℕ, zero, suc, _+_, _-_, _≤_, _<_}
 use native.Mathlib.Omega.{arith}
@@ -8,7 +8,7 @@ use native.Mathlib.Nat.{not-suc-le-zero}
 use native.Mathlib.Numerals.{add-one}
 use lib.Dec.{eqb}
 use borrow.Author.Tests.{eqb-true, eqb-false}
-use Rattle.numbers.specs.Search.{isSome, firstFrom, lastBelow}
+use Rattle.numbers.specs.Search.{isSome, firstFrom, lastBelow, maybe}
 
 -- What the first of the n indices from a on at which the test holds is: none where it fails on all of them; else an
 -- index among them at which it holds, and before which it fails.
@@ -109,6 +109,11 @@ some-either p q a (suc n) = go (p a) (q a) (firstFrom (λ x. p x || q x) (suc a)
     go true t o u v ih = refl
     go false true o u v ih = sym (or-true (isSome u))
     go false false o u v ih = ih
+
+-- what equals d is d
+pub some-is : (d : ℕ) (o : Option ℕ) → maybe false (eqb d) o ≡ true → o ≡ some d
+some-is d none e = absurd (false≢true e)
+some-is d (some k) e = ap some (sym (eqb-true d k e))
 
 -- ---- for a loop
 

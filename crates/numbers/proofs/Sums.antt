@@ -5,9 +5,8 @@ use Prim.Native.Nat.{ℕ, zero, suc, _+_, _-_, _*_, _≤_, _<_}
 use native.Mathlib.Omega.{arith}
 use native.Mathlib.Nat.{add-zero}
 use lib.IntN.{ℤ, pos, subℕ, _+ℤ_, _-ℤ_, +ℤ-idl, +ℤ-idr, +ℤ-assoc}
-use Rattle.numbers.specs.Naturals.{energyOf}
 use Rattle.numbers.specs.Sums.{sumFrom, sumOver}
-use Rattle.numbers.proofs.Integers.{up, dn, eqZ, add-fact, minus-fact, sub-fact}
+use Rattle.numbers.proofs.Integers.{eqZ, add-fact, minus-fact, sub-fact, add-swap}
 
 pub sum-none : (f : ℕ → ℤ) (a : ℕ) → sumFrom f a 0 ≡ pos 0
 unfolding sumFrom
@@ -32,11 +31,7 @@ pub sum-plus : (f g : ℕ → ℤ) (a n : ℕ) → sumFrom (λ d. f d +ℤ g d) 
 unfolding sumFrom
 sum-plus f g a zero = refl
 sum-plus f g a (suc n) =
-    ap (λ s. (f a +ℤ g a) +ℤ s) (sum-plus f g (suc a) n) ∙ swap (f a) (g a) (sumFrom f (suc a) n) (sumFrom g (suc a) n)
-  where
-    swap : (x y z w : ℤ) → (x +ℤ y) +ℤ (z +ℤ w) ≡ (x +ℤ z) +ℤ (y +ℤ w)
-    swap x y z w =
-        eqZ _ _ (omega (arith, add-fact (x +ℤ y) (z +ℤ w), add-fact x y, add-fact z w, add-fact (x +ℤ z) (y +ℤ w), add-fact x z, add-fact y w))
+    ap (λ s. (f a +ℤ g a) +ℤ s) (sum-plus f g (suc a) n) ∙ add-swap (f a) (g a) (sumFrom f (suc a) n) (sumFrom g (suc a) n)
 
 -- cut after the first m terms
 pub sum-split : (f : ℕ → ℤ) (a m n : ℕ) → sumFrom f a (m + n) ≡ sumFrom f a m +ℤ sumFrom f (a + m) n

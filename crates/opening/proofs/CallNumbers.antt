@@ -1,35 +1,27 @@
 -- The numbers of a fresh and of an opening, as the code reads and writes them. Assumes nothing.
 use mathlib.Core.Path.{_≡_, refl, sym, ap, ap₂, subst, _∙_}
 use mathlib.Core.Bool.{Bool, true, false, _&&_, cond}
-use mathlib.Core.List.{List, _++_}
-use Prim.Native.Nat.{ℕ, _+_, _-_, _*_, _≤_}
+use mathlib.Core.List.{List}
+use Prim.Native.Nat.{ℕ, _+_, _≤_}
 use native.Mathlib.Omega.{arith}
 use lib.Dec.{leb}
 use lib.IntN.{ℤ, pos, negsuc}
-use lib.ListN.{take, drop, set}
+use lib.ListN.{set}
 use lib.Signed.{ltZ, leZ}
 use mir.Val.{SFits}
 use mir.ValLaws.{toZ-ofZ}
 use mir.Syntax.{w64}
 use borrow.Author.Tests.{le-leb, leb-true, ltb-true}
 use Rattle.numbers.specs.Naturals.{natOf, biasOf, energyOf}
-use Rattle.numbers.proofs.Naturals.{rd, bias-is}
+use Rattle.numbers.proofs.Naturals.{rd, bias-is, natural-read}
 use Rattle.numbers.proofs.Bools.{both}
 use Rattle.calendar.specs.Calendar.{within, isDay}
-use Rattle.calendar.proofs.Dates.{within-natural, day-natural}
+use Rattle.calendar.proofs.Dates.{within-natural, day-natural, up-to-natural}
 use Rattle.daybook.specs.declared.Opening.{Opening}
 use Rattle.daybook.specs.Notices.{isMirn, isFlag, isUser, factsOf}
 use Rattle.layout.specs.Layout.{standard, withPart}
 use Rattle.layout.specs.Writes.{openPoint, appendPoint}
-use Rattle.table.proofs.Laws.{part-is, part-put, within-raised}
-
--- a field that is copied is read as it is
-module _ (z : ℤ) (f : SFits w64 z) where
-  pub natural-read : natOf (rd z) ≡ natOf z
-  natural-read = ap natOf (toZ-ofZ w64 z f)
-
-  pub bias-read : biasOf (rd z) ≡ biasOf z
-  bias-read = ap biasOf (toZ-ofZ w64 z f)
+use Rattle.table.proofs.Laws.{part-is, part-put, within-raised, lent, backIn}
 
 -- a range is written back as it was read
 pub bias-back : (z : ℤ) {u : ℕ} → u ≡ biasOf z → u ≤ 2000000 → energyOf u ≡ z
@@ -37,10 +29,6 @@ bias-back z e h = ap energyOf e ∙ bias-is z (subst (λ k. k ≤ 2000000) e h)
 
 pub raised-small : {r : Bool} (u : ℕ) → r ≡ (leb 999999 u && leb u 2000000) → r ≡ true → u ≤ 2000000
 raised-small u e h = leb-true u 2000000 (both (leb 999999 u) (leb u 2000000) (sym e ∙ h) .1)
-
-flag-natural : (z : ℤ) → leb (natOf z) 1 ≡ isFlag z
-flag-natural (pos n) = rw (le-leb 0 n (omega arith))
-flag-natural (negsuc n) = refl
 
 -- row 2 of an opening
 pub in-range-is : (n : Opening) {mirn kind user install base : ℕ} → mirn ≡ natOf (n .mirn) → kind ≡ natOf (n .kind) → user ≡ natOf (n .user) → install ≡ natOf (n .install) → base ≡ biasOf (n .base)
@@ -50,7 +38,7 @@ in-range-is n m k u i b =
     ap₂ _&&_
     (ap₂ _&&_
     (ap₂ _&&_
-    (ap₂ _&&_ (ap (λ x. leb 1 x && leb x 9999999999) m ∙ within-natural 1 9999999999 (n .mirn) (omega arith)) (ap (λ x. leb x 1) k ∙ flag-natural (n .kind)))
+    (ap₂ _&&_ (ap (λ x. leb 1 x && leb x 9999999999) m ∙ within-natural 1 9999999999 (n .mirn) (omega arith)) (ap (λ x. leb x 1) k ∙ up-to-natural 1 (n .kind) (omega arith)))
     (ap (λ x. leb 1 x && leb x 16) u ∙ within-natural 1 16 (n .user) (omega arith)))
     (ap (λ x. leb x 39999) i ∙ day-natural (n .install)))
     (within-raised 10000 (n .base) _ (omega arith) b)
@@ -68,7 +56,7 @@ module _ (n : Opening) (f : SFits w64 (n .base)) where
 
   pub base-itself : ltZ (rd (n .base)) (pos 0) ≡ false → natOf (rd (n .base)) ≡ factsOf n .base
   unfolding factsOf
-  base-itself e = ap natOf (toZ-ofZ w64 (n .base) f) ∙ go (n .base) (rw (toZ-ofZ w64 (n .base) f) at e)
+  base-itself e = natural-read (n .base) f ∙ go (n .base) (rw (toZ-ofZ w64 (n .base) f) at e)
     where
       go : (z : ℤ) → ltZ z (pos 0) ≡ false → natOf z ≡ cond (leZ (pos 0) z) (natOf z) 1000
       go (pos b) e = rw (le-leb 0 b (omega arith))
@@ -77,8 +65,8 @@ module _ (n : Opening) (f : SFits w64 (n .base)) where
 -- ---- the new point's part, lent and put back, and the count
 
 pub append-is : (t : List ℤ) (i : ℕ) (n : Opening) {p : List ℤ} {mirn kind user install base : ℕ} → mirn ≡ natOf (n .mirn) → kind ≡ natOf (n .kind) → user ≡ natOf (n .user) → install ≡ natOf (n .install) → base ≡ factsOf n .base
-    → p ≡ openPoint (take (8 + 240 * i + 240 - (8 + 240 * i)) (drop (8 + 240 * i) t)) (record { mirn = mirn; kind = kind; install = install; base = base }) user
-    → set (take (8 + 240 * i) t ++ (p ++ drop (8 + 240 * i + 240 - (8 + 240 * i)) (drop (8 + 240 * i) t))) 0 (pos (i + 1)) ≡ appendPoint standard t i (factsOf n) (natOf (n .user))
+    → p ≡ openPoint (lent t i) (record { mirn = mirn; kind = kind; install = install; base = base }) user
+    → set (backIn t i p) 0 (pos (i + 1)) ≡ appendPoint standard t i (factsOf n) (natOf (n .user))
 unfolding appendPoint factsOf
 append-is t i n {p} {mirn} {kind} {user} {install} {base} m k u d b e =
     ap (λ l. set l 0 (pos (i + 1)))

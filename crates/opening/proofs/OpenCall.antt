@@ -1,17 +1,15 @@
 -- open on a lent table: sent back it leaves the table, entered it writes one more point. Assumes nothing.
 use mathlib.Core.Path.{_≡_, refl, sym, _∙_, ap, ap₂}
 use mathlib.Core.Bool.{Bool, true, false, not, _&&_}
-use mathlib.Core.Option.{Option, none, some}
 use mathlib.Core.List.{List, [], _∷_, _++_}
 use Prim.Native.Nat.{ℕ, suc, _≤_, _<_}
 use native.Mathlib.Omega.{arith}
-use lib.Dec.{leb, eqb}
+use lib.Dec.{leb}
 use lib.ListN.{length, drop}
 use lib.IntN.{ℤ, pos, negsuc}
 use borrow.Author.Tests.{le-leb, lt-leb}
 use Rattle.numbers.specs.Naturals.{natOf}
 use Rattle.numbers.specs.Search.{maybe, isSome}
-use Rattle.numbers.proofs.Search.{from-bound}
 use Rattle.calendar.specs.Calendar.{within, isDay}
 use Rattle.daybook.specs.declared.Opening.{Opening}
 use Rattle.daybook.specs.Notices.{least, Numbers, decide, isMirn, isFlag, isUser, factsOf, openingRows, opening}
@@ -20,17 +18,18 @@ use Rattle.daybook.proofs.Steps.{findLists, openedLists, openingLists}
 use Rattle.daybook.proofs.Rows.{above, least-first, least-skip, decide-taken, decide-refused}
 use Rattle.daybook.proofs.Well.{WellFormed}
 use Rattle.daybook.proofs.OpenStep.{OpenClear, open-clear, open-step, open-keeps}
-use Rattle.layout.specs.Layout.{tableLength, standard, placeOf, layout, numAt, registerOf, tableBook}
+use Rattle.layout.specs.Layout.{tableLength, standard, layout, numAt, registerOf, tableBook}
 use Rattle.layout.specs.Sound.{sound}
 use Rattle.layout.specs.Writes.{appendPoint}
 use Rattle.layout.specs.Calls.{leaves, onTable}
 use Rattle.layout.proofs.PointParts.{all-few-of, withPoints, table-split}
-use Rattle.layout.proofs.TableSound.{length-points, sound-lays, standard-fits}
+use Rattle.layout.proofs.TableSound.{sound-lays, standard-fits, points-count}
 use Rattle.layout.proofs.NewPoint.{freshPoint, append-point}
 use Rattle.table.specs.Lookup.{indexOf}
-use Rattle.table.proofs.Laws.{sound-long}
-use Rattle.table.proofs.Found.{found, missing}
+use Rattle.table.proofs.Laws.{index-none}
+use Rattle.table.proofs.Found.{missing}
 use Rattle.table.proofs.Calls.{call-unsound, laidOver, leaves-is, left-alone}
+use Rattle.table.proofs.OnPart.{point-found}
 use Rattle.opening.specs.Opening.{openCall}
 
 -- are all numbers of an opening in range?
@@ -69,10 +68,6 @@ module _ (t : List ℤ) (n : Opening) (s : sound standard t ≡ true) where
   sent-back : (r : ℕ) → row ≡ suc r → openCall t n ≡ (pos (suc r) ∷ [], t)
   sent-back r e = whole ∙ ap (λ k. laidOver standard t (after k)) e ∙ ap (laidOver standard t) (decide-refused 0 R _ r) ∙ left-alone standard t r [] R
 
-  count : length (R .points) ≡ numAt t 0
-  unfolding registerOf
-  count = length-points standard (numAt t 0) (drop 8 t)
-
   opened-is : openedLists n ≡ freshPoint (factsOf n) (natOf (n .user))
   unfolding openedLists freshPoint factsOf
   opened-is = refl
@@ -84,26 +79,17 @@ module _ (t : List ℤ) (n : Opening) (s : sound standard t ≡ true) where
       whole ∙ ap (λ k. laidOver standard t (after k)) e ∙ ap (laidOver standard t) (decide-taken 0 R _)
       ∙ ap (λ q. (pos 0 ∷ [], layout standard (withPoints (R .points ++ (q ∷ [])) R) ++ rest)) opened-is
       ∙ ap (λ u. (pos 0 ∷ [], u))
-      (sym (ap₂ (λ u k. appendPoint standard u k (factsOf n) (natOf (n .user))) (table-split standard R t (sym (sound-lays standard standard-fits t s .1))) (sym count)
+      (sym (ap₂ (λ u k. appendPoint standard u k (factsOf n) (natOf (n .user))) (table-split standard R t (sym (sound-lays standard standard-fits t s .1))) (sym (points-count standard t))
       ∙ append-point standard R rest (all-few-of (well .pointsOk)) standard-fits h (factsOf n) (natOf (n .user))))
 
   -- ---- what the search by MIRN says of row 5
 
-  index-known : (i : ℕ) → i ≡ maybe 32 (λ k. k) (indexOf standard t (natOf (n .mirn))) → (i ≡ 32 → ⊥) → known ≡ true
-  index-known i e d = go (indexOf standard t (natOf (n .mirn))) refl e
-    where
-      go : (o : Option ℕ) → indexOf standard t (natOf (n .mirn)) ≡ o → i ≡ maybe 32 (λ k. k) o → known ≡ true
-      go none q e = absurd (d e)
-      go (some k) q e = ap isSome (found standard standard-fits t s (natOf (n .mirn)) k q .find)
+  module _ (i : ℕ) (e : i ≡ maybe 32 (λ k. k) (indexOf standard t (natOf (n .mirn)))) where
+    index-known : (i ≡ 32 → ⊥) → known ≡ true
+    index-known d = ap isSome (point-found t s (natOf (n .mirn)) i e d .find)
 
-  index-new : (i : ℕ) → i ≡ maybe 32 (λ k. k) (indexOf standard t (natOf (n .mirn))) → i ≡ 32 → known ≡ false
-  unfolding indexOf
-  index-new i e d = go (indexOf standard t (natOf (n .mirn))) refl e
-    where
-      go : (o : Option ℕ) → indexOf standard t (natOf (n .mirn)) ≡ o → i ≡ maybe 32 (λ k. k) o → known ≡ false
-      go none q e = ap isSome (missing standard standard-fits t s (natOf (n .mirn)) q)
-      go (some k) q e =
-          absurd (omega (arith, from-bound (λ i. eqb (numAt t (placeOf standard i)) (natOf (n .mirn))) 0 (numAt t 0) k q .1, sound-long t s .1))
+    index-new : i ≡ 32 → known ≡ false
+    index-new d = ap isSome (missing standard standard-fits t s (natOf (n .mirn)) (index-none t s (natOf (n .mirn)) i e d))
 
   -- ---- the rows in order
 
@@ -125,14 +111,14 @@ module _ (t : List ℤ) (n : Opening) (s : sound standard t ≡ true) where
     pub open-full : i ≡ 32 → 32 ≤ numAt t 0 → openCall t n ≡ (pos 16 ∷ [], t)
     unfolding above
     open-full d h =
-        sent-back 15 (after-two d ∙ least-first 16 _ [] refl (le-leb 32 (length (R .points)) (omega (arith, count))))
+        sent-back 15 (after-two d ∙ least-first 16 _ [] refl (le-leb 32 (length (R .points)) (omega (arith, points-count standard t))))
 
     nothing : i ≡ 32 → numAt t 0 < 32 → row ≡ 0
     unfolding least
-    nothing d h = after-two d ∙ least-skip 16 _ [] (lt-leb 32 (length (R .points)) (omega (arith, count)))
+    nothing d h = after-two d ∙ least-skip 16 _ [] (lt-leb 32 (length (R .points)) (omega (arith, points-count standard t)))
 
     pub open-entered : i ≡ 32 → numAt t 0 < 32 → openCall t n ≡ (pos 0 ∷ [], appendPoint standard t (numAt t 0) (factsOf n) (natOf (n .user)))
-    open-entered d h = taken (nothing d h) (omega (arith, count))
+    open-entered d h = taken (nothing d h) (omega (arith, points-count standard t))
 
     -- what the writing needs
     pub clear : i ≡ 32 → numAt t 0 < 32 → OpenClear standard n known (length (R .points))

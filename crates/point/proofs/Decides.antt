@@ -1,27 +1,25 @@
 -- The code's tests decide soundness as document 01 words it: a part passes them where it is sound. Assumes nothing.
-use mathlib.Core.Path.{_≡_, refl, sym, ap, _∙_, subst}
+use mathlib.Core.Path.{_≡_, sym, _∙_, subst}
 use mathlib.Core.Bool.{Bool, true, false, _&&_}
 use mathlib.Core.List.{List}
 use Prim.Native.Nat.{ℕ, _+_, _-_, _*_, _/_, _%_, _≤_}
 use native.Mathlib.Nat.{div-add-mod'}
 use native.Mathlib.Omega.{arith}
-use lib.Dec.{leb}
 use lib.ListN.{length, drop}
 use lib.IntN.{ℤ}
-use borrow.Author.Tests.{leb-true}
 use Rattle.numbers.proofs.Bools.{both, join, iff}
 use Rattle.daybook.proofs.Lists.{Lists}
 use Rattle.daybook.proofs.Well.{Regs, StartsOn, Spans, Recs, PendingOk, Well}
-use Rattle.layout.specs.Layout.{asked, numAt, regsFrom, offsFrom, recsFrom, pendingFrom, pointFrom, pointNumbers}
+use Rattle.layout.specs.Layout.{numAt, pointFrom, pointNumbers}
 use Rattle.layout.specs.Sound.{countsSound, factsSound, unusedZero, listsSound, partSound}
-use Rattle.layout.proofs.Cells.{cell-user, cell-first, cell-last}
+use Rattle.layout.proofs.Cells.{place-user, place-first, place-last}
 use Rattle.layout.proofs.RowsSound.{facts-sound, facts-ok}
 use Rattle.layout.proofs.RowsLaid.{length-regsFrom, length-offsFrom, length-recsFrom}
 use Rattle.layout.proofs.ListsSound.{well-lists-sound}
-use Rattle.layout.proofs.PartLays.{part-lays}
+use Rattle.layout.proofs.PartLays.{part-lays, Counts, counts}
 use Rattle.point.specs.Tests.{factsAt, regsOk, spansOk, recsOk, pendingOk, rowsOk, testPart}
 use Rattle.point.proofs.Rows.{rowsAt, regRow, spanRow, recRow, regs-read, offs-read, recs-read}
-use Rattle.point.proofs.Registrations.{registrations-well, registrations-pass, latest-user}
+use Rattle.point.proofs.Registrations.{registrations-well, registrations-pass}
 use Rattle.point.proofs.Spans.{spans-tested, spans-tests}
 use Rattle.point.proofs.Records.{records-well, records-pass}
 use Rattle.point.proofs.Pending.{pending-well, pending-pass, Places}
@@ -29,25 +27,6 @@ use Rattle.point.proofs.Pending.{pending-well, pending-pass, Places}
 module _ (p : List ℤ) (room : ℕ) (long : length p ≡ 48 + 4 * room) where
   abbrev q : Lists
   q = pointFrom p
-
-  record Counts : Type 0 where
-    someRegs : 1 ≤ numAt p 4
-    fewRegs : numAt p 4 ≤ 8
-    fewOffs : numAt p 5 ≤ 8
-    fewRecs : numAt p 6 ≤ room
-
-  counts : countsSound p ≡ true → Counts
-  unfolding countsSound
-  counts e =
-      let a = both _ (leb (numAt p 6) ((length p - 48) / 4)) e in
-      let b = both _ (leb (numAt p 5) 8) (a .0) in
-      let d = both (leb 1 (numAt p 4)) (leb (numAt p 4) 8) (b .0) in
-      record {
-        someRegs = leb-true _ _ (d .0);
-        fewRegs = leb-true _ _ (d .1);
-        fewOffs = leb-true _ _ (b .1);
-        fewRecs = omega (arith, leb-true (numAt p 6) ((length p - 48) / 4) (a .1), long);
-      }
 
   -- the rows that the tests read are the lists of the point
   regs-are : rowsAt (regRow p) 0 (numAt p 4) ≡ q .regs
@@ -64,13 +43,14 @@ module _ (p : List ℤ) (room : ℕ) (long : length p ≡ 48 + 4 * room) where
 
   -- ---- a part that passes is sound
 
-  well : Counts → factsSound (factsAt p) ≡ true → rowsOk p ≡ true → Well room q
+  well : Counts p → factsSound (factsAt p) ≡ true → rowsOk p ≡ true → Well room q
   unfolding rowsOk pointFrom
   well k f e =
       let a = both _ (pendingOk p (numAt p 4)) e in
       let b = both _ (recsOk p (numAt p 5) (numAt p 6)) (a .0) in
       let d = both (regsOk p (numAt p 4)) (spansOk p (numAt p 5)) (b .0) in
       let facts = facts-ok (factsAt p) f in
+      let few : numAt p 6 ≤ room = omega (arith, k .fewRecs, long) in
       let regs = registrations-well p (numAt p 4) (k .someRegs) (d .0) in
       record {
         factsOk = facts;
@@ -80,7 +60,7 @@ module _ (p : List ℤ) (room : ℕ) (long : length p ≡ 48 + 4 * room) where
         offsOk = subst (Spans (numAt p 2)) offs-are (spans-tested p (numAt p 5) (d .1));
         offsFew = subst (λ n. n ≤ 8) (sym (length-offsFrom (numAt p 5) (drop 32 p))) (k .fewOffs);
         recsOk = subst (Recs (numAt p 1) (q .offs) (numAt p 2)) recs-are (subst (λ l. Recs (numAt p 1) l (numAt p 2) (rowsAt (recRow p) 0 (numAt p 6))) offs-are (records-well p (numAt p 5) (d .1) (numAt p 6) (facts .installOk) (b .1)));
-        recsFew = subst (λ n. n ≤ room) (sym (length-recsFrom (numAt p 6) (drop 48 p))) (k .fewRecs);
+        recsFew = subst (λ n. n ≤ room) (sym (length-recsFrom (numAt p 6) (drop 48 p))) few;
         pendingOk = subst (λ l. PendingOk l (q .pending)) regs-are (pending-well p (numAt p 4) (k .someRegs) (a .1));
       }
 
@@ -90,18 +70,18 @@ module _ (p : List ℤ) (room : ℕ) (long : length p ≡ 48 + 4 * room) where
       let a = both _ (rowsOk p) e in
       let b = both _ (unusedZero p) (a .0) in
       let d = both (countsSound p) (factsSound (factsAt p)) (b .0) in
-      join (join (d .0) (b .1)) (well-lists-sound (well (counts (d .0)) (d .1) (a .1)))
+      join (join (d .0) (b .1)) (well-lists-sound (well (counts p (d .0)) (d .1) (a .1)))
 
   -- ---- and back
 
-  places : (some-regs : 1 ≤ numAt p 4) → pointNumbers room q ≡ p → Places p (numAt p 4) some-regs (q .pending)
-  places l e = record {
-    user = ap (λ t. numAt t 7) (sym e) ∙ cell-user room q;
-    first = ap (λ t. numAt t 8) (sym e) ∙ cell-first room q;
-    last = ap (λ t. numAt t 9) (sym e) ∙ cell-last room q;
+  places : (some-regs : 1 ≤ numAt p 4) → Well room q → pointNumbers room q ≡ p → Places p (numAt p 4) some-regs (q .pending)
+  places l w e = record {
+    user = place-user w e;
+    first = place-first w e;
+    last = place-last w e;
   }
 
-  rows-pass : Counts → Well room q → pointNumbers room q ≡ p → rowsOk p ≡ true
+  rows-pass : Counts p → Well room q → pointNumbers room q ≡ p → rowsOk p ≡ true
   unfolding rowsOk pointFrom
   rows-pass k w e =
       let regs = subst (Regs 0 (numAt p 2)) (sym regs-are) (w .regsOk) in
@@ -110,7 +90,7 @@ module _ (p : List ℤ) (room : ℕ) (long : length p ≡ 48 + 4 * room) where
       let recs = subst (λ l. Recs (numAt p 1) l (numAt p 2) (rowsAt (recRow p) 0 (numAt p 6))) (sym offs-are) (subst (Recs (numAt p 1) (q .offs) (numAt p 2)) (sym recs-are) (w .recsOk)) in
       join
       (join (join (registrations-pass p (numAt p 4) regs starts) spans) (records-pass p (numAt p 5) spans (numAt p 6) (w .factsOk .installOk) recs))
-      (pending-pass p (numAt p 4) (k .someRegs) (subst (λ l. PendingOk l (q .pending)) (sym regs-are) (w .pendingOk)) (places (k .someRegs) e))
+      (pending-pass p (numAt p 4) (k .someRegs) (subst (λ l. PendingOk l (q .pending)) (sym regs-are) (w .pendingOk)) (places (k .someRegs) w e))
 
   sound-passes : partSound p ≡ true → testPart p ≡ true
   unfolding testPart partSound pointFrom
@@ -118,7 +98,7 @@ module _ (p : List ℤ) (room : ℕ) (long : length p ≡ 48 + 4 * room) where
       let a = both _ (listsSound q) e in
       let b = both (countsSound p) (unusedZero p) (a .0) in
       let l = part-lays p room long e in
-      join (join (join (b .0) (facts-sound (l .0 .factsOk))) (b .1)) (rows-pass (counts (b .0)) (l .0) (l .1))
+      join (join (join (b .0) (facts-sound (l .0 .factsOk))) (b .1)) (rows-pass (counts p (b .0)) (l .0) (l .1))
 
   -- the tests decide soundness
   pub decides : testPart p ≡ partSound p

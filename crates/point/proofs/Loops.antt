@@ -2,16 +2,16 @@
 use mathlib.Core.Path.{_≡_, sym, ap, _∙_}
 use mathlib.Core.Bool.{Bool, true, false}
 use mathlib.Core.List.{List}
-use Prim.Native.Nat.{ℕ, suc, _+_, _-_, _/_, _≤_, _<_}
+use Prim.Native.Nat.{ℕ, suc, _+_, _-_, _≤_, _<_}
 use native.Mathlib.Omega.{arith}
 use native.Mathlib.Numerals.{add-one}
-use borrow.Author.Tests.{leb-true, eq-eqb, ne-eqb}
+use borrow.Author.Tests.{eq-eqb, ne-eqb}
 use lib.ListN.{length}
 use lib.IntN.{ℤ}
-use Rattle.numbers.proofs.Bools.{both}
 use Rattle.numbers.proofs.Rows.{all-none, all-more, all-fails, all-at, all-of}
 use Rattle.layout.specs.Layout.{numAt}
 use Rattle.layout.specs.Sound.{countsSound, zeros}
+use Rattle.layout.proofs.PartLays.{counts}
 use Rattle.point.specs.Tests.{rows, Counted, offDay, onDay, past, passed}
 
 -- ---- rows, by a loop with the invariant that what is left to test decides the whole
@@ -67,16 +67,6 @@ module _ (p : List ℤ) (a : ℕ) where
 -- ---- counts
 
 pub counted : (p : List ℤ) → 48 ≤ length p → countsSound p ≡ true → Counted p
-unfolding countsSound
 counted p l h =
-    let a = both _ _ h in
-    let b = both _ _ (a .0) in
-    let d = both _ _ (b .0) in
-    let r : numAt p 6 ≤ (length p - 48) / 4 = leb-true _ _ (a .1) in
-    record {
-      long = l;
-      someRegs = leb-true _ _ (d .0);
-      fewRegs = leb-true _ _ (d .1);
-      fewSpans = leb-true _ _ (b .1);
-      fewRecs = omega arith;
-    }
+    let c = counts p h in
+    record { long = l; someRegs = c .someRegs; fewRegs = c .fewRegs; fewSpans = c .fewOffs; fewRecs = omega (arith, c .fewRecs) }

@@ -1,7 +1,7 @@
 -- Registrations: rows that pass the tests are well-formed, and well-formed rows pass. Assumes nothing.
 use mathlib.Core.Path.{_≡_, refl, ap, _∙_}
 use mathlib.Core.Bool.{true, not}
-use mathlib.Core.Option.{Option, some}
+use mathlib.Core.Option.{Option}
 use mathlib.Core.List.{List}
 use Prim.Native.Nat.{ℕ, zero, suc, _+_, _*_, _≤_}
 use native.Mathlib.Omega.{arith}
@@ -9,12 +9,12 @@ use borrow.Author.Tests.{leb-true, eqb-true, eq-eqb, le-leb, not-true}
 use lib.IntN.{ℤ}
 use Rattle.numbers.specs.Search.{maybe}
 use Rattle.numbers.proofs.Bools.{both, join}
-use Rattle.daybook.specs.Book.{lastOf}
+use Rattle.daybook.proofs.Last.{last-at}
 use Rattle.daybook.proofs.Steps.{latestOf}
 use Rattle.daybook.proofs.Well.{Regs, noreg, reg, StartsOn, starts}
 use Rattle.layout.specs.Layout.{numAt}
 use Rattle.point.specs.Tests.{rows, regStart, regUser, regAt, regLeaves, regsOk}
-use Rattle.point.proofs.Rows.{rowsAt, regRow}
+use Rattle.point.proofs.Rows.{rowsAt, regRow, length-rows, getD-rows}
 
 module _ (p : List ℤ) where
   regs-well : (n k u lo : ℕ) → rows (regAt p) (regLeaves p) (u, lo) k n ≡ true → Regs u lo (rowsAt (regRow p) k n)
@@ -58,14 +58,11 @@ module _ (p : List ℤ) where
   registrations-pass n r s = join (eq-eqb _ _ (starts-at n (numAt p 2) s .1)) (regs-pass n 0 0 (numAt p 2) r)
 
   -- the latest User stands at the last row
-  last-row : (n k j : ℕ) → suc j ≡ k + suc n → lastOf (rowsAt (regRow p) k (suc n)) ≡ some (regRow p j)
-  unfolding lastOf rowsAt
-  last-row zero k j e = let q : k ≡ j = omega arith in ap (λ i. some (regRow p i)) q
-  last-row (suc n) k j e = ap (λ (o : Option (ℕ × ℕ)). some (maybe (regRow p k) (λ y. y) o)) (last-row n (suc k) j (omega arith))
-
   pub latest-user : (n : ℕ) → 1 ≤ n → latestOf (rowsAt (regRow p) 0 n) .1 ≡ numAt p (15 + 2 * n)
   unfolding latestOf
   latest-user zero l = absurd (omega arith)
   latest-user (suc n) l =
-      let e : 16 + 2 * n + 1 ≡ 15 + 2 * suc n = omega arith in
-      ap (λ (o : Option (ℕ × ℕ)). maybe (0, 0) (λ x. x) o .1) (last-row n 0 n (omega arith)) ∙ ap (numAt p) e
+      let regs : List (ℕ × ℕ) = rowsAt (regRow p) 0 (suc n) in
+      let e : 16 + 2 * (0 + n) + 1 ≡ 15 + 2 * suc n = omega arith in
+      ap (λ (o : Option (ℕ × ℕ)). maybe (0, 0) (λ x. x) o .1) (last-at (0, 0) regs n (length-rows (regRow p) 0 (suc n)))
+      ∙ ap (λ (r : ℕ × ℕ). r .1) (getD-rows (regRow p) (suc n) 0 n (0, 0) (omega arith)) ∙ ap (numAt p) e

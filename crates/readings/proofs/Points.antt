@@ -2,33 +2,30 @@
 use mathlib.Core.Path.{_≡_, refl, ap, _∙_}
 use mathlib.Core.Bool.{true}
 use mathlib.Core.List.{List, _∷_, map}
-use Prim.Native.Nat.{ℕ, zero, suc, _+_, _*_, _≤_, _<_}
+use Prim.Native.Nat.{ℕ, zero, suc, _+_, _*_, _<_}
 use native.Mathlib.Omega.{arith}
-use borrow.Author.Tests.{leb-true}
 use lib.ListN.{length, drop, length-take, length-drop}
-use lib.Seq.{drop-drop}
-use lib.IntN.{ℤ, _+ℤ_}
+use lib.IntN.{ℤ}
 use Rattle.numbers.specs.Sums.{sumFrom}
-use Rattle.numbers.proofs.Bools.{both}
 use Rattle.numbers.proofs.Rows.{all-at}
 use Rattle.daybook.specs.Book.{Point}
 use Rattle.daybook.specs.Queries.{sumOf}
 use Rattle.daybook.proofs.Lists.{pointOf, bookOf}
 use Rattle.layout.specs.Layout.{standard, partOf, numAt, pointsFrom, registerOf, tableBook}
 use Rattle.layout.specs.Sound.{sound}
+use Rattle.layout.proofs.Mirns.{next}
+use Rattle.layout.proofs.TableSound.{Tested, tested}
 use Rattle.point.proofs.Rows.{rowsAt}
 use Rattle.readings.specs.Readings.{pointAt, Readable}
+use Rattle.readings.proofs.Records.{sum-rows}
 
 pub part-readable : (t : List ℤ) → sound standard t ≡ true → (i : ℕ) → i < numAt t 0 → Readable (partOf standard t i)
-unfolding sound partOf
+unfolding partOf
 part-readable t e i h =
-    let a = both _ _ (both _ _ (both _ _ e .0) .0) in
-    let b = both _ _ (both _ _ (both _ _ (both _ _ (a .0) .0) .0) .0) in
-    let long : 7688 ≤ length t = leb-true _ _ (b .0) in
-    let few : numAt t 0 ≤ 32 = leb-true _ _ (b .1) in
+    let s : Tested standard t = tested standard t e in
     let n : length (partOf standard t i) ≡ 240 = simp (length-take, length-drop) (omega arith) in
     record {
-      isSound = all-at _ (numAt t 0) (a .1) i h;
+      isSound = all-at _ (numAt t 0) (s .parts) i h;
       long = omega arith;
       inFours = omega arith;
       short = omega arith;
@@ -43,19 +40,11 @@ points-from : (t : List ℤ) (n i : ℕ) → map pointOf (pointsFrom standard n 
 unfolding pointsFrom rowsAt pointAt partOf
 points-from t zero i = refl
 points-from t (suc n) i =
-    let e : 8 + 240 * i + 240 ≡ 8 + 240 * suc i = omega arith in
-    ap (λ l. partPoint t i ∷ l)
-    (ap (λ l. map pointOf (pointsFrom standard n l)) (drop-drop 240 (8 + 240 * i) t ∙ ap (λ k. drop k t) e) ∙ points-from t n (suc i))
+    ap (λ l. partPoint t i ∷ l) (ap (λ l. map pointOf (pointsFrom standard n l)) (next standard t i) ∙ points-from t n (suc i))
 
 pub points-are : (t : List ℤ) → tableBook standard t .points ≡ rowsAt (partPoint t) 0 (numAt t 0)
 unfolding tableBook bookOf registerOf
 points-are t = points-from t (numAt t 0) 0
 
-module _ (f : Point → ℤ) where
-  sum-rows : (p : ℕ → Point) (i n : ℕ) → sumOf f (rowsAt p i n) ≡ sumFrom (λ k. f (p k)) i n
-  unfolding sumOf sumFrom rowsAt
-  sum-rows p i zero = refl
-  sum-rows p i (suc n) = ap (λ z. f (p i) +ℤ z) (sum-rows p (suc i) n)
-
-  pub points-sum : (t : List ℤ) → sumOf f (tableBook standard t .points) ≡ sumFrom (λ k. f (partPoint t k)) 0 (numAt t 0)
-  points-sum t = ap (sumOf f) (points-are t) ∙ sum-rows (partPoint t) 0 (numAt t 0)
+pub points-sum : (f : Point → ℤ) (t : List ℤ) → sumOf f (tableBook standard t .points) ≡ sumFrom (λ k. f (partPoint t k)) 0 (numAt t 0)
+points-sum f t = ap (sumOf f) (points-are t) ∙ sum-rows f (partPoint t) 0 (numAt t 0)

@@ -87,7 +87,7 @@ module _ (g : Entry → ℕ → ℤ) where
       ∙ ap₂ _+ℤ_ (telescope (λ d. g x (daysBefore (x .start) (x .end) d)) a n) (records-sum r a n)
 
 -- the sum over a list of rows
-sum-rows : {X : Type 0} (f : X → ℤ) (row : ℕ → X) (k n : ℕ) → sumOf f (rowsAt row k n) ≡ sumFrom (λ i. f (row i)) k n
+pub sum-rows : {X : Type 0} (f : X → ℤ) (row : ℕ → X) (k n : ℕ) → sumOf f (rowsAt row k n) ≡ sumFrom (λ i. f (row i)) k n
 unfolding sumOf rowsAt sumFrom
 sum-rows f row k zero = refl
 sum-rows f row k (suc n) = ap (λ z. f (row k) +ℤ z) (sum-rows f row (suc k) n)

@@ -1,5 +1,5 @@
 -- The FRO and the status of a day, by registrations and off spans. Assumes nothing.
-use mathlib.Core.Path.{_≡_, refl, sym, ap, ap₂, subst, _∙_}
+use mathlib.Core.Path.{_≡_, refl, sym, ap, ap₂, _∙_}
 use mathlib.Core.Bool.{Bool, true, false, not, _&&_, _||_, cond, and-true, Bool·not-not}
 use mathlib.Core.Option.{Option, none, some}
 use mathlib.Core.List.{List, [], _∷_}
@@ -8,19 +8,18 @@ use native.Mathlib.Omega.{arith}
 use native.Mathlib.Numerals.{add-one}
 use borrow.Author.Tests.{leb-true, leb-false}
 use lib.Dec.{leb}
-use lib.ListN.{length}
 use lib.IntN.{ℤ}
 use Rattle.daybook.specs.Queries.{active}
 use Rattle.daybook.proofs.Lists.{userOn, inSpan, offOn, pointOf}
 use Rattle.daybook.proofs.Registrations.{user-none, user-known}
 use Rattle.daybook.proofs.Steps.{overlaps, someOverlap}
 use Rattle.layout.specs.Layout.{numAt, pointFrom}
-use Rattle.layout.proofs.Cells.{cell-offs}
+use Rattle.layout.proofs.Cells.{place-offs}
 use Rattle.point.specs.Tests.{regStart, regUser, noOff}
 use Rattle.point.proofs.Readers.{no-off-is}
 use Rattle.point.proofs.Rows.{rowsAt, regRow}
 use Rattle.readings.specs.Readings.{pointAt, Readable}
-use Rattle.readings.proofs.Part.{roomOf, part-well, part-laid, regs-of}
+use Rattle.readings.proofs.Part.{part-well, part-laid, regs-of}
 
 -- ---- the FRO, by a loop with the invariant that the registrations left decide the day
 
@@ -63,7 +62,7 @@ pub off-is : {p : List ℤ} → Readable p → (g : ℕ) → g ≤ 39999 → not
 unfolding pointAt pointOf
 off-is {p} r g h =
     ap not
-    (ap₂ (λ p n. noOff p n g g) (sym (part-laid r)) (subst (λ t. numAt t 5 ≡ length (pointFrom p .offs)) (part-laid r) (cell-offs (roomOf p) (pointFrom p)))
+    (ap₂ (λ p n. noOff p n g g) (sym (part-laid r)) (place-offs (part-well r) (part-laid r))
     ∙ no-off-is (part-well r) g g (omega arith))
     ∙ Bool·not-not (someOverlap g g (pointFrom p .offs)) ∙ off-day (pointFrom p .offs) g
 

@@ -1,36 +1,13 @@
--- The last of a list's rows, by its index. Assumes nothing.
+-- The last off span, by its index: it is closed, and its on day is a day. Assumes nothing.
 use mathlib.Core.Path.{_≡_, refl, ap}
-use mathlib.Core.Option.{Option, none, some}
+use mathlib.Core.Option.{Option, some}
 use mathlib.Core.List.{List, [], _∷_, _++_}
 use Prim.Native.Nat.{ℕ, zero, suc, _≤_}
 use native.Mathlib.Omega.{arith}
 use lib.ListN.{length, getD, take}
-use Rattle.numbers.specs.Search.{maybe}
-use Rattle.daybook.specs.Book.{lastOf}
 use Rattle.daybook.proofs.Steps.{closed}
 use Rattle.daybook.proofs.Well.{Spans, nospan, still, ended}
 use Rattle.layout.proofs.Cells.{noOff}
-
-module _ {A : Type 0} (gap : A) where
-  pub last-none : (l : List A) → length l ≡ 0 → lastOf l ≡ none
-  unfolding lastOf
-  last-none [] e = refl
-  last-none (x ∷ l) e = absurd (omega arith)
-
-  pub last-at : (l : List A) (k : ℕ) → length l ≡ suc k → lastOf l ≡ some (getD l k gap)
-  unfolding lastOf
-  last-at [] k e = absurd (omega arith)
-  last-at (x ∷ []) zero e = refl
-  last-at (x ∷ []) (suc k) e = absurd (omega arith)
-  last-at (x ∷ y ∷ l) zero e = absurd (omega arith)
-  last-at (x ∷ y ∷ l) (suc k) e = ap (λ o. some (maybe x (λ z. z) o)) (last-at (y ∷ l) k (omega arith))
-
-  pub split-last : (l : List A) (k : ℕ) → length l ≡ suc k → l ≡ take k l ++ (getD l k gap ∷ [])
-  split-last [] k e = absurd (omega arith)
-  split-last (x ∷ []) zero e = refl
-  split-last (x ∷ []) (suc k) e = absurd (omega arith)
-  split-last (x ∷ y ∷ l) zero e = absurd (omega arith)
-  split-last (x ∷ y ∷ l) (suc k) e = ap (λ m. x ∷ m) (split-last (y ∷ l) k (omega arith))
 
 pub closed-last : (d : ℕ) (l : List (ℕ × Option ℕ)) (k : ℕ) → length l ≡ suc k
     → closed d l ≡ take k l ++ ((getD l k noOff .0, some d) ∷ [])

@@ -15,17 +15,18 @@ use Rattle.numbers.specs.Search.{maybe}
 use Rattle.daybook.specs.Book.{Entry, lastOf}
 use Rattle.daybook.specs.Notices.{least, cannotOff, cannotOn, statusRows}
 use Rattle.daybook.proofs.Lists.{Lists}
+use Rattle.daybook.proofs.Last.{last-none, last-at, split-last}
 use Rattle.daybook.proofs.Steps.{lastEnd, offsAfter, withOffs}
 use Rattle.daybook.proofs.Rows.{above, least-first, least-skip, least-none}
 use Rattle.daybook.proofs.Well.{Well}
 use Rattle.layout.specs.Layout.{onNumber, pointNumbers, numAt}
 use Rattle.layout.specs.Writes.{openSpan, closeSpan}
 use Rattle.layout.proofs.Numbers.{few}
-use Rattle.layout.proofs.Cells.{noOff, noRec, cell-install, cell-offs, cell-recs, cell-off, cell-on, cell-rec-end}
+use Rattle.layout.proofs.Cells.{noOff, noRec, cell-off, cell-on, cell-rec-end, place-offs, place-recs}
 use Rattle.layout.proofs.RowWrites.{open-span, close-span}
 use Rattle.point.specs.Tests.{untilOf}
 use Rattle.status.specs.Part.{filledFrom, cannotSwitch, rowsOf, switchedLists}
-use Rattle.status.proofs.LastRow.{last-none, last-at, split-last, closed-last, on-day}
+use Rattle.status.proofs.LastRow.{closed-last, on-day}
 
 -- ---- one span
 
@@ -49,31 +50,25 @@ on-by day (off, some on) u e f =
 -- ---- the last rows
 
 module _ {room : ℕ} {q : Lists} (w : Well room q) {p : List ℤ} (e : pointNumbers room q ≡ p) where
-  pub spans-count : numAt p 5 ≡ length (q .offs)
-  spans-count = ap (λ p. numAt p 5) (sym e) ∙ cell-offs room q
-
-  recs-count : numAt p 6 ≡ length (q .recs)
-  recs-count = ap (λ p. numAt p 6) (sym e) ∙ cell-recs room q
-
   module _ (day n : ℕ) (c : n ≡ numAt p 5) where
     pub off-unswitched : n ≡ 0 → false ≡ cannotOff day (lastOf (q .offs))
-    off-unswitched z = ap (cannotOff day) (sym (last-none noOff (q .offs) (omega (arith, spans-count))))
+    off-unswitched z = ap (cannotOff day) (sym (last-none (q .offs) (omega (arith, place-offs w e))))
 
     pub on-unswitched : n ≡ 0 → true ≡ cannotOn day (lastOf (q .offs))
-    on-unswitched z = ap (cannotOn day) (sym (last-none noOff (q .offs) (omega (arith, spans-count))))
+    on-unswitched z = ap (cannotOn day) (sym (last-none (q .offs) (omega (arith, place-offs w e))))
 
     module _ (some-span : n ≡ 0 → ⊥) where
       abbrev lastSpan : ℕ × Option ℕ
       lastSpan = getD (q .offs) (n - 1) noOff
 
       last-span : lastOf (q .offs) ≡ some lastSpan
-      last-span = last-at noOff (q .offs) (n - 1) (omega (arith, spans-count, some-span))
+      last-span = last-at noOff (q .offs) (n - 1) (omega (arith, place-offs w e, some-span))
 
       span-day : (d : ℕ) → lastSpan .1 ≡ some d → d ≤ 39999
       span-day = on-day (w .offsOk) (n - 1)
 
       row-low : n - 1 < 8
-      row-low = omega (arith, spans-count, some-span, w .offsFew)
+      row-low = omega (arith, place-offs w e, some-span, w .offsFew)
 
       last-until : untilOf (getD p (32 + 2 * (n - 1) + 1) (pos 0)) ≡ maybe 40001 (λ d. d) (lastSpan .1)
       last-until =
@@ -95,17 +90,14 @@ module _ {room : ℕ} {q : Lists} (w : Well room q) {p : List ℤ} (e : pointNum
     unfolding lastEnd
     unfilled z =
         ap (λ (o : Option Entry). maybe false (leb day) (maybe none (λ x. some (x .end)) o))
-        (sym (last-none noRec (q .recs) (omega (arith, recs-count))))
+        (sym (last-none (q .recs) (omega (arith, place-recs w e))))
 
     pub filled-to : (n ≡ 0 → ⊥) → (d : ℕ) → d ≡ numAt p (48 + 4 * (n - 1) + 1) → leb day d ≡ filledFrom day q
     unfolding lastEnd
     filled-to some-rec d r =
         ap (leb day) (r ∙ ap (λ p. numAt p (48 + 4 * (n - 1) + 1)) (sym e) ∙ cell-rec-end (few w) (n - 1))
         ∙ ap (λ (o : Option Entry). maybe false (leb day) (maybe none (λ x. some (x .end)) o))
-        (sym (last-at noRec (q .recs) (n - 1) (omega (arith, recs-count, some-rec))))
-
-  pub part-install : numAt p 2 ≡ q .facts .install
-  part-install = ap (λ p. numAt p 2) (sym e) ∙ cell-install room q
+        (sym (last-at noRec (q .recs) (n - 1) (omega (arith, place-recs w e, some-rec))))
 
   -- ---- what is written
 
@@ -113,13 +105,13 @@ module _ {room : ℕ} {q : Lists} (w : Well room q) {p : List ℤ} (e : pointNum
   unfolding offsAfter
   open-is day n on c h z =
       rw (eq-eqb on 0 z)
-      (ap₂ (λ p n. openSpan p n day) (sym e) (c ∙ spans-count)
-      ∙ open-span room q (few w) day (omega (arith, spans-count)))
+      (ap₂ (λ p n. openSpan p n day) (sym e) (c ∙ place-offs w e)
+      ∙ open-span room q (few w) day (omega (arith, place-offs w e)))
 
   pub close-is : (day n on : ℕ) → n ≡ numAt p 5 → 1 ≤ n → 1 ≤ on → closeSpan p (n - 1) day ≡ pointNumbers room (switchedLists day on q)
   unfolding offsAfter
   close-is day n on c h k =
-      let m : length (q .offs) ≡ suc (n - 1) = omega (arith, spans-count) in
+      let m : length (q .offs) ≡ suc (n - 1) = omega (arith, place-offs w e) in
       let x : ℕ × Option ℕ = getD (q .offs) (n - 1) noOff in
       ap₂ (λ p n. closeSpan p n day) (sym e) (sym (length-take-le (n - 1) (q .offs) (omega arith)))
       ∙ close-span room q (few w) (take (n - 1) (q .offs)) (x .0) (x .1) day (split-last noOff (q .offs) (n - 1) m)
@@ -128,10 +120,10 @@ module _ {room : ℕ} {q : Lists} (w : Well room q) {p : List ℤ} (e : pointNum
   -- ---- the counts
 
   pub spans-few : numAt p 5 ≤ 8
-  spans-few = omega (arith, spans-count, w .offsFew)
+  spans-few = omega (arith, place-offs w e, w .offsFew)
 
   pub recs-few : numAt p 6 ≤ room
-  recs-few = omega (arith, recs-count, w .recsFew)
+  recs-few = omega (arith, place-recs w e, w .recsFew)
 
 -- ---- the rows
 

@@ -1,21 +1,21 @@
 -- The point that the search by MIRN finds is the one that the lists' steps change. Assumes nothing.
 use mathlib.Core.Path.{_≡_, refl, sym, _∙_, ap, ap₂, subst}
-use mathlib.Core.Bool.{Bool, true, false, cond, false≢true}
+use mathlib.Core.Bool.{Bool, true, false, cond}
 use mathlib.Core.Option.{Option, none, some}
 use mathlib.Core.List.{List, [], _∷_, _++_}
-use Prim.Native.Nat.{ℕ, zero, suc, _+_, _≤_, _<_}
+use Prim.Native.Nat.{ℕ, zero, suc, _+_, _<_}
 use native.Mathlib.Omega.{arith}
 use native.Mathlib.Nat.{mul-zero}
 use lib.Dec.{eqb}
-use lib.ListN.{length, drop, take}
+use lib.ListN.{drop, take}
 use lib.IntN.{ℤ}
 use borrow.Author.Tests.{eqb-true, eqb-false, eq-eqb, ne-eqb}
-use Rattle.numbers.proofs.Search.{First, nowhere, found as found-at, first-tells, first-fails}
-use Rattle.numbers.specs.Search.{isSome, firstFrom}
+use Rattle.numbers.proofs.Search.{First, found as found-at, first-tells, first-fails}
+use Rattle.numbers.specs.Search.{isSome}
 use Rattle.daybook.specs.Book.{Edition}
 use Rattle.daybook.proofs.Lists.{Lists, Register}
 use Rattle.daybook.proofs.Steps.{findLists, putLists, withLists}
-use Rattle.daybook.proofs.Well.{Well, Points, nopoint, point, WellFormed}
+use Rattle.daybook.proofs.Well.{Well, Points, point, WellFormed}
 use Rattle.layout.specs.Layout.{tableLength, stride, placeOf, Fits, partOf, withPart, pointNumbers, layout, numAt, pointFrom, pointsFrom, registerOf}
 use Rattle.layout.specs.Sound.{sound}
 use Rattle.layout.proofs.Numbers.{Few}
@@ -23,7 +23,7 @@ use Rattle.layout.proofs.Cells.{cell-mirn}
 use Rattle.layout.proofs.Parse.{point-alone}
 use Rattle.layout.proofs.PointParts.{all-few-of, withPoints, part-of-point, with-point, table-split}
 use Rattle.layout.proofs.Mirns.{first-number, next}
-use Rattle.layout.proofs.TableSound.{length-points, sound-lays}
+use Rattle.layout.proofs.TableSound.{points-count, sound-lays}
 use Rattle.layout.proofs.SoundTable.{Nth, nth}
 use Rattle.table.specs.Lookup.{indexOf}
 
@@ -99,10 +99,6 @@ module _ (ed : Edition) (fits : Fits ed) (t : List ℤ) (s : sound ed t ≡ true
             ∙ ap (λ l. layout ed (withPoints l R) ++ rest) (sym (ap (λ l. putLists m q′ l) (k .is) ∙ ap (λ n. putLists n q′ (k .before ++ k .q ∷ k .after)) (sym mirn) ∙ put-at (k .before) (k .q) q′ (k .after) points));
       }
 
-  count : length (R .points) ≡ numAt t 0
-  unfolding registerOf
-  count = length-points ed (numAt t 0) (drop 8 t)
-
   pub found : (i : ℕ) → indexOf ed t m ≡ some i → Found ed t m i
   unfolding indexOf
   found i = go (indexOf ed t m) (first-tells (λ j. eqb (numAt t (placeOf ed j)) m) 0 (numAt t 0))
@@ -111,7 +107,7 @@ module _ (ed : Edition) (fits : Fits ed) (t : List ℤ) (s : sound ed t ≡ true
       go none r e = let k : _≡_ {A = ℕ} 0 1 = cc in absurd (omega arith)
       go (some j) (found-at u v h f) e =
           let same : j ≡ i = cc in
-          subst (Found ed t m) same (here j (nth (ok .pointsOk) j (omega (arith, count))) (eqb-true _ _ h))
+          subst (Found ed t m) same (here j (nth (ok .pointsOk) j (omega (arith, points-count ed t))) (eqb-true _ _ h))
 
   none-of : (k a : ℕ) → ((j : ℕ) → j < k → eqb (numAt t (placeOf ed (a + j))) m ≡ false) → findLists m (pointsFrom ed k (drop (placeOf ed a) t)) ≡ none
   unfolding findLists pointsFrom pointFrom

@@ -1,6 +1,6 @@
 -- What the loops and the parts of the whole table need. Assumes nothing.
 use mathlib.Core.Path.{_≡_, refl, sym, ap, _∙_}
-use mathlib.Core.Bool.{Bool, true, false, not, _&&_, cond, false≢true}
+use mathlib.Core.Bool.{Bool, true, false, not, _&&_, cond}
 use mathlib.Core.Option.{Option, none, some}
 use mathlib.Core.List.{List, [], _++_}
 use Prim.Native.Nat.{ℕ, zero, suc, _+_, _-_, _*_, _≤_, _<_, _^_}
@@ -20,23 +20,29 @@ use Rattle.daybook.specs.Notices.{isRange}
 use Rattle.layout.specs.Layout.{standard, placeOf, partOf, withPart, numAt, pointsFrom}
 use Rattle.layout.specs.Sound.{zeros, partSound, mirnsDiffer, sound}
 use Rattle.layout.proofs.Mirns.{laterDiffer}
+use Rattle.layout.proofs.TableSound.{Tested, tested}
 use Rattle.table.specs.Lookup.{bodySound, indexOf, lookUp}
 
+-- The part of point i as code lends it, and the table once it is back.
+abbrev pub lent : List ℤ → ℕ → List ℤ
+lent t i = take (8 + 240 * i + 240 - (8 + 240 * i)) (drop (8 + 240 * i) t)
+
+abbrev pub backIn : List ℤ → ℕ → List ℤ → List ℤ
+backIn t i p = take (8 + 240 * i) t ++ (p ++ drop (8 + 240 * i + 240 - (8 + 240 * i)) (drop (8 + 240 * i) t))
+
 module _ (t : List ℤ) (i : ℕ) where
-  pub part-is : take (8 + 240 * i + 240 - (8 + 240 * i)) (drop (8 + 240 * i) t) ≡ partOf standard t i
+  pub part-is : lent t i ≡ partOf standard t i
   unfolding partOf
   part-is = let e : 8 + 240 * i + 240 - (8 + 240 * i) ≡ 240 = omega arith in rw e
 
-  pub part-long : placeOf standard i + 240 ≤ length t → length (take (8 + 240 * i + 240 - (8 + 240 * i)) (drop (8 + 240 * i) t)) ≡ 240
+  pub part-long : placeOf standard i + 240 ≤ length t → length (lent t i) ≡ 240
   part-long h = simp (length-take, length-drop) (omega arith)
 
-  -- what a lent part leaves of the table
-  pub part-put : (p : List ℤ) → take (8 + 240 * i) t ++ (p ++ drop (8 + 240 * i + 240 - (8 + 240 * i)) (drop (8 + 240 * i) t)) ≡ withPart standard t i p
+  pub part-put : (p : List ℤ) → backIn t i p ≡ withPart standard t i p
   unfolding withPart
   part-put p =
       let e : 8 + 240 * i + 240 - (8 + 240 * i) ≡ 240 = omega arith in
-      ap (λ k. take (8 + 240 * i) t ++ (p ++ drop k (drop (8 + 240 * i) t))) e
-      ∙ ap (λ l. take (8 + 240 * i) t ++ (p ++ l)) (drop-drop 240 (8 + 240 * i) t)
+      rw e (ap (λ l. take (8 + 240 * i) t ++ (p ++ l)) (drop-drop 240 (8 + 240 * i) t))
 
 -- a number from -1 to hi, raised by 1,000,000
 pub within-raised : (hi : ℕ) (z : ℤ) (u : ℕ) → hi ≤ 1000000 → u ≡ biasOf z → (leb 999999 u && leb u (hi + 1000000)) ≡ within (negsuc 0) (pos hi) z
@@ -133,31 +139,38 @@ module _ (t : List ℤ) where
 
   -- a sound table is long enough and has not too many points
   pub sound-long : sound standard t ≡ true → (7688 ≤ length t) × (numAt t 0 ≤ 32)
-  sound-long e = go (leb 7688 (length t)) (leb (numAt t 0) 32) refl refl
+  sound-long e = let s : Tested standard t = tested standard t e in (s .long, s .few)
+
+-- ---- what the search by MIRN answers
+
+module _ (t : List ℤ) (s : sound standard t ≡ true) (m i : ℕ) (e : i ≡ maybe 32 (λ k. k) (indexOf standard t m)) where
+  pub index-none : i ≡ 32 → indexOf standard t m ≡ none
+  unfolding indexOf
+  index-none z = go (indexOf standard t m) (λ k q. from-bound (mirnAt t m) 0 (numAt t 0) k q .1) (sym z ∙ e)
     where
-      go : (a b : Bool) → leb 7688 (length t) ≡ a → leb (numAt t 0) 32 ≡ b → (7688 ≤ length t) × (numAt t 0 ≤ 32)
-      go true true p q = (leb-true _ _ p, leb-true _ _ q)
-      go true false p q = let z : false ≡ true = many-unsound (leb-true _ _ p) (leb-false _ _ q) ∙ e in absurd (false≢true z)
-      go false b p q = let z : false ≡ true = short-unsound (leb-false _ _ p) ∙ e in absurd (false≢true z)
-
-  -- ---- the look-up
-
-  pub look-unsound : (m : ℤ) → sound standard t ≡ false → [] ≡ lookUp standard t m
-  unfolding lookUp
-  look-unsound m e = rw e
-
-  pub look-missing : (m : ℤ) → sound standard t ≡ true → 32 ≡ maybe 32 (λ k. k) (indexOf standard t (natOf m)) → [] ≡ lookUp standard t m
-  unfolding lookUp indexOf
-  look-missing m e h = rw e (go (indexOf standard t (natOf m)) (λ k q. from-bound (mirnAt t (natOf m)) 0 (numAt t 0) k q .1) h)
-    where
-      go : (o : Option ℕ) → ((k : ℕ) → o ≡ some k → k < 0 + numAt t 0) → 32 ≡ maybe 32 (λ k. k) o → [] ≡ maybe [] (partOf standard t) o
+      go : (o : Option ℕ) → ((k : ℕ) → o ≡ some k → k < 0 + numAt t 0) → 32 ≡ maybe 32 (λ k. k) o → o ≡ none
       go none f h = refl
-      go (some k) f h = absurd (omega (arith, f k refl, sound-long e .1))
+      go (some k) f h = absurd (omega (arith, f k refl, sound-long t s .1))
 
-  pub look-found : (m : ℤ) (i : ℕ) → sound standard t ≡ true → i ≡ maybe 32 (λ k. k) (indexOf standard t (natOf m)) → (i ≡ 32 → ⊥) → partOf standard t i ≡ lookUp standard t m
-  unfolding lookUp
-  look-found m i e h n = rw e (go (indexOf standard t (natOf m)) h)
+  pub index-some : (i ≡ 32 → ⊥) → indexOf standard t m ≡ some i
+  index-some n = go (indexOf standard t m) e
     where
-      go : (o : Option ℕ) → i ≡ maybe 32 (λ k. k) o → partOf standard t i ≡ maybe [] (partOf standard t) o
+      go : (o : Option ℕ) → i ≡ maybe 32 (λ k. k) o → o ≡ some i
       go none h = absurd (n h)
-      go (some k) h = ap (partOf standard t) h
+      go (some k) h = ap some (sym h)
+
+-- ---- the look-up
+
+module _ (t : List ℤ) (m : ℤ) where
+  pub look-unsound : sound standard t ≡ false → [] ≡ lookUp standard t m
+  unfolding lookUp
+  look-unsound e = rw e
+
+  module _ (s : sound standard t ≡ true) (i : ℕ) (e : i ≡ maybe 32 (λ k. k) (indexOf standard t (natOf m))) where
+    pub look-missing : i ≡ 32 → [] ≡ lookUp standard t m
+    unfolding lookUp
+    look-missing z = rw (s, index-none t s (natOf m) i e z)
+
+    pub look-found : (i ≡ 32 → ⊥) → partOf standard t i ≡ lookUp standard t m
+    unfolding lookUp
+    look-found n = rw (s, index-some t s (natOf m) i e n)

@@ -4,23 +4,21 @@ use mathlib.Core.Path.{_≡_, refl, sym, _∙_, ap}
 use mathlib.Core.Bool.{true}
 use mathlib.Core.Option.{Option, none, some}
 use mathlib.Core.List.{List, [], _∷_, _++_}
-use Prim.Native.Nat.{ℕ, zero, suc, _+_, _*_, _-_, _≤_, _<_}
+use Prim.Native.Nat.{ℕ, zero, suc, _≤_}
 use native.Mathlib.Omega.{arith}
-use lib.ListN.{length, take, drop, replicate}
+use lib.ListN.{length, replicate}
 use lib.IntN.{ℤ, pos}
-use lib.Seq.{drop-drop}
 use borrow.Author.Tests.{lt-ltb}
 use Rattle.numbers.specs.Naturals.{natOf}
 use Rattle.numbers.specs.Search.{maybe}
 use Rattle.numbers.proofs.Bools.{join}
-use Rattle.numbers.proofs.Search.{from-bound}
 use Rattle.daybook.specs.Book.{Book}
 use Rattle.daybook.specs.Notices.{Row, least, Numbers, decide}
 use Rattle.daybook.proofs.Lists.{Lists, Register, bookOf}
 use Rattle.daybook.proofs.Steps.{findLists, onLists}
 use Rattle.daybook.proofs.Well.{Well, WellFormed}
 use Rattle.daybook.proofs.Rows.{above, least-first, least-append-none, least-append-some, decide-taken, decide-refused}
-use Rattle.layout.specs.Layout.{standard, partOf, withPart, pointNumbers, numAt, pointFrom, registerOf}
+use Rattle.layout.specs.Layout.{standard, partOf, withPart, pointNumbers, pointFrom, registerOf}
 use Rattle.layout.specs.Sound.{partSound, sound}
 use Rattle.layout.specs.Calls.{onTable}
 use Rattle.layout.proofs.Numbers.{Few, few, length-point}
@@ -28,7 +26,7 @@ use Rattle.layout.proofs.Parts.{with-part-own}
 use Rattle.layout.proofs.PartSound.{lays-part}
 use Rattle.layout.proofs.TableSound.{sound-lays, standard-fits}
 use Rattle.table.specs.Lookup.{indexOf}
-use Rattle.table.proofs.Laws.{mirnAt, sound-long, part-is}
+use Rattle.table.proofs.Laws.{lent, backIn, part-is, part-put, index-none, index-some}
 use Rattle.table.proofs.Found.{Found, found, missing}
 use Rattle.table.proofs.Calls.{call-refused, call-entered}
 
@@ -54,37 +52,9 @@ module _ (k : ℕ) (rows : Lists → List Row) (effect : Lists → Numbers × Li
 
 -- ---- the part lent
 
--- The part of point i as code lends it, and the table once it is back.
-abbrev pub lent : List ℤ → ℕ → List ℤ
-lent t i = take (8 + 240 * i + 240 - (8 + 240 * i)) (drop (8 + 240 * i) t)
-
-abbrev pub backIn : List ℤ → ℕ → List ℤ → List ℤ
-backIn t i p = take (8 + 240 * i) t ++ (p ++ drop (8 + 240 * i + 240 - (8 + 240 * i)) (drop (8 + 240 * i) t))
-
-back-is : (t : List ℤ) (i : ℕ) (p : List ℤ) → backIn t i p ≡ withPart standard t i p
-unfolding withPart
-back-is t i p =
-    let e : 8 + 240 * i + 240 - (8 + 240 * i) ≡ 240 = omega arith in
-    rw e (ap (λ l. take (8 + 240 * i) t ++ (p ++ l)) (drop-drop 240 (8 + 240 * i) t))
-
 module _ (t : List ℤ) (s : sound standard t ≡ true) (m i : ℕ) (e : i ≡ maybe 32 (λ k. k) (indexOf standard t m)) where
-  index-none : i ≡ 32 → indexOf standard t m ≡ none
-  unfolding indexOf
-  index-none z = go (indexOf standard t m) (λ k q. from-bound (mirnAt t m) 0 (numAt t 0) k q .1) (sym z ∙ e)
-    where
-      go : (o : Option ℕ) → ((k : ℕ) → o ≡ some k → k < 0 + numAt t 0) → 32 ≡ maybe 32 (λ k. k) o → o ≡ none
-      go none f h = refl
-      go (some k) f h = absurd (omega (arith, f k refl, sound-long t s .1))
-
-  index-some : (i ≡ 32 → ⊥) → indexOf standard t m ≡ some i
-  index-some n = go (indexOf standard t m) e
-    where
-      go : (o : Option ℕ) → i ≡ maybe 32 (λ k. k) o → o ≡ some i
-      go none h = absurd (n h)
-      go (some k) h = ap some (sym h)
-
   pub point-found : (i ≡ 32 → ⊥) → Found standard t m i
-  point-found n = found standard standard-fits t s m i (index-some n)
+  point-found n = found standard standard-fits t s m i (index-some t s m i e n)
 
   pub lent-sound : (i ≡ 32 → ⊥) → (partSound (lent t i) ≡ true) × (length (lent t i) ≡ 240)
   lent-sound n =
@@ -199,15 +169,11 @@ module _ {k : ℕ} {m : ℤ} {early : List Row} {rows : Lists → List Row} {eff
 
 -- ---- what a function has to show
 
--- an answer and what is left, by one equation
-pub answered : (w : Numbers × List ℤ) (a : Numbers) (l : List ℤ) → w ≡ (a, l) → (u : List ℤ) → u ≡ l → (a ≡ w .0) × (u ≡ w .1)
-answered w a l e u h = (sym (ap (λ w. w .0) e), h ∙ sym (ap (λ w. w .1) e))
-
--- the same where the part of point i was lent to a function that does f
+-- the two equations of a call's contract, where the part of point i was lent to a function that does f
 pub answered-at : (t : List ℤ) (i : ℕ) (w : Numbers × List ℤ) (f : List ℤ → Numbers × List ℤ)
     → w ≡ (f (partOf standard t i) .0, withPart standard t i (f (partOf standard t i) .1))
     → (a : Numbers) (p : List ℤ) → (a ≡ f (lent t i) .0) × (p ≡ f (lent t i) .1) → (a ≡ w .0) × (backIn t i p ≡ w .1)
 answered-at t i w f e a p h = (
   h .0 ∙ ap (λ l. f l .0) (part-is t i) ∙ sym (ap (λ w. w .0) e),
-  back-is t i p ∙ ap (withPart standard t i) (h .1 ∙ ap (λ l. f l .1) (part-is t i)) ∙ sym (ap (λ w. w .1) e),
+  part-put t i p ∙ ap (withPart standard t i) (h .1 ∙ ap (λ l. f l .1) (part-is t i)) ∙ sym (ap (λ w. w .1) e),
 )

@@ -11,14 +11,15 @@ use lib.IntN.{ℤ, pos}
 use borrow.Author.Tests.{eq-eqb, ne-eqb, le-leb, lt-leb}
 use Rattle.numbers.specs.Search.{maybe, isSome}
 use Rattle.daybook.specs.Book.{Pending}
-use Rattle.daybook.specs.Notices.{Row, least, requestRows, withdrawRows}
+use Rattle.daybook.specs.Notices.{least, requestRows, withdrawRows}
 use Rattle.daybook.proofs.Lists.{Lists}
 use Rattle.daybook.proofs.Steps.{latestOf, withPendingLists}
-use Rattle.daybook.proofs.Well.{Well, StartsOn, starts}
+use Rattle.daybook.proofs.Well.{some-reg, Well}
 use Rattle.daybook.proofs.Rows.{above, least-first, least-skip}
 use Rattle.layout.specs.Layout.{numAt, pendingFrom, pointFrom, pointNumbers}
 use Rattle.layout.specs.Sound.{partSound}
 use Rattle.layout.specs.Writes.{setPending, clearPending}
+use Rattle.layout.proofs.PartBlocks.{few-pending}
 use Rattle.layout.proofs.Numbers.{Few, few}
 use Rattle.layout.proofs.PartLays.{part-lays}
 use Rattle.layout.proofs.RowWrites.{set-pending, clear-pending}
@@ -29,8 +30,7 @@ use Rattle.transfer.specs.Parts.{requestRowsOf, requestEffect, requestPa
 
 -- another pending request fits the part
 pub pending-room : (o : Option Pending) (q : Lists) → Well 48 q → Few 48 (withPendingLists o q)
-unfolding withPendingLists
-pending-room o q w = record { regs = w .regsFew; offs = w .offsFew; recs = w .recsFew }
+pending-room o q w = few-pending (few w) o
 
 -- ---- withdraw
 
@@ -68,13 +68,10 @@ count-is : (p : List ℤ) → length (pointFrom p .regs) ≡ numAt p 4
 unfolding pointFrom
 count-is p = ap length (regs-read p (numAt p 4) 0) ∙ length-rows (regRow p) 0 (numAt p 4)
 
-some-of : {install : ℕ} {l : List (ℕ × ℕ)} → StartsOn install l → 1 ≤ length l
-some-of (starts e) = omega arith
-
 pub registrations-count : (p : List ℤ) → partSound p ≡ true → length p ≡ 240 → (1 ≤ numAt p 4) × (numAt p 4 ≤ 8)
 registrations-count p s len =
     let w : Well 48 (pointFrom p) = part-lays p 48 len s .0 in
-    (omega (arith, count-is p, some-of (w .regsStart)), omega (arith, count-is p, w .regsFew))
+    (omega (arith, count-is p, some-reg (w .regsStart)), omega (arith, count-is p, w .regsFew))
 
 latest-is : (p : List ℤ) → 1 ≤ numAt p 4 → latestOf (pointFrom p .regs) .1 ≡ numAt p (15 + 2 * numAt p 4)
 unfolding pointFrom

@@ -1,20 +1,19 @@
 -- The request call, test by test. Assumes nothing.
-use mathlib.Core.Path.{_≡_, refl, sym, _∙_, ap}
+use mathlib.Core.Path.{_≡_, refl, _∙_, ap}
 use mathlib.Core.Bool.{Bool, true, false, not, _&&_}
 use mathlib.Core.Option.{Option}
 use mathlib.Core.List.{List, [], _∷_}
-use Prim.Native.Nat.{ℕ, _≤_, _<_, _^_}
+use Prim.Native.Nat.{ℕ, _≤_}
 use native.Mathlib.Omega.{arith}
 use lib.Dec.{leb}
 use lib.IntN.{ℤ, pos}
-use borrow.Author.Tests.{le-leb}
 use Rattle.numbers.specs.Naturals.{natOf}
 use Rattle.numbers.specs.Search.{maybe}
 use Rattle.numbers.proofs.Bools.{both}
-use Rattle.calendar.specs.Calendar.{within, isDay, holidayList, allowablePeriod}
-use Rattle.calendar.proofs.Dates.{within-natural}
+use Rattle.calendar.specs.Calendar.{isDay, holidayList, allowablePeriod}
+use Rattle.calendar.proofs.Dates.{within-natural, up-to-natural, day-natural}
 use Rattle.daybook.specs.declared.TransferRequest.{TransferRequest}
-use Rattle.daybook.specs.Notices.{isMirn, isUser, isFlag, least, requestEarly, requestRows, pendingOf, request}
+use Rattle.daybook.specs.Notices.{isMirn, isUser, isFlag, least, requestEarly, requestRows, request}
 use Rattle.daybook.proofs.Steps.{requestLists}
 use Rattle.daybook.proofs.Rows.{above, least-first, least-skip}
 use Rattle.daybook.proofs.Bounds.{within-bounds}
@@ -33,14 +32,11 @@ use Rattle.transfer.proofs.Points.{pending-room}
 abbrev pub inRange : TransferRequest → Bool
 inRange n = isMirn (n .mirn) && isUser (n .user) && isDay (n .proposed) && isFlag (n .nochange)
 
-from-zero : (hi : ℕ) (z : ℤ) → hi < 2 ^ 63 → leb (natOf z) hi ≡ within (pos 0) (pos hi) z
-from-zero hi z h = ap (λ b. b && leb (natOf z) hi) (sym (le-leb 0 (natOf z) (omega arith))) ∙ within-natural 0 hi z h
-
 -- on the naturals that the code reads
 pub request-numbers : (n : TransferRequest) (m u d f : ℕ) → m ≡ natOf (n .mirn) → u ≡ natOf (n .user) → d ≡ natOf (n .proposed) → f ≡ natOf (n .nochange)
     → (((leb 1 m && leb m 9999999999) && (leb 1 u && leb u 16)) && leb d 39999 && leb f 1) ≡ inRange n
 request-numbers n m u d f em eu ed ef =
-    rw (em, eu, ed, ef, within-natural 1 9999999999 (n .mirn) (omega arith), within-natural 1 16 (n .user) (omega arith), from-zero 39999 (n .proposed) (omega arith), from-zero 1 (n .nochange) (omega arith))
+    rw (em, eu, ed, ef, within-natural 1 9999999999 (n .mirn) (omega arith), within-natural 1 16 (n .user) (omega arith), day-natural (n .proposed), up-to-natural 1 (n .nochange) (omega arith))
 
 pub request-bounds : (n : TransferRequest) → inRange n ≡ true → (natOf (n .user) ≤ 16) × (natOf (n .proposed) ≤ 39999)
 request-bounds n r =

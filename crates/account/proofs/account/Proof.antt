@@ -8,6 +8,7 @@ use mir.ValLaws.{toZ-ofZ}
 use borrow.Author.Needs.{sfits-of, needs}
 use borrow.Author.Tests.{not-true, not-false}
 use Rattle.numbers.specs.Naturals.{natOf}
+use Rattle.numbers.proofs.Naturals.{natural-read}
 use Rattle.daybook.specs.declared.AccountQuery.{AccountQuery}
 use Rattle.layout.specs.Layout.{standard}
 use Rattle.layout.specs.Sound.{sound}
@@ -30,19 +31,19 @@ user-is : (c : tie.After-natural) → c .natural .result ≡ natOf (query (c .be
 user-is c =
     let s = c .before in
     c .natural .ensures .0
-    ∙ ap natOf (toZ-ofZ w64 (query (s .before .before .before) .user) (sfits-of (s .struct-told3 .given .0 .1)))
+    ∙ natural-read (query (s .before .before .before) .user) (sfits-of (s .struct-told3 .given .0 .1))
 
 from-is : (c : tie.After-natural2) → c .natural2 .result ≡ natOf (query (c .before .before .before .before .before) .from)
 from-is c =
     let s = c .before .before in
     c .natural2 .ensures .0
-    ∙ ap natOf (toZ-ofZ w64 (query (s .before .before .before) .from) (sfits-of (s .struct-told3 .given .1 .0 .1)))
+    ∙ natural-read (query (s .before .before .before) .from) (sfits-of (s .struct-told3 .given .1 .0 .1))
 
 to-is : (c : tie.After-natural3) → c .natural3 .result ≡ natOf (query (c .before .before .before .before .before .before) .to)
 to-is c =
     let s = c .before .before .before in
     c .natural3 .ensures .0
-    ∙ ap natOf (toZ-ofZ w64 (query (s .before .before .before) .to) (sfits-of (s .struct-told3 .given .1 .1 .0 .1)))
+    ∙ natural-read (query (s .before .before .before) .to) (sfits-of (s .struct-told3 .given .1 .1 .0 .1))
 
 sound-requires : tie.Need-sound-requires
 sound-requires c κs = search needs

@@ -1,7 +1,5 @@
-use mathlib.Core.Path.{ap, _∙_}
-use mir.Syntax.{w64}
-use mir.ValLaws.{toZ-ofZ}
-use Rattle.numbers.specs.Naturals.{natOf}
+use mathlib.Core.Path.{_∙_}
+use Rattle.numbers.proofs.Naturals.{natural-read}
 use Rattle.account.proofs.Call.{range-tests}
 use borrow.Author.Needs.{sfits-of, needs}
 use Rattle.account.proofs.in_range.Statement.{statement}
@@ -21,9 +19,9 @@ returns c =
     let s = c .before .before .before in
     let n = s .before .before .before .args .n in
     range-tests n _ _ _
-    (c .before .before .natural .ensures .0 ∙ ap natOf (toZ-ofZ w64 (n .user) (sfits-of (s .struct-told3 .given .0 .1))))
-    (c .before .natural2 .ensures .0 ∙ ap natOf (toZ-ofZ w64 (n .from) (sfits-of (s .struct-told3 .given .1 .0 .1))))
-    (c .natural3 .ensures .0 ∙ ap natOf (toZ-ofZ w64 (n .to) (sfits-of (s .struct-told3 .given .1 .1 .0 .1))))
+    (c .before .before .natural .ensures .0 ∙ natural-read (n .user) (sfits-of (s .struct-told3 .given .0 .1)))
+    (c .before .natural2 .ensures .0 ∙ natural-read (n .from) (sfits-of (s .struct-told3 .given .1 .0 .1)))
+    (c .natural3 .ensures .0 ∙ natural-read (n .to) (sfits-of (s .struct-told3 .given .1 .1 .0 .1)))
 
 pub in-range-spec : {M : Type 1} → statement M
 in-range-spec = tie.close (tie.spec natural-requires natural-requires-2 natural-requires-3 returns)

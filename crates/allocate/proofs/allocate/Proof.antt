@@ -1,31 +1,21 @@
-use mathlib.Core.Path.{_≡_, sym, _∙_, ap, subst}
+use mathlib.Core.Path.{_≡_, sym, _∙_, ap}
 use mathlib.Core.Bool.{true}
 use mathlib.Core.List.{map}
-use Prim.Native.Nat.{ℕ, _≤_, _<_}
 use native.Mathlib.Omega.{arith}
 use lib.ListN.{length}
 use borrow.Author.Needs.{needs, sfits-of}
 use borrow.Author.Tests.{not-true, not-false}
+use Rattle.numbers.proofs.Naturals.{natural-read}
 use Rattle.numbers.specs.Naturals.{natOf}
 use Rattle.daybook.specs.Queries.{allocationInRange, weight, weights, total}
 use Rattle.layout.specs.Layout.{standard, tableBook}
 use Rattle.layout.specs.Sound.{sound}
-use Rattle.allocate.specs.Parts.{pointsOf, padded, Given}
-use Rattle.allocate.proofs.Loads.{natural-read}
+use Rattle.allocate.specs.Parts.{pointsOf, padded}
 use Rattle.allocate.proofs.Given.{total-padded}
 use Rattle.allocate.proofs.Apportioned.{in-range-tells}
 use Rattle.allocate.proofs.Call.{sent-back, handed-out, call-unsound, call-range, call-weightless, call-given}
 use Rattle.allocate.proofs.allocate.Statement.{statement}
 use Rattle.allocate.proofs.allocate.Tie as tie
-use Rattle.allocate.proofs.allocate.Reads as reads
-use Rattle.allocate.proofs.allocate.Lts as lts
-use Rattle.allocate.proofs.apportion.Reads as apportion-reads
-use Rattle.allocate.proofs.in_range.Reads as in-range-reads
-use Rattle.allocate.proofs.refused.Reads as refused-reads
-use Rattle.allocate.proofs.sum_of.Reads as sum-of-reads
-use Rattle.allocate.proofs.weights.Reads as weights-reads
-use Rattle.numbers.proofs.natural.Reads as natural-reads
-use Rattle.table.proofs.sound.Reads as sound-reads
 
 -- the tests that were passed
 sound-is : (c : tie.Else1) → sound standard (c .before .before .args .t .now) ≡ true

@@ -1,32 +1,22 @@
-use mathlib.Core.Path.{_≡_, refl, sym, _∙_, ap, ap₂, subst}
-use mathlib.Core.List.{List, _∷_, map}
-use Prim.Native.Nat.{ℕ, _+_, _-_, _*_, _≤_, _<_}
+use mathlib.Core.Path.{_≡_, sym, _∙_, ap, ap₂, subst}
+use mathlib.Core.List.{_∷_, map}
+use Prim.Native.Nat.{_*_}
 use native.Mathlib.Omega.{arith}
 use lib.ListN.{length}
-use lib.IntN.{ℤ, pos, subℕ}
+use lib.IntN.{pos}
 use mir.ValLaws.{toZ-ofZ}
 use mir.Syntax.{w64}
 use borrow.Author.Needs.{needs, sfits-of}
+use Rattle.numbers.proofs.Naturals.{natural-read}
 use Rattle.numbers.specs.Naturals.{natOf}
 use Rattle.daybook.specs.Queries.{atLeast0, tdmOf, nslOf, split, users}
-use Rattle.layout.specs.Layout.{standard, numAt, tableBook}
+use Rattle.layout.specs.Layout.{standard, tableBook}
 use Rattle.table.proofs.Laws.{sound-long}
 use Rattle.allocate.specs.Allocate.{placed}
 use Rattle.allocate.specs.Parts.{pointsOf, padded, SharesBelow, totalTo, loadOf, givenOf}
-use Rattle.allocate.proofs.Loads.{natural-read}
 use Rattle.allocate.proofs.Apportioned.{in-range-tells, in-range, load-is, fros-32, weigh-32, split-32, placed-long, shares-are, shares-small, totals-are}
 use Rattle.allocate.proofs.apportion.Statement.{statement}
 use Rattle.allocate.proofs.apportion.Tie as tie
-use Rattle.allocate.proofs.apportion.Reads as reads
-use Rattle.allocate.proofs.apportion.Lts as lts
-use Rattle.allocate.proofs.fros.Reads as fros-reads
-use Rattle.allocate.proofs.metered.Reads as metered-reads
-use Rattle.allocate.proofs.net_load.Reads as net-load-reads
-use Rattle.allocate.proofs.split_to.Reads as split-to-reads
-use Rattle.allocate.proofs.totals.Reads as totals-reads
-use Rattle.numbers.proofs.get.Reads as get-reads
-use Rattle.numbers.proofs.integer.Reads as integer-reads
-use Rattle.numbers.proofs.natural.Reads as natural-reads
 
 gasday-is : (c : tie.After-natural) → c .natural .result ≡ natOf (c .before .before .before .args .q .gasday)
 gasday-is c = c .natural .ensures .0 ∙ natural-read (c .before .before .before .args .q .gasday) (sfits-of (c .before .struct-told .given .0 .1))

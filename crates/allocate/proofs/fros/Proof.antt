@@ -1,24 +1,15 @@
 use mathlib.Core.Path.{_≡_, sym, _∙_, ap, ap₂, subst}
-use mathlib.Core.Bool.{true}
-use Prim.Native.Nat.{ℕ, _+_, _-_, _*_, _≤_, _<_}
+use Prim.Native.Nat.{_-_, _≤_}
 use native.Mathlib.Omega.{arith}
-use lib.ListN.{length, getD, set, replicate}
+use lib.ListN.{set}
 use borrow.Author.Needs.{needs}
-use Rattle.daybook.specs.Queries.{weight}
-use Rattle.layout.specs.Layout.{standard, partOf, numAt}
-use Rattle.layout.specs.Sound.{sound}
+use Rattle.layout.specs.Layout.{numAt}
 use Rattle.table.proofs.Laws.{sound-long}
 use Rattle.readings.specs.Readings.{pointAt, Readable}
 use Rattle.readings.proofs.Points.{partPoint, part-readable}
-use Rattle.allocate.specs.Parts.{Below}
-use Rattle.allocate.proofs.Arrays.{filledTo, none-filled, one-filled, all-filled, none-above, put-below}
+use Rattle.allocate.proofs.Arrays.{filledTo, none-filled, one-filled, all-filled}
 use Rattle.allocate.proofs.fros.Statement.{statement}
 use Rattle.allocate.proofs.fros.Tie as tie
-use Rattle.allocate.proofs.fros.Reads as reads
-use Rattle.allocate.proofs.fros.Lts as lts
-use Rattle.numbers.proofs.get.Reads as get-reads
-use Rattle.readings.proofs.fro_on.Reads as fro-on-reads
-use Rattle.table.proofs.part.Reads as part-reads
 
 abbrev Inv-loop : tie.InvT-loop
 Inv-loop t g n us₀ i₀ us i = (i ≤ n) × (n ≤ 32) × (us ≡ filledTo (λ k. partPoint t k .fro g) i)

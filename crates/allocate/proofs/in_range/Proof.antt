@@ -1,14 +1,11 @@
-use mathlib.Core.Path.{_≡_, ap, _∙_}
+use mathlib.Core.Path.{ap, _∙_}
 use mir.ValLaws.{toZ-ofZ}
 use mir.Syntax.{w64}
 use borrow.Author.Needs.{needs, sfits-of}
-use Rattle.allocate.proofs.Loads.{natural-read, isLoad, in-range-is}
+use Rattle.numbers.proofs.Naturals.{natural-read}
+use Rattle.allocate.proofs.Loads.{isLoad, in-range-is}
 use Rattle.allocate.proofs.in_range.Statement.{statement}
 use Rattle.allocate.proofs.in_range.Tie as tie
-use Rattle.allocate.proofs.in_range.Reads as reads
-use Rattle.allocate.proofs.in_range.Lts as lts
-use Rattle.allocate.proofs.load_ok.Reads as load-ok-reads
-use Rattle.numbers.proofs.natural.Reads as natural-reads
 
 -- src/lib.rt:42:9
 natural-requires : tie.Need-natural-requires

@@ -1,24 +1,17 @@
 use mathlib.Core.Path.{_≡_, sym, _∙_, ap, subst}
-use mathlib.Core.Bool.{true}
-use Prim.Native.Nat.{ℕ, _+_, _-_, _*_, _≤_, _<_}
+use Prim.Native.Nat.{_-_, _*_, _≤_}
 use native.Mathlib.Omega.{arith}
-use lib.ListN.{length}
 use lib.IntN.{subℕ}
 use borrow.Author.Needs.{needs}
 use Rattle.numbers.specs.Sums.{sumFrom}
 use Rattle.numbers.proofs.Sums.{sum-none, sum-turn}
 use Rattle.daybook.specs.Queries.{meteredOf, tdmOf}
-use Rattle.layout.specs.Layout.{standard, numAt}
+use Rattle.layout.specs.Layout.{numAt}
 use Rattle.table.proofs.Laws.{sound-long}
 use Rattle.readings.specs.Readings.{pointAt, Readable}
 use Rattle.readings.proofs.Points.{partPoint, part-readable, points-sum}
 use Rattle.allocate.proofs.metered.Statement.{statement}
 use Rattle.allocate.proofs.metered.Tie as tie
-use Rattle.allocate.proofs.metered.Reads as reads
-use Rattle.allocate.proofs.metered.Lts as lts
-use Rattle.numbers.proofs.get.Reads as get-reads
-use Rattle.readings.proofs.metered.Reads as metered-reads
-use Rattle.table.proofs.part.Reads as part-reads
 
 abbrev Inv-loop : tie.InvT-loop
 Inv-loop t g n sum₀ i₀ sum i = (i ≤ n) × (n ≤ 32) × (sum ≤ 2000000 * i) × (sumFrom (λ k. meteredOf g (partPoint t k)) 0 i ≡ subℕ sum (1000000 * i))

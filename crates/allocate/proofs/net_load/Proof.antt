@@ -1,20 +1,17 @@
 use mathlib.Core.Path.{_≡_, sym, ap, _∙_}
-use Prim.Native.Nat.{ℕ, _+_, _-_, _*_, _≤_}
+use Prim.Native.Nat.{_+_, _-_, _*_, _≤_}
 use native.Mathlib.Omega.{arith}
 use lib.IntN.{pos}
 use mir.ValLaws.{toZ-ofZ}
 use mir.Syntax.{w64}
 use borrow.Author.Needs.{needs, sfits-of}
+use Rattle.numbers.proofs.Naturals.{natural-read}
 use Rattle.numbers.specs.Naturals.{natOf}
 use Rattle.daybook.specs.Queries.{atLeast0}
 use Rattle.allocate.specs.Parts.{loadOf}
-use Rattle.allocate.proofs.Loads.{natural-read, net-load, load-natural}
+use Rattle.allocate.proofs.Loads.{net-load, load-natural}
 use Rattle.allocate.proofs.net_load.Statement.{statement}
 use Rattle.allocate.proofs.net_load.Tie as tie
-use Rattle.allocate.proofs.net_load.Reads as reads
-use Rattle.allocate.proofs.net_load.Lts as lts
-use Rattle.allocate.proofs.raised_load.Reads as raised-load-reads
-use Rattle.numbers.proofs.natural.Reads as natural-reads
 
 -- what is read of the numbers
 tdq-is : (c : tie.After-natural) → (c .before .before .before .before .args .q .tdq ≡ pos (c .natural .result)) × (c .natural .result ≤ 1000000000)

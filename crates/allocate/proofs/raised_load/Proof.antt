@@ -1,7 +1,6 @@
 use mathlib.Core.Path.{_≡_, ap, _∙_}
-use Prim.Native.Nat.{ℕ, _≤_}
 use native.Mathlib.Omega.{arith}
-use lib.IntN.{pos, subℕ, natAbs, _+ℤ_}
+use lib.IntN.{pos, _+ℤ_}
 use mir.ValLaws.{toZ-ofZ}
 use mir.Syntax.{w64}
 use Rattle.numbers.proofs.Naturals.{rd, pos-cast, pos-sfits}

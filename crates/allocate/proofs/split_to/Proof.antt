@@ -1,18 +1,17 @@
 use mathlib.Core.Path.{_≡_, refl, sym, _∙_, ap, ap₂}
-use mathlib.Core.List.{List, _++_}
-use Prim.Native.Nat.{ℕ, _+_, _-_, _*_, _/_, _≤_, _<_}
+use mathlib.Core.List.{_++_}
+use Prim.Native.Nat.{_+_, _-_, _*_, _/_, _≤_, _<_}
 use native.Mathlib.Omega.{arith}
 use lib.ListN.{length, take, drop, getD, set, length-set}
+use lib.Seq.{take-all}
 use lib.IntN.{pos}
 use borrow.Author.Needs.{needs}
+use Rattle.daybook.proofs.Splits.{split-length}
 use Rattle.daybook.specs.Queries.{total, split}
 use Rattle.allocate.specs.Allocate.{placed}
-use Rattle.allocate.proofs.Splits.{sum-step, sum-none, take-whole, next-small, part-small, part-up, product-small, nothing-yet, split-step, length-split}
+use Rattle.allocate.proofs.Splits.{sum-step, sum-none, next-small, part-small, part-up, product-small, nothing-yet, split-step}
 use Rattle.allocate.proofs.split_to.Statement.{statement}
 use Rattle.allocate.proofs.split_to.Tie as tie
-use Rattle.allocate.proofs.split_to.Reads as reads
-use Rattle.allocate.proofs.split_to.Lts as lts
-use Rattle.numbers.proofs.put.Reads as put-reads
 
 abbrev Inv-loop : tie.InvT-loop
 Inv-loop ws load s out₀ sum₀ low₀ k₀ out sum low k =
@@ -109,10 +108,10 @@ returns c =
     let s = c .before .before .before in
     let ws = s .args .ws .now in
     let e : c .before .loop .k ≡ 32 = omega arith in
-    let all : take 32 ws ≡ ws = take-whole ws 32 (s .pre .0) in
+    let all : take 32 ws ≡ ws = take-all 32 ws (omega (arith, s .pre .0)) in
     c .before .loop .inv .4
     ∙ ap (λ k. split (s .args .load) (s .args .s) 0 (take k ws) ++ drop k (s .args .out .now)) e
-    ∙ ap₂ (λ l n. split (s .args .load) (s .args .s) 0 l ++ drop n (s .args .out .now)) all (sym (length-split (s .args .load) (s .args .s) 0 ws ∙ s .pre .0))
+    ∙ ap₂ (λ l n. split (s .args .load) (s .args .s) 0 l ++ drop n (s .args .out .now)) all (sym (split-length (s .args .load) (s .args .s) 0 ws ∙ s .pre .0))
 
 pub split-to-spec : {M : Type 1} → statement M
 split-to-spec =

@@ -1,14 +1,13 @@
 use mathlib.Core.Path.{_≡_, sym, ap, _∙_}
-use Prim.Native.Nat.{ℕ, _+_, _-_, _*_, _≤_}
+use Prim.Native.Nat.{_+_, _-_, _*_, _≤_}
 use native.Mathlib.Omega.{arith}
 use lib.ListN.{getD, take}
+use lib.Seq.{take-all}
 use borrow.Author.Needs.{needs}
 use Rattle.daybook.specs.Queries.{total}
-use Rattle.allocate.proofs.Splits.{sum-step, sum-none, take-whole}
+use Rattle.allocate.proofs.Splits.{sum-step, sum-none}
 use Rattle.allocate.proofs.sum_of.Statement.{statement}
 use Rattle.allocate.proofs.sum_of.Tie as tie
-use Rattle.allocate.proofs.sum_of.Reads as reads
-use Rattle.allocate.proofs.sum_of.Lts as lts
 
 abbrev Inv-loop : tie.InvT-loop
 Inv-loop ws sum₀ k₀ sum k = (k ≤ 32) × (sum ≡ total (take k ws)) × (sum ≤ 60010000 * k)
@@ -57,7 +56,7 @@ returns : tie.Need-returns Inv-loop μ-loop
 returns c =
     let s = c .before in
     let e : s .loop .k ≡ 32 = omega arith in
-    (s .loop .inv .1 ∙ ap (λ k. total (take k (s .before .args .ws .now))) e ∙ ap total (take-whole (s .before .args .ws .now) 32 (s .before .pre .0)), omega arith)
+    (s .loop .inv .1 ∙ ap (λ k. total (take k (s .before .args .ws .now))) e ∙ ap total (take-all 32 (s .before .args .ws .now) (omega (arith, s .before .pre .0))), omega arith)
 
 pub sum-of-spec : {M : Type 1} → statement M
 sum-of-spec =

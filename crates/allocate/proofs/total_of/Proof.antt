@@ -1,19 +1,16 @@
 use mathlib.Core.Path.{_≡_, sym, _∙_, ap, ap₂}
 use mathlib.Core.Bool.{cond}
-use Prim.Native.Nat.{ℕ, _+_, _-_, _*_, _≤_, _<_}
+use Prim.Native.Nat.{_+_, _-_, _*_, _≤_}
 use native.Mathlib.Omega.{arith}
 use lib.Dec.{eqb}
 use lib.ListN.{getD}
 use borrow.Author.Needs.{needs}
+use Rattle.numbers.proofs.Bools.{cond-small}
 use Rattle.layout.specs.Layout.{numAt}
 use Rattle.allocate.specs.Parts.{totalTo}
-use Rattle.allocate.proofs.UserTotals.{total-none, total-step, own-small}
+use Rattle.allocate.proofs.UserTotals.{total-none, total-step}
 use Rattle.allocate.proofs.total_of.Statement.{statement}
 use Rattle.allocate.proofs.total_of.Tie as tie
-use Rattle.allocate.proofs.total_of.Reads as reads
-use Rattle.allocate.proofs.total_of.Lts as lts
-use Rattle.allocate.proofs.own.Reads as own-reads
-use Rattle.numbers.proofs.get.Reads as get-reads
 
 abbrev Inv-loop : tie.InvT-loop
 Inv-loop us xs u sum₀ k₀ sum k = (k ≤ 32) × (sum ≤ 3032000000 * k) × (sum ≡ totalTo us xs u k)
@@ -29,7 +26,7 @@ own-is c =
     let s = c .before .before .before .before .before .before in
     let k = c .before .before .before .before .loop .k in
     let is = c .own .ensures ∙ ap (λ x. cond (eqb (getD (s .args .us .now) k 0) (s .args .u)) x 0) (c .before .get .ensures .0) in
-    (is, rw is (own-small (eqb (getD (s .args .us .now) k 0) (s .args .u)) (numAt (s .args .xs .now) k) 3032000000 (s .pre .2 k (omega arith))))
+    (is, rw is (cond-small (eqb (getD (s .args .us .now) k 0) (s .args .u)) (numAt (s .args .xs .now) k) 0 3032000000 (s .pre .2 k (omega arith)) (omega arith)))
 
 -- src/lib.rt:121:5
 loop-holds : tie.Need-loop-holds Inv-loop μ-loop

@@ -1,11 +1,11 @@
-use Prim.Native.Nat.{ℕ, _+_, _-_, _*_, _≤_, _<_}
-use mathlib.Core.Path.{_≡_, refl, sym, _∙_, ap, ap₂}
-use mathlib.Core.List.{List, [], _∷_, _++_, map}
+use Prim.Native.Nat.{_-_, _≤_}
+use mathlib.Core.Path.{_≡_, refl, _∙_, ap}
+use mathlib.Core.List.{_++_, map}
 use native.Mathlib.Omega.{arith}
 use mir.ValLaws.{toZ-ofZ}
 use mir.Syntax.{w64}
 use borrow.Author.Needs.{sfits-of}
-use lib.ListN.{getD, take, drop, set, replicate}
+use lib.ListN.{take, drop, set, replicate}
 use lib.IntN.{pos}
 use Rattle.daybook.specs.Queries.{users}
 use Rattle.allocate.specs.Parts.{totalTo}
@@ -13,10 +13,6 @@ use Rattle.allocate.proofs.UserTotals.{row-step}
 use borrow.Author.Needs.{needs}
 use Rattle.allocate.proofs.totals.Statement.{statement}
 use Rattle.allocate.proofs.totals.Tie as tie
-use Rattle.allocate.proofs.totals.Reads as reads
-use Rattle.allocate.proofs.totals.Lts as lts
-use Rattle.numbers.proofs.integer.Reads as integer-reads
-use Rattle.allocate.proofs.total_of.Reads as total-of-reads
 
 abbrev Inv-loop : tie.InvT-loop
 Inv-loop us xs all₀ k₀ all k = (k ≤ 16) × (all ≡ map (λ u. pos (totalTo us xs u 32)) (take k users) ++ drop k (replicate 16 (pos 0)))

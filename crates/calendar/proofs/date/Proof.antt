@@ -1,9 +1,8 @@
-use mathlib.Core.Path.{_≡_, ap, _∙_}
-use mir.Syntax.{w64}
-use mir.ValLaws.{toZ-ofZ}
+use mathlib.Core.Path.{_≡_, _∙_}
 use borrow.Author.Needs.{sfits-of, needs}
 use borrow.Author.Tests.{not-true, not-false}
 use Rattle.numbers.specs.Naturals.{natOf}
+use Rattle.numbers.proofs.Naturals.{natural-read}
 use Rattle.calendar.proofs.Dates.{calendar-bound, date-off, date-late, date-day}
 use Rattle.calendar.proofs.date.Statement.{statement}
 use Rattle.calendar.proofs.date.Tie as tie
@@ -23,17 +22,17 @@ on-calendar-requires c κs = search needs
 year-is : (c : tie.After-natural) → c .natural .result ≡ natOf (c .before .before .before .before .args .d .year)
 year-is c =
     let s = c .before in
-    c .natural .ensures .0 ∙ ap natOf (toZ-ofZ w64 (s .before .before .before .args .d .year) (sfits-of (s .struct-told3 .given .0 .1)))
+    c .natural .ensures .0 ∙ natural-read (s .before .before .before .args .d .year) (sfits-of (s .struct-told3 .given .0 .1))
 
 month-is : (c : tie.After-natural2) → c .natural2 .result ≡ natOf (c .before .before .before .before .before .args .d .month)
 month-is c =
     let s = c .before .before in
-    c .natural2 .ensures .0 ∙ ap natOf (toZ-ofZ w64 (s .before .before .before .args .d .month) (sfits-of (s .struct-told3 .given .1 .0 .1)))
+    c .natural2 .ensures .0 ∙ natural-read (s .before .before .before .args .d .month) (sfits-of (s .struct-told3 .given .1 .0 .1))
 
 day-is : (c : tie.After-natural3) → c .natural3 .result ≡ natOf (c .before .before .before .before .before .before .args .d .day)
 day-is c =
     let s = c .before .before .before in
-    c .natural3 .ensures .0 ∙ ap natOf (toZ-ofZ w64 (s .before .before .before .args .d .day) (sfits-of (s .struct-told3 .given .1 .1 .0 .1)))
+    c .natural3 .ensures .0 ∙ natural-read (s .before .before .before .args .d .day) (sfits-of (s .struct-told3 .given .1 .1 .0 .1))
 
 returns : tie.Need-returns
 returns c =

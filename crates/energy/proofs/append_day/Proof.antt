@@ -1,6 +1,6 @@
 use Rattle.energy.proofs.Laying.{append-first, append-next}
 use Rattle.point.proofs.OffDays.{dayIf}
-use mathlib.Core.Path.{_≡_, sym, _∙_, ap, ap₂}
+use mathlib.Core.Path.{_∙_, ap}
 use borrow.Author.Needs.{needs}
 use Rattle.energy.proofs.append_day.Statement.{statement}
 use Rattle.energy.proofs.append_day.Tie as tie

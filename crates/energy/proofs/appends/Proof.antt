@@ -1,8 +1,8 @@
+use Rattle.layout.proofs.Cells.{place-recs}
 use Rattle.energy.proofs.Located.{appends-is}
-use Rattle.energy.proofs.Laying.{count-recs}
 use Rattle.layout.specs.Layout.{pointFrom}
 use lib.Dec.{eqb}
-use mathlib.Core.Path.{_≡_, sym, _∙_, ap, ap₂}
+use mathlib.Core.Path.{_∙_, ap₂}
 use borrow.Author.Needs.{needs}
 use Rattle.energy.proofs.appends.Statement.{statement}
 use Rattle.energy.proofs.appends.Tie as tie
@@ -17,7 +17,7 @@ returns : tie.Need-returns
 returns c =
     let ok = c .before .before .pre in
     let recs = pointFrom (c .before .before .args .p .now) .recs in
-    ap₂ eqb (c .before .row-of .ensures .0) (c .get .ensures .0 ∙ count-recs ok) ∙ appends-is recs (c .before .before .args .start)
+    ap₂ eqb (c .before .row-of .ensures .0) (c .get .ensures .0 ∙ place-recs (ok .well) (ok .is)) ∙ appends-is recs (c .before .before .args .start)
 
 pub appends-spec : {M : Type 1} → statement M
 appends-spec = tie.close (tie.spec row-of-requires get-requires returns)

@@ -1,15 +1,16 @@
+use Rattle.table.proofs.Calls.{gives}
 use Rattle.energy.proofs.Call.{energy-unsound, ranges-small, energy-range, energy-missing, lent-laid, energy-point}
 use Rattle.energy.proofs.Readings.{in-range-tells}
-use Rattle.energy.specs.Parts.{readingOf, inRange, energyPart}
+use Rattle.energy.specs.Parts.{inRange, energyPart}
 use Rattle.energy.specs.Energy.{energyCall}
-use Rattle.table.proofs.OnPart.{answered, answered-at}
+use Rattle.table.proofs.OnPart.{answered-at}
 use Rattle.table.proofs.Laws.{sound-long}
 use Rattle.layout.specs.Sound.{sound}
 use Rattle.layout.specs.Layout.{standard}
 use borrow.Author.Tests.{not-true, not-false}
 use native.Mathlib.Omega.{arith}
 use mathlib.Core.Bool.{true}
-use mathlib.Core.Path.{_≡_, refl, sym, _∙_}
+use mathlib.Core.Path.{_≡_, sym, _∙_}
 use borrow.Author.Needs.{needs}
 use Rattle.energy.proofs.energy.Statement.{statement}
 use Rattle.energy.proofs.energy.Tie as tie
@@ -34,7 +35,7 @@ returns : tie.Need-returns
 returns c =
     let s = c .before .before .before in
     let t = s .args .t .now in
-    answered (energyCall t (s .args .n)) _ t (energy-unsound t (s .args .n) (sym (c .before .sound .ensures) ∙ not-true _ (c .if1 .taken))) t refl
+    gives (energy-unsound t (s .args .n) (sym (c .before .sound .ensures) ∙ not-true _ (c .if1 .taken)))
 
 read-requires : tie.Need-read-requires
 read-requires c κs = search needs
@@ -50,8 +51,7 @@ returns-2 c =
     let r = c .before .before in
     let s = start (r .before) in
     let t = s .args .t .now in
-    answered (energyCall t (s .args .n)) _ t
-    (energy-range t (s .args .n) (sound-is (r .before)) _ (r .read .ensures) (sym (c .before .in-range .ensures) ∙ not-true _ (c .if2 .taken))) t refl
+    gives (energy-range t (s .args .n) (sound-is (r .before)) _ (r .read .ensures) (sym (c .before .in-range .ensures) ∙ not-true _ (c .if2 .taken)))
 
 index-of-requires : tie.Need-index-of-requires
 index-of-requires c κs =
@@ -67,8 +67,7 @@ returns-3 c =
     let r = l .before .before in
     let s = start (r .before) in
     let t = s .args .t .now in
-    answered (energyCall t (s .args .n)) _ t
-    (energy-missing t (s .args .n) (sound-is (r .before)) _ (r .read .ensures) (in-range-here l) _ (c .before .index-of .ensures .0) (c .if3 .taken)) t refl
+    gives (energy-missing t (s .args .n) (sound-is (r .before)) _ (r .read .ensures) (in-range-here l) _ (c .before .index-of .ensures .0) (c .if3 .taken))
 
 get-energy-requires : tie.Need-get-energy-requires
 get-energy-requires c κs =

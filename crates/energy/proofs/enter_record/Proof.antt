@@ -1,6 +1,5 @@
-use Rattle.energy.proofs.Entering.{free-row, appended, found-few, put-in, recut-in}
+use Rattle.energy.proofs.Entering.{free-row, appended, put-in, recut-in}
 use native.Mathlib.Omega.{arith}
-use mathlib.Core.Path.{sym, _∙_}
 use borrow.Author.Needs.{needs}
 use Rattle.energy.proofs.enter_record.Statement.{statement}
 use Rattle.energy.proofs.enter_record.Tie as tie

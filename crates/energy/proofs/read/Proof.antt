@@ -1,8 +1,6 @@
+use Rattle.numbers.proofs.Naturals.{natural-read, bias-read}
 use Rattle.energy.proofs.Readings.{reading-same}
-use mathlib.Core.Path.{_∙_, ap}
-use mir.Syntax.{w64}
-use mir.ValLaws.{toZ-ofZ}
-use Rattle.numbers.specs.Naturals.{natOf, biasOf}
+use mathlib.Core.Path.{_∙_}
 use borrow.Author.Needs.{needs, sfits-of}
 use Rattle.energy.proofs.read.Statement.{statement}
 use Rattle.energy.proofs.read.Tie as tie
@@ -32,12 +30,12 @@ returns c =
     let n = s .before .before .before .before .before .before .args .n in
     let fits = s .struct-told6 .given in
     reading-same n
-    (d .before .before .natural .ensures .0 ∙ ap natOf (toZ-ofZ w64 (n .mirn) (sfits-of (fits .0 .1))))
-    (d .before .natural2 .ensures .0 ∙ ap natOf (toZ-ofZ w64 (n .start) (sfits-of (fits .1 .0 .1))))
-    (d .natural3 .ensures .0 ∙ ap natOf (toZ-ofZ w64 (n .end) (sfits-of (fits .1 .1 .0 .1))))
-    (c .before .before .bias .ensures ∙ ap biasOf (toZ-ofZ w64 (n .energy) (sfits-of (fits .1 .1 .1 .0 .1))))
-    (c .before .natural4 .ensures .0 ∙ ap natOf (toZ-ofZ w64 (n .quality) (sfits-of (fits .1 .1 .1 .1 .0 .1))))
-    (c .natural5 .ensures .0 ∙ ap natOf (toZ-ofZ w64 (n .confirmed) (sfits-of (fits .1 .1 .1 .1 .1 .0 .1))))
+    (d .before .before .natural .ensures .0 ∙ natural-read (n .mirn) (sfits-of (fits .0 .1)))
+    (d .before .natural2 .ensures .0 ∙ natural-read (n .start) (sfits-of (fits .1 .0 .1)))
+    (d .natural3 .ensures .0 ∙ natural-read (n .end) (sfits-of (fits .1 .1 .0 .1)))
+    (c .before .before .bias .ensures ∙ bias-read (n .energy) (sfits-of (fits .1 .1 .1 .0 .1)))
+    (c .before .natural4 .ensures .0 ∙ natural-read (n .quality) (sfits-of (fits .1 .1 .1 .1 .0 .1)))
+    (c .natural5 .ensures .0 ∙ natural-read (n .confirmed) (sfits-of (fits .1 .1 .1 .1 .1 .0 .1)))
 
 pub read-spec : {M : Type 1} → statement M
 read-spec =

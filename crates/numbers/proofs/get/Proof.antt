@@ -1,10 +1,8 @@
 use lib.ListN.{getD}
 use lib.IntN.{pos}
-use mathlib.Core.Path.{_∙_, ap}
-use mir.ValLaws.{toZ-ofZ}
-use mir.Syntax.{w64}
+use mathlib.Core.Path.{_∙_}
 use borrow.Author.Needs.{needs, sfits-of}
-use Rattle.numbers.specs.Naturals.{natOf}
+use Rattle.numbers.proofs.Naturals.{natural-read}
 use Rattle.numbers.proofs.get.Statement.{statement}
 use Rattle.numbers.proofs.get.Tie as tie
 
@@ -20,7 +18,7 @@ natural-requires c κs = search needs
 returns : tie.Need-returns
 returns c =
     let s = c .before .before in
-    (c .natural .ensures .0 ∙ ap natOf (toZ-ofZ w64 (getD (s .args .t .now) (s .args .i) (pos 0)) (sfits-of (c .before .natural-arg .given))), c .natural .ensures .1)
+    (c .natural .ensures .0 ∙ natural-read (getD (s .args .t .now) (s .args .i) (pos 0)) (sfits-of (c .before .natural-arg .given)), c .natural .ensures .1)
 
 pub get-spec : {M : Type 1} → statement M
 get-spec =

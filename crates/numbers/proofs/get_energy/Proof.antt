@@ -1,10 +1,8 @@
 use lib.ListN.{getD}
 use lib.IntN.{pos}
-use mathlib.Core.Path.{_∙_, ap}
-use mir.ValLaws.{toZ-ofZ}
-use mir.Syntax.{w64}
+use mathlib.Core.Path.{_∙_}
 use borrow.Author.Needs.{needs, sfits-of}
-use Rattle.numbers.specs.Naturals.{biasOf}
+use Rattle.numbers.proofs.Naturals.{bias-read}
 use Rattle.numbers.proofs.get_energy.Statement.{statement}
 use Rattle.numbers.proofs.get_energy.Tie as tie
 
@@ -20,7 +18,7 @@ bias-requires c κs = search needs
 returns : tie.Need-returns
 returns c =
     let s = c .before .before in
-    c .bias .ensures ∙ ap biasOf (toZ-ofZ w64 (getD (s .args .t .now) (s .args .i) (pos 0)) (sfits-of (c .before .bias-arg .given)))
+    c .bias .ensures ∙ bias-read (getD (s .args .t .now) (s .args .i) (pos 0)) (sfits-of (c .before .bias-arg .given))
 
 pub get-energy-spec : {M : Type 1} → statement M
 get-energy-spec = tie.close (tie.spec mul-bias shared-slice-copy-out-bias bias-requires returns)

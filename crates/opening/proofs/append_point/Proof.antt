@@ -2,8 +2,9 @@ use mathlib.Core.Path.{_≡_, _∙_}
 use native.Mathlib.Omega.{arith}
 use borrow.Author.Needs.{needs, sfits-of}
 use Rattle.numbers.specs.Naturals.{natOf}
+use Rattle.numbers.proofs.Naturals.{natural-read}
 use Rattle.table.proofs.Laws.{part-long}
-use Rattle.opening.proofs.CallNumbers.{natural-read, append-is}
+use Rattle.opening.proofs.CallNumbers.{append-is}
 use Rattle.opening.proofs.append_point.Statement.{statement}
 use Rattle.opening.proofs.append_point.Tie as tie
 

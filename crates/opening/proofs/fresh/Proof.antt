@@ -6,12 +6,13 @@ use borrow.Author.Needs.{needs, sfits-of}
 use borrow.Author.Tests.{not-true, not-false}
 use lib.ListN.{set}
 use Rattle.numbers.specs.Naturals.{biasOf}
+use Rattle.numbers.proofs.Naturals.{bias-read}
 use Rattle.numbers.proofs.Bools.{both}
 use Rattle.daybook.specs.Notices.{isRange}
 use Rattle.layout.specs.Writes.{cleared}
 use Rattle.table.proofs.Laws.{range-is}
 use Rattle.table.proofs.Calls.{gives}
-use Rattle.opening.proofs.CallNumbers.{bias-read, bias-back, raised-small}
+use Rattle.opening.proofs.CallNumbers.{bias-back, raised-small}
 use Rattle.opening.proofs.FreshCall.{fresh-short, fresh-out, fresh-entered}
 use Rattle.opening.proofs.fresh.Statement.{statement}
 use Rattle.opening.proofs.fresh.Tie as tie

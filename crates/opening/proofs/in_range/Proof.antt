@@ -1,6 +1,7 @@
 use mathlib.Core.Path.{_∙_}
 use borrow.Author.Needs.{needs, sfits-of}
-use Rattle.opening.proofs.CallNumbers.{natural-read, bias-read, in-range-is}
+use Rattle.numbers.proofs.Naturals.{natural-read, bias-read}
+use Rattle.opening.proofs.CallNumbers.{in-range-is}
 use Rattle.opening.proofs.in_range.Statement.{statement}
 use Rattle.opening.proofs.in_range.Tie as tie
 

@@ -5,6 +5,7 @@ use borrow.Author.Needs.{needs, sfits-of}
 use borrow.Author.Tests.{not-true, not-false}
 use Rattle.numbers.specs.Naturals.{natOf}
 use Rattle.numbers.specs.Search.{maybe}
+use Rattle.numbers.proofs.Naturals.{natural-read}
 use Rattle.daybook.specs.Notices.{factsOf}
 use Rattle.daybook.proofs.OpenStep.{facts-ok}
 use Rattle.layout.specs.Layout.{standard}
@@ -13,7 +14,6 @@ use Rattle.layout.specs.Writes.{appendPoint}
 use Rattle.table.specs.Lookup.{indexOf}
 use Rattle.table.proofs.Laws.{sound-long}
 use Rattle.table.proofs.Calls.{gives}
-use Rattle.opening.proofs.CallNumbers.{natural-read}
 use Rattle.opening.proofs.OpenCall.{ranged, open-unsound, open-out, open-known, open-full, open-entered, clear}
 use Rattle.opening.proofs.open.Statement.{statement}
 use Rattle.opening.proofs.open.Tie as tie

@@ -1,4 +1,3 @@
-use Prim.Native.Nat.{_-_}
 use Rattle.readings.proofs.Shares.{one-share}
 use borrow.Author.Needs.{needs}
 use Rattle.readings.proofs.share_on.Statement.{statement}

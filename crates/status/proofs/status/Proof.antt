@@ -1,47 +1,77 @@
 use mathlib.Core.Path.{_≡_, sym, ap, _∙_}
 use mathlib.Core.Bool.{true}
-use Prim.Native.Nat.{_≤_}
+use mathlib.Core.List.{[], _∷_}
 use native.Mathlib.Omega.{arith}
-use mir.Syntax.{w64}
-use mir.ValLaws.{toZ-ofZ}
-use lib.ListN.{length}
+use lib.IntN.{pos}
 use borrow.Author.Needs.{sfits-of, needs}
 use borrow.Author.Tests.{not-true, not-false}
 use Rattle.numbers.specs.Naturals.{natOf}
 use Rattle.numbers.specs.Search.{maybe}
-use Rattle.layout.specs.Layout.{standard}
-use Rattle.layout.specs.Sound.{partSound, sound}
+use Rattle.numbers.proofs.Naturals.{natural-read}
+use Rattle.layout.specs.Layout.{standard, partOf, withPart}
+use Rattle.layout.specs.Sound.{sound}
 use Rattle.table.specs.Lookup.{indexOf}
-use Rattle.table.proofs.Laws.{part-is, sound-long}
-use Rattle.status.proofs.Call.{inRange, range-bounds, lent-sound, unsound-ends, range-ends, missing-ends, entered-ends, refused-ends}
+use Rattle.table.proofs.Laws.{lent, sound-long}
+use Rattle.table.proofs.Calls.{gives}
+use Rattle.table.proofs.OnPart.{lent-sound, answered-at}
+use Rattle.status.specs.Status.{statusCall}
+use Rattle.status.proofs.Call.{inRange, range-bounds, statusPart, part-done, status-unsound, status-range, status-missing, status-point}
 use Rattle.status.proofs.status.Statement.{statement}
 use Rattle.status.proofs.status.Tie as tie
 
--- the facts of the tests that were passed
-sound-is : (c : tie.Else1) → sound standard (c .before .before .before .args .t .now) ≡ true
+-- ---- the places on the way, each with the entry
+
+abbrev sounds : tie.Else1 → tie.Start
+sounds c = c .before .before .before
+
+abbrev ranges : tie.Else2 → tie.Start
+ranges c = sounds (c .before .before)
+
+abbrev tests : tie.After-index-of → tie.Else2
+tests c = c .before .before .before .before .before .before
+
+abbrev finds : tie.After-natural2 → tie.After-index-of
+finds c = c .before .before .before
+
+-- ---- what has passed there, and the numbers that were read
+
+sound-is : (c : tie.Else1) → sound standard (sounds c .args .t .now) ≡ true
 sound-is c = sym (c .before .sound .ensures) ∙ not-false _ (c .if1 .left)
 
-range-is : (c : tie.Else2) → inRange (c .before .before .before .before .before .args .n) ≡ true
+range-is : (c : tie.Else2) → inRange (ranges c .args .n) ≡ true
 range-is c = sym (c .before .in-range .ensures) ∙ not-false _ (c .if2 .left)
 
--- the naturals that were read
-mirn-is : (c : tie.After-natural) → c .natural .result ≡ natOf (c .before .before .before .before .before .before .before .before .before .before .args .n .mirn)
-mirn-is c =
-    let s = c .before .before in
-    c .natural .ensures .0 ∙ ap natOf (toZ-ofZ w64 (s .before .before .before .before .before .before .before .before .args .n .mirn) (sfits-of (s .struct-told3 .given .0 .1)))
+index-is : (c : tie.After-index-of)
+    → c .index-of .result ≡ maybe 32 (λ k. k) (indexOf standard (ranges (tests c) .args .t .now) (natOf (ranges (tests c) .args .n .mirn)))
+index-is c =
+    let s = ranges (tests c) in
+    let m = c .before in
+    c .index-of .ensures .0
+    ∙ ap (λ k. maybe 32 (λ k. k) (indexOf standard (s .args .t .now) k))
+    (m .natural .ensures .0 ∙ natural-read (s .args .n .mirn) (sfits-of (m .before .before .struct-told3 .given .0 .1)))
 
-index-is : (c : tie.After-index-of) → c .index-of .result ≡ maybe 32 (λ k. k) (indexOf standard (c .before .before .before .before .before .before .before .before .before .before .before .args .t .now) (natOf (c .before .before .before .before .before .before .before .before .before .before .before .args .n .mirn)))
-index-is c = c .index-of .ensures .0 ∙ ap (λ m. maybe 32 (λ k. k) (indexOf standard (c .before .before .before .before .before .before .before .before .before .before .before .args .t .now) m)) (mirn-is (c .before))
-
-day-is : (c : tie.After-natural2) → c .natural2 .result ≡ natOf (c .before .before .before .before .before .before .before .before .before .before .before .before .before .before .args .n .day)
+day-is : (c : tie.After-natural2) → c .natural2 .result ≡ natOf (ranges (tests (finds c)) .args .n .day)
 day-is c =
-    let s = c .before .before .before .before .before .before in
-    c .natural2 .ensures .0 ∙ ap natOf (toZ-ofZ w64 (s .before .before .before .before .before .before .before .before .args .n .day) (sfits-of (s .struct-told3 .given .1 .0 .1)))
+    c .natural2 .ensures .0 ∙ natural-read (ranges (tests (finds c)) .args .n .day) (sfits-of (finds c .before .before .before .struct-told3 .given .1 .0 .1))
 
-on-is : (c : tie.After-natural3) → c .natural3 .result ≡ natOf (c .before .before .before .before .before .before .before .before .before .before .before .before .before .before .before .args .n .on)
+on-is : (c : tie.After-natural3) → c .natural3 .result ≡ natOf (ranges (tests (finds (c .before))) .args .n .on)
 on-is c =
-    let s = c .before .before .before .before .before .before .before in
-    c .natural3 .ensures .0 ∙ ap natOf (toZ-ofZ w64 (s .before .before .before .before .before .before .before .before .args .n .on) (sfits-of (s .struct-told3 .given .1 .1 .0 .1)))
+    c .natural3 .ensures .0 ∙ natural-read (ranges (tests (finds (c .before))) .args .n .on) (sfits-of (finds (c .before) .before .before .before .struct-told3 .given .1 .1 .0 .1))
+
+-- the call, by what it does to the part that is lent
+point-is : (c : tie.After-natural3)
+    → let i = finds (c .before) in
+    let s = ranges (tests i) in
+    let f = statusPart (c .before .natural2 .result) (c .natural3 .result) in
+    let p = partOf standard (s .args .t .now) (i .index-of .result) in
+    statusCall (s .args .t .now) (s .args .n) ≡ (f p .0, withPart standard (s .args .t .now) (i .index-of .result) (f p .1))
+point-is c =
+    let i = finds (c .before) in
+    let r = tests i in
+    let s = ranges r in
+    status-point (s .args .t .now) (s .args .n) (sound-is (r .before .before)) (range-is r) _ (index-is i) _ _ (day-is (c .before)) (on-is c) (c .before .before .before .if3 .left)
+
+-- ---- the needs
 
 sound-requires : tie.Need-sound-requires
 sound-requires c κs = search needs
@@ -50,7 +80,9 @@ same-length : tie.Need-same-length
 same-length c = search needs
 
 returns : tie.Need-returns
-returns c = unsound-ends _ _ (sym (c .before .sound .ensures) ∙ not-true _ (c .if1 .taken))
+returns c =
+    let s = c .before .before .before in
+    gives (status-unsound (s .args .t .now) (s .args .n) (sym (c .before .sound .ensures) ∙ not-true _ (c .if1 .taken)))
 
 in-range-requires : tie.Need-in-range-requires
 in-range-requires c κs = search needs
@@ -59,19 +91,27 @@ same-length-2 : tie.Need-same-length-2
 same-length-2 c = search needs
 
 returns-2 : tie.Need-returns-2
-returns-2 c = range-ends _ _ (sound-is (c .before .before)) (sym (c .before .in-range .ensures) ∙ not-true _ (c .if2 .taken))
+returns-2 c =
+    let e = c .before .before in
+    let s = sounds e in
+    gives (status-range (s .args .t .now) (s .args .n) (sound-is e) (sym (c .before .in-range .ensures) ∙ not-true _ (c .if2 .taken)))
 
 natural-requires : tie.Need-natural-requires
 natural-requires c κs = search needs
 
 index-of-requires : tie.Need-index-of-requires
-index-of-requires c κs = sound-long _ (sound-is (c .before .before .before .before .before .before .before))
+index-of-requires c κs =
+    let e = c .before .before .before .before .before .before .before in
+    sound-long (sounds e .args .t .now) (sound-is e)
 
 same-length-3 : tie.Need-same-length-3
 same-length-3 c = search needs
 
 returns-3 : tie.Need-returns-3
-returns-3 c = missing-ends _ _ (sound-is (c .before .before .before .before .before .before .before .before .before)) (range-is (c .before .before .before .before .before .before .before)) _ (index-is (c .before)) (c .if3 .taken)
+returns-3 c =
+    let r = tests (c .before) in
+    let s = ranges r in
+    gives (status-missing (s .args .t .now) (s .args .n) (sound-is (r .before .before)) (range-is r) _ (index-is (c .before)) (c .if3 .taken))
 
 mul-a : tie.Need-mul-a
 mul-a c = search needs
@@ -93,7 +133,8 @@ part-enter-start c = search needs
 
 part-enter-end : tie.Need-part-enter-end
 part-enter-end c =
-    let l = sound-long _ (sound-is (c .before .before .before .before .before .before .before .before .before)) in
+    let e = tests (c .before) .before .before in
+    let l = sound-long (sounds e .args .t .now) (sound-is e) in
     search needs
 
 natural-requires-2 : tie.Need-natural-requires-2
@@ -104,13 +145,12 @@ natural-requires-3 c κs = search needs
 
 enter-requires : tie.Need-enter-requires
 enter-requires c κs =
-    let s = c .before .before .before .before .before .before .before .before .before .before .before .before .before .before .before in
-    let i = index-is (c .before .before .before .before) in
-    let p = lent-sound (s .args .t .now) (sound-is (c .before .before .before .before .before .before .before .before .before .before .before .before)) _ _ i (c .before .before .before .if3 .left) in
-    let b = range-bounds (s .args .n) (range-is (c .before .before .before .before .before .before .before .before .before .before)) in
-    let d : c .before .natural2 .result ≤ 39999 = omega (arith, day-is (c .before), b .0) in
-    let o : c .natural3 .result ≤ 1 = omega (arith, on-is c, b .1) in
-    (ap partSound (part-is (s .args .t .now) _) ∙ p .0, ap length (part-is (s .args .t .now) _) ∙ p .1, d, o)
+    let i = finds (c .before) in
+    let r = tests i in
+    let s = ranges r in
+    let l = lent-sound (s .args .t .now) (sound-is (r .before .before)) (natOf (s .args .n .mirn)) _ (index-is i) (c .before .before .before .if3 .left) in
+    let b = range-bounds (s .args .n) (range-is r) in
+    (l .0, l .1, omega (arith, day-is (c .before), b .0), omega (arith, on-is c, b .1))
 
 same-length-4 : tie.Need-same-length-4
 same-length-4 c = search needs
@@ -118,8 +158,14 @@ same-length-4 c = search needs
 returns-4 : tie.Need-returns-4
 returns-4 c =
     let e = c .before .before in
-    entered-ends _ _ (sound-is (e .before .before .before .before .before .before .before .before .before .before .before .before .before)) (range-is (e .before .before .before .before .before .before .before .before .before .before .before)) _ (index-is (e .before .before .before .before .before)) (e .before .before .before .before .if3 .left) _ _ _ _ (day-is (e .before .before)) (on-is (e .before))
-    (e .enter .ensures .0) (e .enter .ensures .1) (c .if4 .taken)
+    let u = e .before in
+    let i = finds (u .before) in
+    let s = ranges (tests i) in
+    let d = u .before .natural2 .result in
+    let o = u .natural3 .result in
+    let w = answered-at (s .args .t .now) (i .index-of .result) (statusCall (s .args .t .now) (s .args .n)) (statusPart d o) (point-is u) _ _
+    (part-done d o (lent (s .args .t .now) (i .index-of .result)) (e .enter .result) (e .enter .ensures .0) (e .enter .ensures .1)) in
+    (ap (λ r. pos r ∷ []) (sym (c .if4 .taken)) ∙ w .0, w .1)
 
 same-length-5 : tie.Need-same-length-5
 same-length-5 c = search needs
@@ -127,8 +173,13 @@ same-length-5 c = search needs
 returns-5 : tie.Need-returns-5
 returns-5 c =
     let e = c .before .before in
-    refused-ends _ _ (sound-is (e .before .before .before .before .before .before .before .before .before .before .before .before .before)) (range-is (e .before .before .before .before .before .before .before .before .before .before .before)) _ (index-is (e .before .before .before .before .before)) (e .before .before .before .before .if3 .left) _ _ _ _ (day-is (e .before .before)) (on-is (e .before))
-    (e .enter .ensures .0) (e .enter .ensures .1) (c .if4 .left)
+    let u = e .before in
+    let i = finds (u .before) in
+    let s = ranges (tests i) in
+    let d = u .before .natural2 .result in
+    let o = u .natural3 .result in
+    answered-at (s .args .t .now) (i .index-of .result) (statusCall (s .args .t .now) (s .args .n)) (statusPart d o) (point-is u) _ _
+    (part-done d o (lent (s .args .t .now) (i .index-of .result)) (e .enter .result) (e .enter .ensures .0) (e .enter .ensures .1))
 
 pub status-spec : {M : Type 1} → statement M
 status-spec =

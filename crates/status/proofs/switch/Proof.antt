@@ -1,8 +1,9 @@
 use mathlib.Core.Path.{_∙_}
 use native.Mathlib.Omega.{arith}
 use Rattle.layout.specs.Layout.{pointFrom}
+use Rattle.layout.proofs.Cells.{place-offs}
 use Rattle.layout.proofs.PartLays.{part-lays}
-use Rattle.status.proofs.Part.{spans-count, spans-few, open-is, close-is, room-to-open, span-to-close}
+use Rattle.status.proofs.Part.{spans-few, open-is, close-is, room-to-open, span-to-close}
 use borrow.Author.Needs.{needs}
 use Rattle.status.proofs.switch.Statement.{statement}
 use Rattle.status.proofs.switch.Tie as tie
@@ -14,7 +15,7 @@ open-span-requires : tie.Need-open-span-requires
 open-span-requires c κs =
     let s = c .before .before .before .before in
     let l = part-lays (s .args .p .now) 48 (s .pre .1) (s .pre .0) in
-    let e = spans-count (l .0) (l .1) in
+    let e = place-offs (l .0) (l .1) in
     let h = room-to-open _ _ (pointFrom (s .args .p .now)) (s .pre .4) (c .before .if1 .taken) in
     search needs
 
@@ -22,7 +23,7 @@ sub-close-span : tie.Need-sub-close-span
 sub-close-span c =
     let s = c .before .before .before .before in
     let l = part-lays (s .args .p .now) 48 (s .pre .1) (s .pre .0) in
-    let e = spans-count (l .0) (l .1) in
+    let e = place-offs (l .0) (l .1) in
     let h = span-to-close _ _ (pointFrom (s .args .p .now)) (s .pre .4) (omega arith) in
     search needs
 
@@ -41,7 +42,7 @@ returns c =
     let s = c .before .before .before .before .before .before in
     let l = part-lays (s .args .p .now) 48 (s .pre .1) (s .pre .0) in
     let g = c .before .before .before .before .get .ensures .0 in
-    let e = spans-count (l .0) (l .1) in
+    let e = place-offs (l .0) (l .1) in
     let h = room-to-open _ _ (pointFrom (s .args .p .now)) (s .pre .4) (c .before .before .before .if1 .taken) in
     c .before .open-span .ensures ∙ open-is (l .0) (l .1) (s .args .day) _ (s .args .on) g (omega arith) (c .before .before .before .if1 .taken)
 
@@ -53,7 +54,7 @@ returns-2 c =
     let s = c .before .before .before .before .before .before in
     let l = part-lays (s .args .p .now) 48 (s .pre .1) (s .pre .0) in
     let g = c .before .before .before .before .get .ensures .0 in
-    let e = spans-count (l .0) (l .1) in
+    let e = place-offs (l .0) (l .1) in
     let h = span-to-close _ _ (pointFrom (s .args .p .now)) (s .pre .4) (omega arith) in
     c .before .close-span .ensures ∙ close-is (l .0) (l .1) (s .args .day) _ (s .args .on) g (omega arith) (omega arith)
 

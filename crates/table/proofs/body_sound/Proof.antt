@@ -2,12 +2,6 @@ use borrow.Author.Needs.{needs}
 use Rattle.table.proofs.Laws.{body-is}
 use Rattle.table.proofs.body_sound.Statement.{statement}
 use Rattle.table.proofs.body_sound.Tie as tie
-use Rattle.table.proofs.body_sound.Reads as reads
-use Rattle.table.proofs.body_sound.Lts as lts
-use Rattle.point.proofs.zeros_in.Reads as zeros-in-reads
-use Rattle.table.proofs.mirns_differ.Reads as mirns-differ-reads
-use Rattle.table.proofs.parts_sound.Reads as parts-sound-reads
-use Rattle.table.proofs.range_ok.Reads as range-ok-reads
 
 -- src/lib.rt:97:19
 mul-end : tie.Need-mul-end

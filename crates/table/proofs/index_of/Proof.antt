@@ -1,6 +1,5 @@
 use Prim.Native.Nat.{_≤_, _-_}
 use mathlib.Core.Path.{_≡_, sym, _∙_}
-use native.Mathlib.Omega.{arith}
 use borrow.Author.Needs.{needs}
 use Rattle.numbers.specs.Search.{firstFrom}
 use Rattle.layout.specs.Layout.{standard, numAt}
@@ -8,9 +7,6 @@ use Rattle.table.specs.Lookup.{indexOf}
 use Rattle.table.proofs.Laws.{mirnAt, index-start, index-hit, index-miss, index-end}
 use Rattle.table.proofs.index_of.Statement.{statement}
 use Rattle.table.proofs.index_of.Tie as tie
-use Rattle.table.proofs.index_of.Reads as reads
-use Rattle.table.proofs.index_of.Lts as lts
-use Rattle.numbers.proofs.get.Reads as get-reads
 
 abbrev Inv-loop : tie.InvT-loop
 Inv-loop t mirn n i₀ i = (i ≤ n) × (n ≡ numAt t 0) × (n ≤ 32) × (firstFrom (mirnAt t mirn) i (n - i) ≡ indexOf standard t mirn)

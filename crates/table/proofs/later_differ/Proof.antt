@@ -1,7 +1,6 @@
 use Prim.Native.Nat.{suc, _≤_, _-_}
 use mathlib.Core.Path.{_≡_, sym, _∙_}
 use mathlib.Core.Bool.{true}
-use native.Mathlib.Omega.{arith}
 use borrow.Author.Needs.{needs}
 use Rattle.numbers.specs.Rows.{all}
 use Rattle.numbers.proofs.Rows.{all-none}
@@ -9,9 +8,6 @@ use Rattle.layout.specs.Layout.{standard, placeOf, numAt}
 use Rattle.table.proofs.Laws.{differAt, later-fails, later-more, later-done}
 use Rattle.table.proofs.later_differ.Statement.{statement}
 use Rattle.table.proofs.later_differ.Tie as tie
-use Rattle.table.proofs.later_differ.Reads as reads
-use Rattle.table.proofs.later_differ.Lts as lts
-use Rattle.numbers.proofs.get.Reads as get-reads
 
 abbrev Inv-loop : tie.InvT-loop
 Inv-loop t i n mirn m j₀ j = (j ≤ m) × (m ≡ n - suc i) × (mirn ≡ numAt t (placeOf standard i)) × (all (differAt t i) j ≡ true)

@@ -1,22 +1,27 @@
-use mathlib.Core.Path.{_∙_, sym, ap}
+use mathlib.Core.Path.{_∙_, sym, ap, _≡_}
+use mathlib.Core.Bool.{true}
 use native.Mathlib.Omega.{arith}
-use mir.ValLaws.{toZ-ofZ}
-use mir.Syntax.{w64}
 use borrow.Author.Needs.{needs}
 use borrow.Author.Tests.{not-true, not-false}
+use Rattle.numbers.proofs.Naturals.{natural-read}
 use Rattle.numbers.specs.Naturals.{natOf}
 use Rattle.numbers.specs.Search.{maybe}
 use Rattle.layout.specs.Layout.{standard}
+use Rattle.layout.specs.Sound.{sound}
 use Rattle.table.specs.Lookup.{indexOf}
 use Rattle.table.proofs.Laws.{sound-long, look-unsound, look-missing, look-found}
 use Rattle.table.proofs.look_up.Statement.{statement}
 use Rattle.table.proofs.look_up.Tie as tie
-use Rattle.table.proofs.look_up.Reads as reads
-use Rattle.table.proofs.look_up.Lts as lts
-use Rattle.numbers.proofs.natural.Reads as natural-reads
-use Rattle.table.proofs.index_of.Reads as index-of-reads
-use Rattle.table.proofs.part.Reads as part-reads
-use Rattle.table.proofs.sound.Reads as sound-reads
+
+sound-is : (c : tie.Else1) → sound standard (c .before .before .args .t .now) ≡ true
+sound-is c = sym (c .before .sound .ensures) ∙ not-false _ (c .if1 .left)
+
+index-is : (c : tie.After-index-of)
+    → c .index-of .result ≡ maybe 32 (λ k. k) (indexOf standard (c .before .before .before .before .args .t .now) (natOf (c .before .before .before .before .args .mirn)))
+index-is c =
+    let s = c .before .before .before .before in
+    c .index-of .ensures .0
+    ∙ ap (λ m. maybe 32 (λ k. k) (indexOf standard (s .args .t .now) m)) (c .before .natural .ensures .0 ∙ natural-read (s .args .mirn) (s .fits .mirn))
 
 -- src/lib.rt:141:9
 sound-requires : tie.Need-sound-requires
@@ -47,8 +52,7 @@ natural-requires c κs = search needs
 -- src/lib.rt:145:9
 index-of-requires : tie.Need-index-of-requires
 index-of-requires c κs =
-    let s = c .before .before .before in
-    sound-long (s .args .t .now) (sym (c .before .before .sound .ensures) ∙ not-false _ (c .before .if1 .left))
+    sound-long (c .before .before .before .args .t .now) (sound-is (c .before))
 
 -- src/lib.rt:147:16
 sub-result-2 : tie.Need-sub-result-2
@@ -65,24 +69,22 @@ part-result-end-2 c = search needs
 -- src/lib.rt:147:9
 returns-2 : tie.Need-returns-2
 returns-2 c =
-    let s = c .before .before .before .before .before .before in
-    look-missing (s .args .t .now) (s .args .mirn) (sym (c .before .before .before .before .before .sound .ensures) ∙ not-false _ (c .before .before .before .before .if1 .left))
-    (sym (c .before .if2 .taken) ∙ c .before .before .index-of .ensures .0 ∙ ap (λ m. maybe 32 (λ k. k) (indexOf standard (s .args .t .now) m)) (c .before .before .before .natural .ensures .0 ∙ ap natOf (toZ-ofZ w64 (s .args .mirn) (s .fits .mirn))))
+    let i = c .before .before in
+    let s = i .before .before .before .before in
+    look-missing (s .args .t .now) (s .args .mirn) (sound-is (i .before .before)) _ (index-is i) (c .before .if2 .taken)
 
 -- src/lib.rt:149:5
 part-requires : tie.Need-part-requires
 part-requires c κs =
-    let s = c .before .before .before .before .before in
-    omega (arith, c .before .index-of .ensures .1, c .if2 .left, sound-long (s .args .t .now) (sym (c .before .before .before .before .sound .ensures) ∙ not-false _ (c .before .before .before .if1 .left)))
+    let i = c .before in
+    omega (arith, i .index-of .ensures .1, c .if2 .left, sound-long (i .before .before .before .before .args .t .now) (sound-is (i .before .before)))
 
 -- src/lib.rt:138:1
 returns-3 : tie.Need-returns-3
 returns-3 c =
-    let s = c .before .before .before .before .before .before in
-    c .part .ensures .0
-    ∙ look-found (s .args .t .now) (s .args .mirn) _ (sym (c .before .before .before .before .before .sound .ensures) ∙ not-false _ (c .before .before .before .before .if1 .left))
-    (c .before .before .index-of .ensures .0 ∙ ap (λ m. maybe 32 (λ k. k) (indexOf standard (s .args .t .now) m)) (c .before .before .before .natural .ensures .0 ∙ ap natOf (toZ-ofZ w64 (s .args .mirn) (s .fits .mirn))))
-    (c .before .if2 .left)
+    let i = c .before .before in
+    let s = i .before .before .before .before in
+    c .part .ensures .0 ∙ look-found (s .args .t .now) (s .args .mirn) (sound-is (i .before .before)) _ (index-is i) (c .before .if2 .left)
 
 pub look-up-spec : {M : Type 1} → statement M
 look-up-spec =

@@ -1,7 +1,6 @@
 use Prim.Native.Nat.{_≤_, _-_}
 use mathlib.Core.Path.{_≡_, sym, _∙_}
 use mathlib.Core.Bool.{true}
-use native.Mathlib.Omega.{arith}
 use borrow.Author.Needs.{needs}
 use borrow.Author.Tests.{not-true, not-false}
 use Rattle.numbers.specs.Rows.{all}
@@ -10,9 +9,6 @@ use Rattle.layout.specs.Layout.{standard}
 use Rattle.layout.proofs.Mirns.{laterDiffer, differ-is}
 use Rattle.table.proofs.mirns_differ.Statement.{statement}
 use Rattle.table.proofs.mirns_differ.Tie as tie
-use Rattle.table.proofs.mirns_differ.Reads as reads
-use Rattle.table.proofs.mirns_differ.Lts as lts
-use Rattle.table.proofs.later_differ.Reads as later-differ-reads
 
 abbrev Inv-loop : tie.InvT-loop
 Inv-loop t n i₀ i = (i ≤ n) × (all (laterDiffer standard t n) i ≡ true)

@@ -2,8 +2,6 @@ use borrow.Author.Needs.{needs}
 use Rattle.table.proofs.Laws.{part-is, part-long}
 use Rattle.table.proofs.part.Statement.{statement}
 use Rattle.table.proofs.part.Tie as tie
-use Rattle.table.proofs.part.Reads as reads
-use Rattle.table.proofs.part.Lts as lts
 
 -- src/lib.rt:34:17
 mul-a : tie.Need-mul-a

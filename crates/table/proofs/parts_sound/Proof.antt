@@ -10,10 +10,6 @@ use Rattle.layout.specs.Layout.{standard, partOf}
 use Rattle.layout.specs.Sound.{partSound}
 use Rattle.table.proofs.parts_sound.Statement.{statement}
 use Rattle.table.proofs.parts_sound.Tie as tie
-use Rattle.table.proofs.parts_sound.Reads as reads
-use Rattle.table.proofs.parts_sound.Lts as lts
-use Rattle.point.proofs.part_sound.Reads as part-sound-reads
-use Rattle.table.proofs.part.Reads as part-reads
 
 abbrev Inv-loop : tie.InvT-loop
 Inv-loop t n i₀ i = (i ≤ n) × (all (λ k. partSound (partOf standard t k)) i ≡ true)

@@ -4,9 +4,6 @@ use lib.IntN.{pos}
 use Rattle.table.proofs.Laws.{range-is}
 use Rattle.table.proofs.range_ok.Statement.{statement}
 use Rattle.table.proofs.range_ok.Tie as tie
-use Rattle.table.proofs.range_ok.Reads as reads
-use Rattle.table.proofs.range_ok.Lts as lts
-use Rattle.numbers.proofs.get_energy.Reads as get-energy-reads
 
 -- src/lib.rt:43:9
 get-energy-requires : tie.Need-get-energy-requires

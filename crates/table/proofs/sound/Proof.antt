@@ -4,10 +4,6 @@ use borrow.Author.Needs.{needs}
 use Rattle.table.proofs.Laws.{short-unsound, many-unsound, body-sound}
 use Rattle.table.proofs.sound.Statement.{statement}
 use Rattle.table.proofs.sound.Tie as tie
-use Rattle.table.proofs.sound.Reads as reads
-use Rattle.table.proofs.sound.Lts as lts
-use Rattle.numbers.proofs.get.Reads as get-reads
-use Rattle.table.proofs.body_sound.Reads as body-sound-reads
 
 -- src/lib.rt:111:9
 returns : tie.Need-returns

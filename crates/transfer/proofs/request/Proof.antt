@@ -1,18 +1,18 @@
-use mathlib.Core.Path.{_≡_, refl, sym, ap, _∙_}
+use mathlib.Core.Path.{_≡_, sym, ap, _∙_}
 use mathlib.Core.Bool.{true}
 use native.Mathlib.Omega.{arith}
-use mir.Syntax.{w64}
-use mir.ValLaws.{toZ-ofZ}
 use borrow.Author.Tests.{not-true, not-false}
 use borrow.Author.Needs.{sfits-of, needs}
 use Rattle.numbers.specs.Naturals.{natOf}
 use Rattle.numbers.specs.Search.{maybe}
+use Rattle.numbers.proofs.Naturals.{natural-read}
 use Rattle.calendar.specs.Calendar.{holidayList, allowablePeriod}
 use Rattle.layout.specs.Layout.{standard}
 use Rattle.layout.specs.Sound.{sound}
 use Rattle.table.specs.Lookup.{indexOf}
+use Rattle.table.proofs.Calls.{gives}
 use Rattle.table.proofs.Laws.{sound-long}
-use Rattle.table.proofs.OnPart.{lent-sound, answered, answered-at}
+use Rattle.table.proofs.OnPart.{lent-sound, answered-at}
 use Rattle.transfer.specs.Transfer.{requestCall}
 use Rattle.transfer.specs.Parts.{requestPart}
 use Rattle.transfer.proofs.Requests.{inRange, request-bounds, request-unsound, request-range, request-holidays, request-missing, request-point}
@@ -54,19 +54,19 @@ index-is c =
     let m = c .before .before in
     c .index-of .ensures .0
     ∙ ap (λ k. maybe 32 (λ k. k) (indexOf standard (s .args .t .now) k))
-    (m .natural .ensures .0 ∙ ap natOf (toZ-ofZ w64 (s .args .n .mirn) (sfits-of (m .before .struct-told .given .0 .1))))
+    (m .natural .ensures .0 ∙ natural-read (s .args .n .mirn) (sfits-of (m .before .struct-told .given .0 .1)))
 
 user-is : (c : tie.After-natural2) → c .natural2 .result ≡ natOf (lists (tests (at-point (c .before))) .args .n .user)
 user-is c =
-    c .natural2 .ensures .0 ∙ ap natOf (toZ-ofZ w64 (lists (tests (at-point (c .before))) .args .n .user) (sfits-of (c .before .struct-told4 .given .1 .0 .1)))
+    c .natural2 .ensures .0 ∙ natural-read (lists (tests (at-point (c .before))) .args .n .user) (sfits-of (c .before .struct-told4 .given .1 .0 .1))
 
 proposed-is : (c : tie.After-natural3) → c .natural3 .result ≡ natOf (lists (tests (at-point (c .before .before))) .args .n .proposed)
 proposed-is c =
-    c .natural3 .ensures .0 ∙ ap natOf (toZ-ofZ w64 (lists (tests (at-point (c .before .before))) .args .n .proposed) (sfits-of (c .before .before .struct-told4 .given .1 .1 .0 .1)))
+    c .natural3 .ensures .0 ∙ natural-read (lists (tests (at-point (c .before .before))) .args .n .proposed) (sfits-of (c .before .before .struct-told4 .given .1 .1 .0 .1))
 
 nochange-is : (c : tie.After-natural4) → c .natural4 .result ≡ natOf (lists (tests (at-point (c .before .before .before))) .args .n .nochange)
 nochange-is c =
-    c .natural4 .ensures .0 ∙ ap natOf (toZ-ofZ w64 (lists (tests (at-point (c .before .before .before))) .args .n .nochange) (sfits-of (c .before .before .before .struct-told4 .given .1 .1 .1 .0 .1)))
+    c .natural4 .ensures .0 ∙ natural-read (lists (tests (at-point (c .before .before .before))) .args .n .nochange) (sfits-of (c .before .before .before .struct-told4 .given .1 .1 .1 .0 .1))
 
 -- ---- the needs
 
@@ -81,7 +81,7 @@ returns c =
     let s = c .before .before .before in
     let t = s .args .t .now in
     let d = s .args .holidays .now in
-    answered (requestCall t (s .args .n) d) _ t (request-unsound t (s .args .n) d (sym (c .before .sound .ensures) ∙ not-true _ (c .if1 .taken))) t refl
+    gives (request-unsound t (s .args .n) d (sym (c .before .sound .ensures) ∙ not-true _ (c .if1 .taken)))
 
 request-in-range-requires : tie.Need-request-in-range-requires
 request-in-range-requires c κs = search needs
@@ -95,8 +95,7 @@ returns-2 c =
     let s = sounds e in
     let t = s .args .t .now in
     let d = s .args .holidays .now in
-    answered (requestCall t (s .args .n) d) _ t
-    (request-range t (s .args .n) d (sound-is e) (sym (c .before .request-in-range .ensures) ∙ not-true _ (c .if2 .taken))) t refl
+    gives (request-range t (s .args .n) d (sound-is e) (sym (c .before .request-in-range .ensures) ∙ not-true _ (c .if2 .taken)))
 
 holiday-list-requires : tie.Need-holiday-list-requires
 holiday-list-requires c κs = search needs
@@ -110,8 +109,7 @@ returns-3 c =
     let s = ranges r in
     let t = s .args .t .now in
     let d = s .args .holidays .now in
-    answered (requestCall t (s .args .n) d) _ t
-    (request-holidays t (s .args .n) d (sound-is (r .before .before)) (range-is r) (sym (c .before .holiday-list .ensures) ∙ not-true _ (c .if3 .taken))) t refl
+    gives (request-holidays t (s .args .n) d (sound-is (r .before .before)) (range-is r) (sym (c .before .holiday-list .ensures) ∙ not-true _ (c .if3 .taken)))
 
 natural-requires : tie.Need-natural-requires
 natural-requires c κs = search needs
@@ -131,8 +129,7 @@ returns-4 c =
     let s = lists h in
     let t = s .args .t .now in
     let d = s .args .holidays .now in
-    answered (requestCall t (s .args .n) d) _ t
-    (request-missing t (s .args .n) d (sound-is (r .before .before)) (range-is r) (holidays-is h) _ (index-is (c .before)) (c .if4 .taken)) t refl
+    gives (request-missing t (s .args .n) d (sound-is (r .before .before)) (range-is r) (holidays-is h) _ (index-is (c .before)) (c .if4 .taken))
 
 natural-requires-2 : tie.Need-natural-requires-2
 natural-requires-2 c κs = search needs

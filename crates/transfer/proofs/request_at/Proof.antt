@@ -1,12 +1,11 @@
-use mathlib.Core.Path.{_≡_, refl, sym, ap, _∙_}
+use mathlib.Core.Path.{_≡_, sym, ap, _∙_}
 use Prim.Native.Nat.{_+_, _*_}
 use native.Mathlib.Omega.{arith}
 use borrow.Author.Needs.{needs}
 use Rattle.calendar.specs.Calendar.{allowablePeriod, periodDays}
 use Rattle.calendar.proofs.Business.{period-bound}
 use Rattle.layout.specs.Layout.{numAt}
-use Rattle.table.proofs.OnPart.{answered}
-use Rattle.transfer.specs.Parts.{requestPart}
+use Rattle.table.proofs.Calls.{gives}
 use Rattle.transfer.proofs.Points.{registrations-count, request-waiting, request-same, request-outside, request-full, request-entered}
 use Rattle.transfer.proofs.request_at.Statement.{statement}
 use Rattle.transfer.proofs.request_at.Tie as tie
@@ -34,8 +33,7 @@ returns c =
     let s = c .before .before .before in
     let p = s .args .p .now in
     let d = allowablePeriod (s .args .holidays .now) (s .args .proposed .0) (s .args .nochange) in
-    answered (requestPart (s .args .user) d p) _ p
-    (request-waiting p (s .pre .0) (s .pre .1) (s .args .user) d (λ e. c .if1 .taken (c .before .get .ensures .0 ∙ e))) p refl
+    gives (request-waiting p (s .pre .0) (s .pre .1) (s .args .user) d (λ e. c .if1 .taken (c .before .get .ensures .0 ∙ e)))
 
 get-requires-2 : tie.Need-get-requires-2
 get-requires-2 c κs = search needs
@@ -64,8 +62,7 @@ returns-2 c =
     let s = e .before .before .before in
     let p = s .args .p .now in
     let d = allowablePeriod (s .args .holidays .now) (s .args .proposed .0) (s .args .nochange) in
-    answered (requestPart (s .args .user) d p) _ p
-    (request-same p (s .pre .0) (s .pre .1) (s .args .user) d (idle-is e) (sym (latest-is (c .before)) ∙ c .if2 .taken)) p refl
+    gives (request-same p (s .pre .0) (s .pre .1) (s .args .user) d (idle-is e) (sym (latest-is (c .before)) ∙ c .if2 .taken))
 
 allowable-period-requires : tie.Need-allowable-period-requires
 allowable-period-requires c κs = search needs
@@ -87,9 +84,8 @@ returns-3 c =
     let s = e .before .before .before in
     let p = s .args .p .now in
     let d = allowablePeriod (s .args .holidays .now) (s .args .proposed .0) (s .args .nochange) in
-    answered (requestPart (s .args .user) d p) _ p
-    (request-outside p (s .pre .0) (s .pre .1) (s .args .user) d (idle-is e) (λ h. a .before .if2 .left (latest-is g ∙ h))
-    (sym (a .allowable-period .ensures) ∙ ap periodDays (c .enum-told .given .1))) p refl
+    gives (request-outside p (s .pre .0) (s .pre .1) (s .args .user) d (idle-is e) (λ h. a .before .if2 .left (latest-is g ∙ h))
+    (sym (a .allowable-period .ensures) ∙ ap periodDays (c .enum-told .given .1)))
 
 same-length-4 : tie.Need-same-length-4
 same-length-4 c = search needs
@@ -103,9 +99,8 @@ returns-4 c =
     let s = e .before .before .before in
     let p = s .args .p .now in
     let d = allowablePeriod (s .args .holidays .now) (s .args .proposed .0) (s .args .nochange) in
-    answered (requestPart (s .args .user) d p) _ p
-    (request-full p (s .pre .0) (s .pre .1) (s .args .user) d (idle-is e) (λ h. a .before .if2 .left (latest-is g ∙ h)) _ _
-    (sym (a .allowable-period .ensures) ∙ ap periodDays (f .period .given .1)) (omega (arith, count-is (g .before .before), c .if3 .taken))) p refl
+    gives (request-full p (s .pre .0) (s .pre .1) (s .args .user) d (idle-is e) (λ h. a .before .if2 .left (latest-is g ∙ h)) _ _
+    (sym (a .allowable-period .ensures) ∙ ap periodDays (f .period .given .1)) (omega (arith, count-is (g .before .before), c .if3 .taken)))
 
 set-pending-requires : tie.Need-set-pending-requires
 set-pending-requires c κs =
@@ -128,9 +123,9 @@ returns-5 c =
     let s = e .before .before .before in
     let p = s .args .p .now in
     let d = allowablePeriod (s .args .holidays .now) (s .args .proposed .0) (s .args .nochange) in
-    answered (requestPart (s .args .user) d p) _ _
-    (request-entered p (s .pre .0) (s .pre .1) (s .args .user) d (idle-is e) (λ h. a .before .if2 .left (latest-is g ∙ h)) _ _
-    (sym (a .allowable-period .ensures) ∙ ap periodDays (f .period .given .1)) (omega (arith, count-is (g .before .before), k .if3 .left))) _ (c .before .set-pending .ensures)
+    let w = gives (request-entered p (s .pre .0) (s .pre .1) (s .args .user) d (idle-is e) (λ h. a .before .if2 .left (latest-is g ∙ h)) _ _
+    (sym (a .allowable-period .ensures) ∙ ap periodDays (f .period .given .1)) (omega (arith, count-is (g .before .before), k .if3 .left))) in
+    (w .0, c .before .set-pending .ensures ∙ w .1)
 
 pub request-at-spec : {M : Type 1} → statement M
 request-at-spec =

@@ -1,17 +1,17 @@
-use mathlib.Core.Path.{_≡_, refl, sym, ap, _∙_}
+use mathlib.Core.Path.{_≡_, sym, ap, _∙_}
 use mathlib.Core.Bool.{true}
 use native.Mathlib.Omega.{arith}
-use mir.Syntax.{w64}
-use mir.ValLaws.{toZ-ofZ}
 use borrow.Author.Tests.{not-true, not-false}
 use borrow.Author.Needs.{sfits-of, needs}
 use Rattle.numbers.specs.Naturals.{natOf}
 use Rattle.numbers.specs.Search.{maybe}
+use Rattle.numbers.proofs.Naturals.{natural-read}
 use Rattle.layout.specs.Layout.{standard}
 use Rattle.layout.specs.Sound.{sound}
 use Rattle.table.specs.Lookup.{indexOf}
+use Rattle.table.proofs.Calls.{gives}
 use Rattle.table.proofs.Laws.{sound-long}
-use Rattle.table.proofs.OnPart.{lent-sound, answered, answered-at}
+use Rattle.table.proofs.OnPart.{lent-sound, answered-at}
 use Rattle.transfer.specs.Transfer.{withdrawCall}
 use Rattle.transfer.specs.Parts.{withdrawPart}
 use Rattle.transfer.proofs.Withdrawals.{inRange, withdrawal-user, withdraw-unsound, withdraw-range, withdraw-missing, withdraw-point}
@@ -44,11 +44,11 @@ index-is c =
     let m = c .before .before in
     c .index-of .ensures .0
     ∙ ap (λ k. maybe 32 (λ k. k) (indexOf standard (s .args .t .now) k))
-    (m .natural .ensures .0 ∙ ap natOf (toZ-ofZ w64 (s .args .n .mirn) (sfits-of (m .before .struct-told2 .given .0 .1))))
+    (m .natural .ensures .0 ∙ natural-read (s .args .n .mirn) (sfits-of (m .before .struct-told2 .given .0 .1)))
 
 user-is : (c : tie.After-natural2) → c .natural2 .result ≡ natOf (ranges (tests (c .before .before)) .args .n .user)
 user-is c =
-    c .natural2 .ensures .0 ∙ ap natOf (toZ-ofZ w64 (ranges (tests (c .before .before)) .args .n .user) (sfits-of (c .before .before .before .before .before .struct-told2 .given .1 .0 .1)))
+    c .natural2 .ensures .0 ∙ natural-read (ranges (tests (c .before .before)) .args .n .user) (sfits-of (c .before .before .before .before .before .struct-told2 .given .1 .0 .1))
 
 -- ---- the needs
 
@@ -62,7 +62,7 @@ returns : tie.Need-returns
 returns c =
     let s = c .before .before .before in
     let t = s .args .t .now in
-    answered (withdrawCall t (s .args .n)) _ t (withdraw-unsound t (s .args .n) (sym (c .before .sound .ensures) ∙ not-true _ (c .if1 .taken))) t refl
+    gives (withdraw-unsound t (s .args .n) (sym (c .before .sound .ensures) ∙ not-true _ (c .if1 .taken)))
 
 withdrawal-in-range-requires : tie.Need-withdrawal-in-range-requires
 withdrawal-in-range-requires c κs = search needs
@@ -75,8 +75,7 @@ returns-2 c =
     let e = c .before .before in
     let s = sounds e in
     let t = s .args .t .now in
-    answered (withdrawCall t (s .args .n)) _ t
-    (withdraw-range t (s .args .n) (sound-is e) (sym (c .before .withdrawal-in-range .ensures) ∙ not-true _ (c .if2 .taken))) t refl
+    gives (withdraw-range t (s .args .n) (sound-is e) (sym (c .before .withdrawal-in-range .ensures) ∙ not-true _ (c .if2 .taken)))
 
 natural-requires : tie.Need-natural-requires
 natural-requires c κs = search needs
@@ -94,8 +93,7 @@ returns-3 c =
     let r = tests (c .before) in
     let s = ranges r in
     let t = s .args .t .now in
-    answered (withdrawCall t (s .args .n)) _ t
-    (withdraw-missing t (s .args .n) (sound-is (r .before .before)) (range-is r) _ (index-is (c .before)) (c .if3 .taken)) t refl
+    gives (withdraw-missing t (s .args .n) (sound-is (r .before .before)) (range-is r) _ (index-is (c .before)) (c .if3 .taken))
 
 natural-requires-2 : tie.Need-natural-requires-2
 natural-requires-2 c κs = search needs

@@ -1,7 +1,6 @@
-use mathlib.Core.Path.{refl, sym, _∙_}
+use mathlib.Core.Path.{sym, _∙_}
 use borrow.Author.Needs.{needs}
-use Rattle.table.proofs.OnPart.{answered}
-use Rattle.transfer.specs.Parts.{withdrawPart}
+use Rattle.table.proofs.Calls.{gives}
 use Rattle.transfer.proofs.Points.{withdraw-other, withdraw-own}
 use Rattle.transfer.proofs.withdraw_at.Statement.{statement}
 use Rattle.transfer.proofs.withdraw_at.Tie as tie
@@ -17,7 +16,7 @@ returns c =
     let s = c .before .before .before in
     let p = s .args .p .now in
     let u = s .args .user in
-    answered (withdrawPart u p) _ p (withdraw-other p u (s .pre .2) (λ e. c .if1 .taken (c .before .get .ensures .0 ∙ e))) p refl
+    gives (withdraw-other p u (s .pre .2) (λ e. c .if1 .taken (c .before .get .ensures .0 ∙ e)))
 
 clear-pending-requires : tie.Need-clear-pending-requires
 clear-pending-requires c κs = search needs
@@ -31,7 +30,8 @@ returns-2 c =
     let g = c .before .before .before in
     let p = s .args .p .now in
     let u = s .args .user in
-    answered (withdrawPart u p) _ _ (withdraw-own p u (s .pre .2) (s .pre .0) (s .pre .1) (sym (g .before .get .ensures .0) ∙ g .if1 .left)) _ (c .before .clear-pending .ensures)
+    let w = gives (withdraw-own p u (s .pre .2) (s .pre .0) (s .pre .1) (sym (g .before .get .ensures .0) ∙ g .if1 .left)) in
+    (w .0, c .before .clear-pending .ensures ∙ w .1)
 
 pub withdraw-at-spec : {M : Type 1} → statement M
 withdraw-at-spec =

@@ -1,0 +1,4 @@
+-- Laws that the proofs of the functions cite, and those of the exported functions.
+mod Bytes
+mod Totals
+pub mod Ends

@@ -1,0 +1,21 @@
+use mathlib.Core.Path.{sym, ap}
+use borrow.Author.Needs.{needs}
+use Rattle.daybook.specs.Calls.{noticeNumbers}
+use Rattle.buffers.specs.Buffers.{bitsOf}
+use Rattle.buffers.proofs.notice_numbers.Statement.{statement}
+use Rattle.buffers.proofs.notice_numbers.Tie as tie
+
+enum-told : tie.Need-enum-told
+enum-told c = search needs
+
+enum-known-a : tie.Need-enum-known-a
+enum-known-a c = search needs
+
+returns : tie.Need-returns
+returns c = sym (ap (λ a. bitsOf (noticeNumbers a)) (c .enum-told .given .1))
+
+returns-2 : tie.Need-returns-2
+returns-2 c = sym (ap (λ a. bitsOf (noticeNumbers a)) (c .before .a .given .1))
+
+pub notice-numbers-spec : {M : Type 1} → statement M
+notice-numbers-spec = tie.close (tie.spec enum-told enum-known-a returns returns-2)

@@ -1,0 +1,168 @@
+// Byte buffers that a C caller lends: numbers are read from them, answers and tables are written to them. What a function
+// requires is about lengths and a refusal's size; the exported functions show it of any buffers.
+ghost use mathlib.Core.Path.{_≡_};
+ghost use mathlib.Core.List.{map};
+ghost use Prim.Native.Nat.{_*_, _/_, _≤_, min};
+ghost use lib.IntN.{pos};
+ghost use lib.ListN.{length, getD};
+ghost use Rattle.calendar.specs.Calendar.{dateNumbers};
+ghost use Rattle.daybook.specs.Calls.{noticeNumbers, energyNumbers, requestNumbers, accountNumbers, allocationNumbers};
+ghost use Rattle.buffers.specs.Buffers.{numbersIn, withNumbers, bitsOf, tableIn, replied, written};
+use calendar::DateAnswer;
+use daybook::AccountAnswer;
+use daybook::AllocationAnswer;
+use daybook::EnergyAnswer;
+use daybook::NoticeAnswer;
+use daybook::RequestAnswer;
+
+// The first n numbers of the bytes, in t.
+pub fn numbers_in<'a, 'b>(bytes: &'a [u8], t: &'b mut [i64], n: usize) -> &'b mut [i64]
+    requires { ⌜ (8 * n ≤ length (now bytes)) × (n ≤ length (now t)) ⌝ }
+    ensures { λ r. ⌜ (now r ≡ numbersIn (now (bytes .entry)) n) × (length (now r) ≡ n) ⌝ }
+{
+    words::decode(bytes, 0, t, 0, n);
+    &mut t[..n]
+}
+
+// A register's table, in t.
+pub fn table_in<'a, 'b>(register: &'a [u8], t: &'b mut [i64]) -> &'b mut [i64]
+    requires { ⌜ length (now t) ≡ 7688 ⌝ }
+    ensures { λ r. ⌜ (now r ≡ tableIn (now (register .entry))) × (8 * length (now r) ≤ length (now (register .entry))) ⌝ }
+{
+    if register.len() < 61504 {
+        return numbers_in(register, t, 0);
+    }
+    numbers_in(register, t, 7688)
+}
+
+// The holidays, in t; of more than 513 the first 513, which are too many as well.
+pub fn holidays_in<'a, 'b>(holidays: &'a [u8], t: &'b mut [i64]) -> &'b mut [i64]
+    requires { ⌜ length (now t) ≡ 513 ⌝ }
+    ensures { λ r. ⌜ now r ≡ numbersIn (now (holidays .entry)) (min 513 (length (now (holidays .entry)) / 8)) ⌝ }
+{
+    let n = holidays.len() / 8;
+    if 513 < n {
+        return numbers_in(holidays, t, 513);
+    }
+    numbers_in(holidays, t, n)
+}
+
+// Room for the numbers of an answer table, at most the 32 that an allocation writes.
+pub fn shares_in<'a, 'b>(shares: &'a [u8], t: &'b mut [i64]) -> &'b mut [i64]
+    requires { ⌜ length (now t) ≡ 32 ⌝ }
+    ensures { λ r. ⌜ (length (now r) ≡ min 32 (length (now (shares .entry)) / 8)) × (8 * length (now r) ≤ length (now (shares .entry))) ⌝ }
+{
+    let n = shares.len() / 8;
+    if 32 < n {
+        return &mut t[..32];
+    }
+    &mut t[..n]
+}
+
+// Writes numbers, given as their bits, from the first byte on.
+fn put_numbers(b: &mut [u8], numbers: &[u64])
+    requires { ⌜ 8 * length (now numbers) ≤ length (now b) ⌝ }
+    ensures { λ _. ⌜ now (b .exit) ≡ withNumbers (map pos (now (numbers .entry))) (now (b .entry)) ⌝ }
+{
+    let mut k = 0;
+    while k < numbers.len() {
+        words::put_number8(b, 8 * k, numbers[k]);
+        k += 1;
+    }
+}
+
+// Writes an answer's numbers, unless their buffer is too short; the result is their refusal.
+pub fn reply(answer: &mut [u8], numbers: &[u64]) -> u64
+    requires { ⌜ (1 ≤ length (now numbers)) × (length (now numbers) ≤ 18) × (getD (now numbers) 0 0 ≤ 16) ⌝ }
+    ensures { λ r. ⌜ ((pos r, now (answer .exit)) ≡ replied (map pos (now (numbers .entry))) (now (answer .entry))) × (r ≤ 16) ⌝ }
+{
+    let refusal = numbers[0];
+    if answer.len() < 8 * numbers.len() {
+        if refusal == 1 {
+            return 1;
+        }
+        return 2;
+    }
+    put_numbers(answer, numbers);
+    refusal
+}
+
+// The end of a call: its answer, and where the result is 0 its numbers for the lent buffer.
+pub fn finish(buffer: &mut [u8], answer: &mut [u8], t: &[i64], numbers: &[u64]) -> i64
+    requires { ⌜ (8 * length (now t) ≤ length (now buffer)) × (1 ≤ length (now numbers)) × (length (now numbers) ≤ 18) × (getD (now numbers) 0 0 ≤ 16) ⌝ }
+    ensures { λ r. ⌜ (r, (now (buffer .exit), now (answer .exit))) ≡ written (map pos (now (numbers .entry)), now (t .entry)) (now (buffer .entry)) (now (answer .entry)) ⌝ }
+{
+    let result = reply(answer, numbers);
+    if result != 0 {
+        return numbers::integer(result);
+    }
+    words::encode(t, 0, buffer, 0, t.len());
+    0
+}
+
+// The numbers of an answer, as their bits: the refusal, then the fields.
+pub fn notice_numbers(a: NoticeAnswer) -> [u64; 1]
+    ensures { λ r. ⌜ r ≡ bitsOf (noticeNumbers a) ⌝ }
+{
+    match a {
+        NoticeAnswer::Entered => [0],
+        NoticeAnswer::Refused(r) => [r],
+    }
+}
+
+pub fn energy_numbers(a: EnergyAnswer) -> [u64; 5]
+    ensures { λ r. ⌜ r ≡ bitsOf (energyNumbers a) ⌝ }
+{
+    match a {
+        EnergyAnswer::Entered {
+            which,
+            removed,
+            user,
+            lapsed,
+        } => [0, which, removed, user, lapsed],
+        EnergyAnswer::Refused(r) => [r, 0, 0, 0, 0],
+    }
+}
+
+pub fn request_numbers(a: RequestAnswer) -> [u64; 3]
+    ensures { λ r. ⌜ r ≡ bitsOf (requestNumbers a) ⌝ }
+{
+    match a {
+        RequestAnswer::Entered { first, last } => [0, first.0, last.0],
+        RequestAnswer::Refused(r) => [r, 0, 0],
+    }
+}
+
+pub fn date_numbers(a: DateAnswer) -> [u64; 2]
+    ensures { λ r. ⌜ r ≡ bitsOf (dateNumbers a) ⌝ }
+{
+    match a {
+        DateAnswer::OnDay(d) => [0, d.0],
+        DateAnswer::Refused(r) => [r, 0],
+    }
+}
+
+pub fn account_numbers(a: AccountAnswer) -> [u64; 2]
+    ensures { λ r. ⌜ r ≡ bitsOf (accountNumbers a) ⌝ }
+{
+    match a {
+        AccountAnswer::Given(sum) => [0, words::bits(sum)],
+        AccountAnswer::Refused(r) => [r, 0],
+    }
+}
+
+pub fn allocation_numbers(a: AllocationAnswer) -> [u64; 18]
+    ensures { λ r. ⌜ r ≡ bitsOf (allocationNumbers a) ⌝ }
+{
+    let nsl = a.nsl;
+    let totals = a.totals;
+    let mut numbers = [0u64; 18];
+    numbers[0] = a.refusal;
+    numbers[1] = words::bits(nsl);
+    let mut k = 0;
+    while k < 16 {
+        numbers[2 + k] = words::bits(totals[k]);
+        k += 1;
+    }
+    numbers
+}

@@ -1,0 +1,48 @@
+-- 513 holidays are too many, and so are more: the numbers of such a list do not matter.
+use mathlib.Core.Path.{_≡_, refl, sym, ap, _∙_}
+use mathlib.Core.Bool.{Bool, true, false}
+use mathlib.Core.Logic.{⊎-elim}
+use mathlib.Core.List.{List}
+use Prim.Native.Nat.{ℕ, _-_, _/_, _<_, min}
+use native.Mathlib.Nat.{eq-zero-or-pos}
+use native.Mathlib.Omega.{arith}
+use lib.IntN.{ℤ, pos}
+use lib.ListN.{length, replicate, length-replicate}
+use borrow.Author.Tests.{lt-leb}
+use Rattle.words.proofs.Tables.{length-decoded}
+use Rattle.calendar.specs.Calendar.{holidayList}
+use Rattle.daybook.specs.declared.TransferRequest.{TransferRequest}
+use Rattle.layout.specs.Layout.{standard}
+use Rattle.layout.specs.Sound.{sound}
+use Rattle.transfer.specs.Transfer.{requestCall}
+use Rattle.transfer.proofs.Requests.{inRange, request-unsound, request-range, request-holidays}
+use Rattle.buffers.specs.Buffers.{numbersIn, holidaysIn}
+
+too-many : (hs : List ℤ) → 512 < length hs → holidayList hs ≡ false
+unfolding holidayList
+too-many hs h = rw (lt-leb (length hs) 512 h)
+
+-- two lists that are none get the same
+refused-alike : (t : List ℤ) (n : TransferRequest) (hs ks : List ℤ) → holidayList hs ≡ false → holidayList ks ≡ false
+    → requestCall t n hs ≡ requestCall t n ks
+refused-alike t n hs ks h k = go (sound standard t) refl (inRange n) refl
+  where
+    go : (s : Bool) → sound standard t ≡ s → (r : Bool) → inRange n ≡ r → requestCall t n hs ≡ requestCall t n ks
+    go false e r f = request-unsound t n hs e ∙ sym (request-unsound t n ks e)
+    go true e false f = request-range t n hs e f ∙ sym (request-range t n ks e f)
+    go true e true f = request-holidays t n hs e f h ∙ sym (request-holidays t n ks e f k)
+
+numbers-length : (b : List ℕ) (n : ℕ) → length (numbersIn b n) ≡ n
+unfolding numbersIn
+numbers-length b n = length-decoded (replicate n (pos 0)) 0 b 0 n ∙ length-replicate n (pos 0)
+
+pub first-513 : (t : List ℤ) (n : TransferRequest) (b : List ℕ) → requestCall t n (numbersIn b (min 513 (length b / 8))) ≡ requestCall t n (holidaysIn b)
+unfolding holidaysIn
+first-513 t n b =
+    let k : ℕ = length b / 8 in
+    ⊎-elim
+    (λ (l : k - 513 ≡ 0). let e : min 513 k ≡ k = omega arith in ap (λ m. requestCall t n (numbersIn b m)) e)
+    (λ (l : 0 < k - 513).
+    refused-alike t n (numbersIn b (min 513 k)) (numbersIn b k)
+    (too-many _ (omega (arith, numbers-length b (min 513 k)))) (too-many _ (omega (arith, numbers-length b k))))
+    (eq-zero-or-pos (k - 513))

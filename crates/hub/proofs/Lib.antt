@@ -1,0 +1,4 @@
+-- Laws that the proofs of the functions cite.
+mod Refusals
+mod Holidays
+mod Shares

@@ -1,0 +1,70 @@
+use mathlib.Core.Path.{_≡_, ap, _∙_}
+use mir.Facts.{toZ-ofZ}
+use borrow.Author.Needs.{needs}
+use Rattle.daybook.specs.Notices.{Numbers}
+use Rattle.account.specs.Account.{accountCall}
+use Rattle.buffers.specs.Buffers.{bitsOf, tableIn}
+use Rattle.buffers.proofs.Ends.{first-small, ended-reply}
+use Rattle.hub.proofs.Refusals.{account-small}
+use Rattle.hub.proofs.petlumas_account.Statement.{statement}
+use Rattle.hub.proofs.petlumas_account.Tie as tie
+
+abbrev start : tie.After-account-numbers → tie.Start
+start c = c .before .before .before .before .before .before .before .before
+
+-- what the call gives
+abbrev given : tie.Start → Numbers
+given s = accountCall (tableIn (s .args .register .now)) (record { user = s .args .user; from = s .args .from; to = s .args .to })
+
+-- the answer's numbers, with each number of the query read back from its bits
+gave : (c : tie.After-account-numbers) → c .account-numbers .result ≡ bitsOf (given (start c))
+gave c =
+    let f = start c .fits in
+    c .account-numbers .ensures
+    ∙ ap bitsOf (rw (toZ-ofZ (f .user), toZ-ofZ (f .from), toZ-ofZ (f .to), c .before .before .before .before .table-in .ensures .0) at (c .before .before .account .ensures))
+
+slice-aggregate-table-in : tie.Need-slice-aggregate-table-in
+slice-aggregate-table-in c = search needs
+
+table-in-requires : tie.Need-table-in-requires
+table-in-requires c κs = search needs
+
+account-requires : tie.Need-account-requires
+account-requires c κs = search needs
+
+account-numbers-requires : tie.Need-account-numbers-requires
+account-numbers-requires c κs = search needs
+
+slice-aggregate-reply : tie.Need-slice-aggregate-reply
+slice-aggregate-reply c = search needs
+
+reply-requires : tie.Need-reply-requires
+reply-requires c κs =
+    let d = c .before .before in
+    (search needs, search needs, first-small (d .account-numbers .result) (given (start d)) (gave d) (account-small _ _))
+
+integer-requires : tie.Need-integer-requires
+integer-requires c κs = search needs
+
+same-length : tie.Need-same-length
+same-length c = search needs
+
+returns : tie.Need-returns
+returns c =
+    let r = c .before .before .before in
+    let d = r .before .before .before in
+    ended-reply (d .account-numbers .result) (given (start d)) (gave d) (account-small _ _) _ (search needs) _ (c .integer .ensures) _ _ (r .reply .ensures .0)
+
+pub petlumas-account-spec : {M : Type 1} → statement M
+petlumas-account-spec =
+    tie.close
+    (tie.spec
+    slice-aggregate-table-in
+    table-in-requires
+    account-requires
+    account-numbers-requires
+    slice-aggregate-reply
+    reply-requires
+    integer-requires
+    same-length
+    returns)

@@ -1,0 +1,92 @@
+use mathlib.Core.Path.{_≡_, ap, _∙_}
+use mathlib.Core.List.{List}
+use Prim.Native.Nat.{ℕ, _/_}
+use lib.IntN.{ℤ, pos}
+use lib.ListN.{length, getD}
+use mir.Facts.{toZ-ofZ}
+use borrow.Author.Needs.{needs}
+use Rattle.daybook.specs.Notices.{Numbers}
+use Rattle.allocate.specs.Allocate.{allocateCall, placed}
+use Rattle.buffers.specs.Buffers.{bitsOf, tableIn, written}
+use Rattle.buffers.proofs.Ends.{first-small, ended}
+use Rattle.hub.proofs.Refusals.{allocate-small}
+use Rattle.hub.proofs.Shares.{call-cut, placed-all, written-where}
+use Rattle.hub.proofs.petlumas_allocate.Statement.{statement}
+use Rattle.hub.proofs.petlumas_allocate.Tie as tie
+
+abbrev start : tie.After-allocation-numbers → tie.Start
+start c = c .before .before .before .before .before .before .before .before .before .before .before .before .before .before
+
+-- what the call gives
+abbrev given : tie.Start → Numbers × List ℤ
+given s =
+    let a = s .args in
+    allocateCall (tableIn (a .register .now))
+    (record { gasday = a .gasday; from = a .from; to = a .to; tdq = a .tdq; uag = a .uag; clp = a .clp }) (length (a .shares .now) / 8)
+
+-- the answer's numbers and the shares, with each number of the query read back from its bits
+gave : (c : tie.After-allocation-numbers)
+    → (c .allocation-numbers .result ≡ bitsOf (given (start c) .0))
+    × (c .before .before .before .allocate .last .1 .1 .0 ≡ placed (given (start c) .1) (c .before .before .before .before .before .before .shares-in .result .now))
+gave c =
+    let f = start c .fits in
+    let e = rw (toZ-ofZ (f .gasday), toZ-ofZ (f .from), toZ-ofZ (f .to), toZ-ofZ (f .tdq), toZ-ofZ (f .uag), toZ-ofZ (f .clp), c .before .before .before .before .before .before .before .before .before .table-in .ensures .0, c .before .before .before .before .before .before .shares-in .ensures .0, call-cut) at (c .before .before .before .allocate .ensures) in
+    (c .allocation-numbers .ensures ∙ ap bitsOf (e .0), e .1)
+
+slice-aggregate-table-in : tie.Need-slice-aggregate-table-in
+slice-aggregate-table-in c = search needs
+
+table-in-requires : tie.Need-table-in-requires
+table-in-requires c κs = search needs
+
+slice-aggregate-shares-in : tie.Need-slice-aggregate-shares-in
+slice-aggregate-shares-in c = search needs
+
+shares-in-requires : tie.Need-shares-in-requires
+shares-in-requires c κs = search needs
+
+allocate-requires : tie.Need-allocate-requires
+allocate-requires c κs = search needs
+
+allocation-numbers-requires : tie.Need-allocation-numbers-requires
+allocation-numbers-requires c κs = search needs
+
+slice-aggregate-finish : tie.Need-slice-aggregate-finish
+slice-aggregate-finish c = search needs
+
+finish-requires : tie.Need-finish-requires
+finish-requires c κs =
+    let e = c .before .before .before .before in
+    (search needs, search needs, search needs, first-small (e .allocation-numbers .result) (given (start e) .0) (gave e .0) (allocate-small _ _ _))
+
+same-length : tie.Need-same-length
+same-length c = search needs
+
+same-length-2 : tie.Need-same-length-2
+same-length-2 c = search needs
+
+returns : tie.Need-returns
+returns c =
+    let f = c .before .before .before .before .before in
+    let e = f .before .before .before .before .before in
+    let a = start e .args in
+    let w = given (start e) in
+    ended (e .allocation-numbers .result) (w .0) (gave e .0) (allocate-small _ _ _) _ _ (gave e .1) _ (search needs) _ _ _ _ (f .finish .ensures)
+    ∙ written-where (w .0) (placed (w .1) (e .before .before .before .before .before .before .shares-in .result .now)) (w .1) (a .shares .now) (a .answer .now)
+    (placed-all (tableIn (a .register .now)) _ (length (a .shares .now) / 8) (e .before .before .before .before .before .before .shares-in .result .now) (e .before .before .before .before .before .before .shares-in .ensures .0))
+
+pub petlumas-allocate-spec : {M : Type 1} → statement M
+petlumas-allocate-spec =
+    tie.close
+    (tie.spec
+    slice-aggregate-table-in
+    table-in-requires
+    slice-aggregate-shares-in
+    shares-in-requires
+    allocate-requires
+    allocation-numbers-requires
+    slice-aggregate-finish
+    finish-requires
+    same-length
+    same-length-2
+    returns)

@@ -1,0 +1,76 @@
+use mathlib.Core.Path.{_≡_, ap, _∙_}
+use mathlib.Core.List.{List}
+use lib.IntN.{ℤ}
+use mir.Facts.{toZ-ofZ}
+use borrow.Author.Needs.{needs}
+use Rattle.daybook.specs.Notices.{Numbers}
+use Rattle.energy.specs.Energy.{energyCall}
+use Rattle.buffers.specs.Buffers.{bitsOf, tableIn}
+use Rattle.buffers.proofs.Ends.{first-small, ended}
+use Rattle.hub.proofs.Refusals.{energy-small}
+use Rattle.hub.proofs.petlumas_energy.Statement.{statement}
+use Rattle.hub.proofs.petlumas_energy.Tie as tie
+
+abbrev start : tie.After-energy-numbers → tie.Start
+start c = c .before .before .before .before .before .before .before .before .before
+
+-- what the call gives
+abbrev given : tie.Start → Numbers × List ℤ
+given s =
+    let a = s .args in
+    energyCall (tableIn (a .register .now))
+    (record { mirn = a .mirn; start = a .start; end = a .end; energy = a .energy; quality = a .quality; confirmed = a .confirmed })
+
+-- the answer's numbers and the table, with each number of the notice read back from its bits
+gave : (c : tie.After-energy-numbers)
+    → (c .energy-numbers .result ≡ bitsOf (given (start c) .0)) × (c .before .before .energy .last .0 ≡ given (start c) .1)
+gave c =
+    let f = start c .fits in
+    let e = rw (toZ-ofZ (f .mirn), toZ-ofZ (f .start), toZ-ofZ (f .end), toZ-ofZ (f .energy), toZ-ofZ (f .quality), toZ-ofZ (f .confirmed), c .before .before .before .before .table-in .ensures .0) at (c .before .before .energy .ensures) in
+    (c .energy-numbers .ensures ∙ ap bitsOf (e .0), e .1)
+
+slice-aggregate-table-in : tie.Need-slice-aggregate-table-in
+slice-aggregate-table-in c = search needs
+
+table-in-requires : tie.Need-table-in-requires
+table-in-requires c κs = search needs
+
+energy-requires : tie.Need-energy-requires
+energy-requires c κs = search needs
+
+energy-numbers-requires : tie.Need-energy-numbers-requires
+energy-numbers-requires c κs = search needs
+
+slice-aggregate-finish : tie.Need-slice-aggregate-finish
+slice-aggregate-finish c = search needs
+
+finish-requires : tie.Need-finish-requires
+finish-requires c κs =
+    let e = c .before .before .before .before in
+    (search needs, search needs, search needs, first-small (e .energy-numbers .result) (given (start e) .0) (gave e .0) (energy-small _ _))
+
+same-length : tie.Need-same-length
+same-length c = search needs
+
+same-length-2 : tie.Need-same-length-2
+same-length-2 c = search needs
+
+returns : tie.Need-returns
+returns c =
+    let f = c .before .before .before .before .before in
+    let e = f .before .before .before .before .before in
+    ended (e .energy-numbers .result) (given (start e) .0) (gave e .0) (energy-small _ _) _ _ (gave e .1) _ (search needs) _ _ _ _ (f .finish .ensures)
+
+pub petlumas-energy-spec : {M : Type 1} → statement M
+petlumas-energy-spec =
+    tie.close
+    (tie.spec
+    slice-aggregate-table-in
+    table-in-requires
+    energy-requires
+    energy-numbers-requires
+    slice-aggregate-finish
+    finish-requires
+    same-length
+    same-length-2
+    returns)

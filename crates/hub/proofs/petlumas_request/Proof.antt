@@ -1,0 +1,87 @@
+use mathlib.Core.Path.{_≡_, ap, _∙_}
+use mathlib.Core.List.{List}
+use lib.IntN.{ℤ}
+use mir.Facts.{toZ-ofZ}
+use borrow.Author.Needs.{needs}
+use Rattle.daybook.specs.Notices.{Numbers}
+use Rattle.transfer.specs.Transfer.{requestCall}
+use Rattle.buffers.specs.Buffers.{bitsOf, tableIn, holidaysIn}
+use Rattle.buffers.proofs.Ends.{first-small, ended}
+use Rattle.hub.proofs.Refusals.{request-small}
+use Rattle.hub.proofs.Holidays.{first-513}
+use Rattle.hub.proofs.petlumas_request.Statement.{statement}
+use Rattle.hub.proofs.petlumas_request.Tie as tie
+
+abbrev start : tie.After-request-numbers → tie.Start
+start c = c .before .before .before .before .before .before .before .before .before .before .before .before .before .before
+
+-- what the call gives
+abbrev given : tie.Start → Numbers × List ℤ
+given s =
+    let a = s .args in
+    requestCall (tableIn (a .register .now))
+    (record { mirn = a .mirn; user = a .user; proposed = a .proposed; nochange = a .nochange }) (holidaysIn (a .holidays .now))
+
+-- the answer's numbers and the table, with each number of the notice read back from its bits
+gave : (c : tie.After-request-numbers)
+    → (c .request-numbers .result ≡ bitsOf (given (start c) .0)) × (c .before .before .before .request .last .0 ≡ given (start c) .1)
+gave c =
+    let f = start c .fits in
+    let r = c .before .before .before in
+    let h = r .before .before .before in
+    let e = rw (toZ-ofZ (f .mirn), toZ-ofZ (f .user), toZ-ofZ (f .proposed), toZ-ofZ (f .nochange), h .before .before .table-in .ensures .0, h .holidays-in .ensures, first-513) at (r .request .ensures) in
+    (c .request-numbers .ensures ∙ ap bitsOf (e .0), e .1)
+
+slice-aggregate-table-in : tie.Need-slice-aggregate-table-in
+slice-aggregate-table-in c = search needs
+
+table-in-requires : tie.Need-table-in-requires
+table-in-requires c κs = search needs
+
+slice-aggregate-holidays-in : tie.Need-slice-aggregate-holidays-in
+slice-aggregate-holidays-in c = search needs
+
+holidays-in-requires : tie.Need-holidays-in-requires
+holidays-in-requires c κs = search needs
+
+request-requires : tie.Need-request-requires
+request-requires c κs = search needs
+
+request-numbers-requires : tie.Need-request-numbers-requires
+request-numbers-requires c κs = search needs
+
+slice-aggregate-finish : tie.Need-slice-aggregate-finish
+slice-aggregate-finish c = search needs
+
+finish-requires : tie.Need-finish-requires
+finish-requires c κs =
+    let e = c .before .before .before .before in
+    (search needs, search needs, search needs, first-small (e .request-numbers .result) (given (start e) .0) (gave e .0) (request-small _ _ _))
+
+same-length : tie.Need-same-length
+same-length c = search needs
+
+same-length-2 : tie.Need-same-length-2
+same-length-2 c = search needs
+
+returns : tie.Need-returns
+returns c =
+    let f = c .before .before .before .before .before in
+    let e = f .before .before .before .before .before in
+    ended (e .request-numbers .result) (given (start e) .0) (gave e .0) (request-small _ _ _) _ _ (gave e .1) _ (search needs) _ _ _ _ (f .finish .ensures)
+
+pub petlumas-request-spec : {M : Type 1} → statement M
+petlumas-request-spec =
+    tie.close
+    (tie.spec
+    slice-aggregate-table-in
+    table-in-requires
+    slice-aggregate-holidays-in
+    holidays-in-requires
+    request-requires
+    request-numbers-requires
+    slice-aggregate-finish
+    finish-requires
+    same-length
+    same-length-2
+    returns)

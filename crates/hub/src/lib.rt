@@ -1,0 +1,214 @@
+// The register for C. Each function decodes the register's bytes into a table of its own, runs the proved call on that
+// and encodes what it gives; no input is excluded. include/petlumas.h says the same in C's words.
+ghost use mathlib.Core.Path.{_≡_};
+ghost use Prim.Native.Nat.{_/_};
+ghost use lib.ListN.{length};
+ghost use Rattle.calendar.specs.Calendar.{dateCall};
+ghost use Rattle.opening.specs.Opening.{freshCall, openCall};
+ghost use Rattle.energy.specs.Energy.{energyCall};
+ghost use Rattle.status.specs.Status.{statusCall};
+ghost use Rattle.transfer.specs.Transfer.{requestCall, withdrawCall};
+ghost use Rattle.account.specs.Account.{accountCall};
+ghost use Rattle.allocate.specs.Allocate.{allocateCall};
+ghost use Rattle.buffers.specs.Buffers.{tableIn, holidaysIn, replied, written};
+use calendar::YearMonthDay;
+use daybook::AccountQuery;
+use daybook::AllocationQuery;
+use daybook::EnergyNotice;
+use daybook::Opening;
+use daybook::Ranges;
+use daybook::StatusNotice;
+use daybook::TransferRequest;
+use daybook::Withdrawal;
+
+#[no_mangle]
+pub extern "C" fn petlumas_fresh(
+    register: &mut [u8],
+    answer: &mut [u8],
+    nondaily: i64,
+    daily: i64,
+) -> i64
+    ensures { λ r. ⌜ (r, (now (register .exit), now (answer .exit))) ≡ written (freshCall (tableIn (now (register .entry))) (record { nondaily = nondaily; daily = daily })) (now (register .entry)) (now (answer .entry)) ⌝ }
+{
+    let n = Ranges { nondaily, daily };
+    let mut t = [0i64; 7688];
+    let table = buffers::table_in(register, &mut t);
+    let a = opening::fresh(table, n);
+    let numbers = buffers::notice_numbers(a);
+    buffers::finish(register, answer, table, &numbers)
+}
+
+#[no_mangle]
+pub extern "C" fn petlumas_open(
+    register: &mut [u8],
+    answer: &mut [u8],
+    mirn: i64,
+    kind: i64,
+    user: i64,
+    install: i64,
+    base: i64,
+) -> i64
+    ensures { λ r. ⌜ (r, (now (register .exit), now (answer .exit))) ≡ written (openCall (tableIn (now (register .entry))) (record { mirn = mirn; kind = kind; user = user; install = install; base = base })) (now (register .entry)) (now (answer .entry)) ⌝ }
+{
+    let n = Opening {
+        mirn,
+        kind,
+        user,
+        install,
+        base,
+    };
+    let mut t = [0i64; 7688];
+    let table = buffers::table_in(register, &mut t);
+    let a = opening::open(table, n);
+    let numbers = buffers::notice_numbers(a);
+    buffers::finish(register, answer, table, &numbers)
+}
+
+#[no_mangle]
+pub extern "C" fn petlumas_energy(
+    register: &mut [u8],
+    answer: &mut [u8],
+    mirn: i64,
+    start: i64,
+    end: i64,
+    energy: i64,
+    quality: i64,
+    confirmed: i64,
+) -> i64
+    ensures { λ r. ⌜ (r, (now (register .exit), now (answer .exit))) ≡ written (energyCall (tableIn (now (register .entry))) (record { mirn = mirn; start = start; end = end; energy = energy; quality = quality; confirmed = confirmed })) (now (register .entry)) (now (answer .entry)) ⌝ }
+{
+    let n = EnergyNotice {
+        mirn,
+        start,
+        end,
+        energy,
+        quality,
+        confirmed,
+    };
+    let mut t = [0i64; 7688];
+    let table = buffers::table_in(register, &mut t);
+    let a = energy::energy(table, n);
+    let numbers = buffers::energy_numbers(a);
+    buffers::finish(register, answer, table, &numbers)
+}
+
+#[no_mangle]
+pub extern "C" fn petlumas_status(
+    register: &mut [u8],
+    answer: &mut [u8],
+    mirn: i64,
+    day: i64,
+    on: i64,
+) -> i64
+    ensures { λ r. ⌜ (r, (now (register .exit), now (answer .exit))) ≡ written (statusCall (tableIn (now (register .entry))) (record { mirn = mirn; day = day; on = on })) (now (register .entry)) (now (answer .entry)) ⌝ }
+{
+    let n = StatusNotice { mirn, day, on };
+    let mut t = [0i64; 7688];
+    let table = buffers::table_in(register, &mut t);
+    let a = status::status(table, n);
+    let numbers = buffers::notice_numbers(a);
+    buffers::finish(register, answer, table, &numbers)
+}
+
+#[no_mangle]
+pub extern "C" fn petlumas_request(
+    register: &mut [u8],
+    holidays: &[u8],
+    answer: &mut [u8],
+    mirn: i64,
+    user: i64,
+    proposed: i64,
+    nochange: i64,
+) -> i64
+    ensures { λ r. ⌜ (r, (now (register .exit), now (answer .exit))) ≡ written (requestCall (tableIn (now (register .entry))) (record { mirn = mirn; user = user; proposed = proposed; nochange = nochange }) (holidaysIn (now (holidays .entry)))) (now (register .entry)) (now (answer .entry)) ⌝ }
+{
+    let n = TransferRequest {
+        mirn,
+        user,
+        proposed,
+        nochange,
+    };
+    let mut t = [0i64; 7688];
+    let table = buffers::table_in(register, &mut t);
+    let mut list = [0i64; 513];
+    let days = buffers::holidays_in(holidays, &mut list);
+    let a = transfer::request(table, n, days);
+    let numbers = buffers::request_numbers(a);
+    buffers::finish(register, answer, table, &numbers)
+}
+
+#[no_mangle]
+pub extern "C" fn petlumas_withdraw(
+    register: &mut [u8],
+    answer: &mut [u8],
+    mirn: i64,
+    user: i64,
+) -> i64
+    ensures { λ r. ⌜ (r, (now (register .exit), now (answer .exit))) ≡ written (withdrawCall (tableIn (now (register .entry))) (record { mirn = mirn; user = user })) (now (register .entry)) (now (answer .entry)) ⌝ }
+{
+    let n = Withdrawal { mirn, user };
+    let mut t = [0i64; 7688];
+    let table = buffers::table_in(register, &mut t);
+    let a = transfer::withdraw(table, n);
+    let numbers = buffers::notice_numbers(a);
+    buffers::finish(register, answer, table, &numbers)
+}
+
+#[no_mangle]
+pub extern "C" fn petlumas_account(
+    register: &[u8],
+    answer: &mut [u8],
+    user: i64,
+    from: i64,
+    to: i64,
+) -> i64
+    ensures { λ r. ⌜ (r, now (answer .exit)) ≡ replied (accountCall (tableIn (now (register .entry))) (record { user = user; from = from; to = to })) (now (answer .entry)) ⌝ }
+{
+    let n = AccountQuery { user, from, to };
+    let mut t = [0i64; 7688];
+    let table = buffers::table_in(register, &mut t);
+    let a = account::account(table, n);
+    let numbers = buffers::account_numbers(a);
+    numbers::integer(buffers::reply(answer, &numbers))
+}
+
+// The answer table has as many numbers as `shares` has bytes for.
+#[no_mangle]
+pub extern "C" fn petlumas_allocate(
+    register: &[u8],
+    answer: &mut [u8],
+    shares: &mut [u8],
+    gasday: i64,
+    from: i64,
+    to: i64,
+    tdq: i64,
+    uag: i64,
+    clp: i64,
+) -> i64
+    ensures { λ r. ⌜ (r, (now (shares .exit), now (answer .exit))) ≡ written (allocateCall (tableIn (now (register .entry))) (record { gasday = gasday; from = from; to = to; tdq = tdq; uag = uag; clp = clp }) (length (now (shares .entry)) / 8)) (now (shares .entry)) (now (answer .entry)) ⌝ }
+{
+    let q = AllocationQuery {
+        gasday,
+        from,
+        to,
+        tdq,
+        uag,
+        clp,
+    };
+    let mut t = [0i64; 7688];
+    let table = buffers::table_in(register, &mut t);
+    let mut list = [0i64; 32];
+    let room = buffers::shares_in(shares, &mut list);
+    let a = allocate::allocate(table, q, room);
+    let numbers = buffers::allocation_numbers(a);
+    buffers::finish(shares, answer, room, &numbers)
+}
+
+#[no_mangle]
+pub extern "C" fn petlumas_date(answer: &mut [u8], year: i64, month: i64, day: i64) -> i64
+    ensures { λ r. ⌜ (r, now (answer .exit)) ≡ replied (dateCall year month day) (now (answer .entry)) ⌝ }
+{
+    let a = calendar::date(YearMonthDay { year, month, day });
+    let numbers = buffers::date_numbers(a);
+    numbers::integer(buffers::reply(answer, &numbers))
+}

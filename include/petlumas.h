@@ -1,0 +1,174 @@
+/* Petlumas, the gas point register, for C11 and C++11.
+ *
+ * A register is a buffer of PETLUMAS_REGISTER_BYTES bytes or more that the
+ * caller keeps, saves and copies as it likes: 7,688 signed numbers of 8 bytes,
+ * little endian. petlumas_fresh makes a register of any bytes.
+ *
+ * Each function returns a refusal: 0 where the call was entered or answered,
+ * else the lowest number of this list that applies. After a refusal the
+ * register is as it was.
+ *
+ *    1  the register is too short or (petlumas_fresh aside) unsound
+ *    2  a number out of range, no such date, from after to, to not before the
+ *       gas day, more than 400 days, or a buffer other than the register too
+ *       short
+ *    3  the holidays are more than 512, or not strictly ascending, or one is
+ *       no day
+ *    4  the MIRN is unknown
+ *    5  the MIRN is open already
+ *    6  a non-daily record needs start < end, a daily one start = end
+ *    7  start is neither the start of a standing record nor the append day
+ *    8  a day from start to end is off
+ *    9  the energy is beyond the range of the point's kind, and not confirmed
+ *   10  a request is pending
+ *   11  no request of that User is pending
+ *   12  the User is the latest registered already
+ *   13  the allowable period leaves the days 0 to 39,999
+ *   14  off while off, on while on, or a day that is too early
+ *   15  there is nothing to split the load by
+ *   16  no room: 33rd point, 49th record, 9th off span, 9th registration
+ *
+ * The answer is the refusal and then the fields that a function names, 8 bytes
+ * each, little endian. It is written on a refusal too, with every field 0. An
+ * answer buffer shorter than the function's PETLUMAS_.._ANSWER_BYTES is the one
+ * exception: then no buffer is written, and the result is 2, or 1 where the
+ * register gets 1.
+ *
+ * Bytes of a buffer past those named here are never read or written.
+ *
+ * A day is 0 to 39,999, from 1 January 1970 to 7 July 2079. A MIRN is 1 to
+ * 9,999,999,999, a User 1 to 16, a kind 0 (non-daily) or 1 (daily metered), a
+ * type 0 (actual), 1 (estimated) or 2 (substituted), a yes 1 and a no 0. Energy
+ * is in whole MJ, -1,000,000 to 1,000,000. Any other number gets its refusal.
+ *
+ * What the caller owes, since no proof can see it:
+ *   - A pointer is not null and has as many bytes behind it as its length says.
+ *   - The buffers of one call do not overlap, and no other thread touches them
+ *     meanwhile. There are no globals, so calls on different buffers may run at
+ *     the same time.
+ *   - The thread has 80 KiB of stack left. Nothing is allocated.
+ */
+#ifndef PETLUMAS_H
+#define PETLUMAS_H
+
+#include <stddef.h>
+#include <stdint.h>
+
+#define PETLUMAS_REGISTER_BYTES 61504
+
+#define PETLUMAS_FRESH_ANSWER_BYTES 8
+#define PETLUMAS_OPEN_ANSWER_BYTES 8
+#define PETLUMAS_ENERGY_ANSWER_BYTES 40
+#define PETLUMAS_STATUS_ANSWER_BYTES 8
+#define PETLUMAS_REQUEST_ANSWER_BYTES 24
+#define PETLUMAS_WITHDRAW_ANSWER_BYTES 8
+#define PETLUMAS_ACCOUNT_ANSWER_BYTES 16
+#define PETLUMAS_ALLOCATE_ANSWER_BYTES 144
+#define PETLUMAS_DATE_ANSWER_BYTES 16
+
+#define PETLUMAS_ALLOCATE_TABLE_BYTES 256
+
+#ifdef __cplusplus
+#define PETLUMAS_RESTRICT __restrict
+extern "C" {
+#else
+#define PETLUMAS_RESTRICT restrict
+#endif
+
+/* Makes a register with no points.
+ * nondaily, daily: the validation ranges of the two kinds, 0 to 1,000,000, or
+ *   -1 for no range.
+ * Answer: no field.
+ * Refusals: 1 (too short only), 2. */
+int64_t petlumas_fresh(uint8_t *PETLUMAS_RESTRICT reg, size_t reg_len,
+                       uint8_t *PETLUMAS_RESTRICT answer, size_t answer_len,
+                       int64_t nondaily, int64_t daily);
+
+/* Opens a point.
+ * mirn, kind, user, install: the point, its User and its first day.
+ * base: the base load, 0 to 10,000, or -1 for 1,000.
+ * Answer: no field.
+ * Refusals: 1, 2, 5, 16. */
+int64_t petlumas_open(uint8_t *PETLUMAS_RESTRICT reg, size_t reg_len,
+                      uint8_t *PETLUMAS_RESTRICT answer, size_t answer_len,
+                      int64_t mirn, int64_t kind, int64_t user,
+                      int64_t install, int64_t base);
+
+/* Enters an energy record, and settles a pending request by its end.
+ * mirn, start, end, energy, quality: the record; quality is its type.
+ * confirmed: yes lets an energy beyond the range pass.
+ * Answer: which it was (1 append, 2 replacement, 3 recut), how many later
+ *   records it removed, the User registered or 0, whether a request lapsed.
+ * Refusals: 1, 2, 4, 6, 7, 8, 9, 16. */
+int64_t petlumas_energy(uint8_t *PETLUMAS_RESTRICT reg, size_t reg_len,
+                        uint8_t *PETLUMAS_RESTRICT answer, size_t answer_len,
+                        int64_t mirn, int64_t start, int64_t end,
+                        int64_t energy, int64_t quality, int64_t confirmed);
+
+/* Says from which day on a point is off (de-energised), or on again.
+ * mirn, day: the point and that day.
+ * on: 0 off, 1 on.
+ * Answer: no field.
+ * Refusals: 1, 2, 4, 14, 16. */
+int64_t petlumas_status(uint8_t *PETLUMAS_RESTRICT reg, size_t reg_len,
+                        uint8_t *PETLUMAS_RESTRICT answer, size_t answer_len,
+                        int64_t mirn, int64_t day, int64_t on);
+
+/* Requests a transfer of a point to a User.
+ * holidays: days, 8 bytes each, strictly ascending, at most 512; a length of 0
+ *   means weekends only, and bytes that make no whole number are not read.
+ * mirn, user, proposed: the point, the User and the proposed day.
+ * nochange: whether a no-change statement comes with it.
+ * Answer: the first and the last day of the allowable period.
+ * Refusals: 1, 2, 3, 4, 10, 12, 13, 16. */
+int64_t petlumas_request(uint8_t *PETLUMAS_RESTRICT reg, size_t reg_len,
+                         const uint8_t *PETLUMAS_RESTRICT holidays,
+                         size_t holidays_len,
+                         uint8_t *PETLUMAS_RESTRICT answer, size_t answer_len,
+                         int64_t mirn, int64_t user, int64_t proposed,
+                         int64_t nochange);
+
+/* Withdraws a User's pending request.
+ * mirn, user: the point and the User.
+ * Answer: no field.
+ * Refusals: 1, 2, 4, 11. */
+int64_t petlumas_withdraw(uint8_t *PETLUMAS_RESTRICT reg, size_t reg_len,
+                          uint8_t *PETLUMAS_RESTRICT answer, size_t answer_len,
+                          int64_t mirn, int64_t user);
+
+/* Sums a User's energy.
+ * user, from, to: the User, and the first and the last day.
+ * Answer: the sum of the shares of those days, in MJ.
+ * Refusals: 1, 2. */
+int64_t petlumas_account(const uint8_t *PETLUMAS_RESTRICT reg, size_t reg_len,
+                         uint8_t *PETLUMAS_RESTRICT answer, size_t answer_len,
+                         int64_t user, int64_t from, int64_t to);
+
+/* Splits a gas day's net section load among the points.
+ * table: PETLUMAS_ALLOCATE_TABLE_BYTES bytes or more. Where the result is 0
+ *   its first 32 numbers are the points' loads in order of opening, 0 past the
+ *   last point; else it is as it was.
+ * gasday: the gas day.
+ * from, to: the days that weigh the points, before the gas day, at most 400.
+ * tdq: the gas injected, 0 to 1,000,000,000.
+ * uag, clp: unaccounted gas and linepack change, within 1,000,000,000 of 0.
+ * Answer: the net section load, then the totals of the Users 1 to 16.
+ * Refusals: 1, 2 (a table too short included), 15. */
+int64_t petlumas_allocate(const uint8_t *PETLUMAS_RESTRICT reg, size_t reg_len,
+                          uint8_t *PETLUMAS_RESTRICT answer, size_t answer_len,
+                          uint8_t *PETLUMAS_RESTRICT table, size_t table_len,
+                          int64_t gasday, int64_t from, int64_t to,
+                          int64_t tdq, int64_t uag, int64_t clp);
+
+/* Turns a date into a day. It needs no register.
+ * year, month, day: a date from 1 January 1970 to 7 July 2079.
+ * Answer: the day.
+ * Refusals: 2. */
+int64_t petlumas_date(uint8_t *PETLUMAS_RESTRICT answer, size_t answer_len,
+                      int64_t year, int64_t month, int64_t day);
+
+#ifdef __cplusplus
+}
+#endif
+
+#endif
