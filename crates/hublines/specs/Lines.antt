@@ -1,0 +1,93 @@
+-- What each call of a journal on bytes does on the numbers of its line. The first of them are the lengths of the buffers that
+-- it lends: the register's first bytes, and others whose every byte is 0xAA (170). A line with another count of numbers or
+-- with a length out of range is no call.
+use mathlib.Core.Bool.{Bool, cond, _&&_}
+use mathlib.Core.List.{List, [], _∷_, _++_}
+use mathlib.Core.Option.{Option, none, some}
+use mathlib.Core.Path.{_≡_}
+use Prim.Native.Nat.{ℕ, _+_, _/_, _≤_}
+use lib.Dec.{eqb, leb}
+use lib.IntN.{ℤ}
+use lib.ListN.{length, take, drop, replicate}
+use Rattle.numbers.specs.Naturals.{natOf}
+use Rattle.numbers.specs.Search.{maybe}
+use Rattle.words.specs.Tables.{decodedInto, encodedInto}
+use Rattle.energy.specs.Energy.{energyCall}
+use Rattle.account.specs.Account.{accountCall}
+use Rattle.allocate.specs.Allocate.{allocateCall}
+use Rattle.buffers.specs.Buffers.{tableIn, replied, written}
+use Rattle.printing.specs.Rows.{textOf, hexOf, Printed}
+use Rattle.answers.specs.Lines.{num, energyOf}
+use Rattle.queries.specs.Lines.{accountQueryOf, allocationQueryOf}
+
+-- The text that is printed, and the register's buffer after it.
+abbrev pub Outcome : Type 0
+Outcome = Option (List ℕ × List ℤ)
+
+-- A buffer's length, number i of a line.
+abbrev pub size : List ℤ → ℕ → ℕ
+size xs i = natOf (num xs i)
+
+-- The 7,704 numbers of the register's buffer as bytes, written over b; and back.
+abbrev pub encoded : List ℤ → List ℕ → List ℕ
+encoded t b = encodedInto b 0 t 0 7704
+
+abbrev pub decoded : List ℕ → List ℤ → List ℤ
+decoded b t = decodedInto t 0 b 0 7704
+
+-- The result and the answer's bytes; and, for an allocation, the answer table's.
+unfoldable pub shown : ℤ → List ℕ → List ℕ
+shown r answer = textOf r ++ (32 ∷ (hexOf answer ++ (10 ∷ [])))
+
+unfoldable pub shownBoth : ℤ → List ℕ → List ℕ → List ℕ
+shownBoth r answer shares = textOf r ++ (32 ∷ (hexOf answer ++ (32 ∷ (hexOf shares ++ (10 ∷ [])))))
+
+-- What a call prints and leaves, where b are the bytes of the register's buffer t.
+unfoldable pub energyDone : List ℕ → List ℕ → List ℤ → List ℤ → List ℕ × List ℤ
+energyDone b answer t xs =
+    let lent : List ℕ = take (size xs 0) b in
+    let w : ℤ × (List ℕ × List ℕ) = written (energyCall (tableIn lent) (energyOf (drop 2 xs))) lent answer in
+    (shown (w .0) (w .1 .1), decoded (w .1 .0 ++ drop (size xs 0) b) t)
+
+unfoldable pub accountDone : List ℕ → List ℕ → List ℤ → List ℤ → List ℕ × List ℤ
+accountDone b answer t xs =
+    let w : ℤ × List ℕ = replied (accountCall (tableIn (take (size xs 0) b)) (accountQueryOf (drop 2 xs))) answer in
+    (shown (w .0) (w .1), t)
+
+unfoldable pub allocateDone : List ℕ → List ℕ → List ℕ → List ℤ → List ℤ → List ℕ × List ℤ
+allocateDone b answer shares t xs =
+    let w : ℤ × (List ℕ × List ℕ) = written (allocateCall (tableIn (take (size xs 0) b)) (allocationQueryOf (drop 3 xs)) (length shares / 8)) shares answer in
+    (shownBoth (w .0) (w .1 .1) (w .1 .0), t)
+
+-- ---- the lines
+
+-- The register's bytes of a call, and its other buffers.
+unfoldable pub bytesOf : List ℤ → List ℕ
+bytesOf t = encoded t (replicate 61632 0)
+
+unfoldable pub buffer : ℕ → List ℕ
+buffer n = replicate n 170
+
+unfoldable pub energyLine : List ℤ → List ℤ → Outcome
+energyLine t xs =
+    cond (eqb (length xs) 8 && (leb (size xs 0) 61632 && leb (size xs 1) 300))
+    (some (energyDone (bytesOf t) (buffer (size xs 1)) t xs))
+    none
+
+unfoldable pub accountLine : List ℤ → List ℤ → Outcome
+accountLine t xs =
+    cond (eqb (length xs) 5 && (leb (size xs 0) 61632 && leb (size xs 1) 300))
+    (some (accountDone (bytesOf t) (buffer (size xs 1)) t xs))
+    none
+
+unfoldable pub allocateLine : List ℤ → List ℤ → Outcome
+allocateLine t xs =
+    cond (eqb (length xs) 9 && (leb (size xs 0) 61632 && (leb (size xs 1) 300 && leb (size xs 2) 300)))
+    (some (allocateDone (bytesOf t) (buffer (size xs 1)) (buffer (size xs 2)) t xs))
+    none
+
+-- The outcome is in the register's buffer and in the output, which has room for 2,048 bytes.
+pub record Shown (o : Outcome) (t : List ℤ) (out : List ℕ) (at : ℕ) (t' : List ℤ) (out' : List ℕ) (r : ℕ) : Type 0 where
+  pub room : r ≤ at + 2048
+  pub left : t' ≡ maybe t (λ p. p .1) o
+  pub text : Printed out at (maybe [] (λ p. p .0) o) out' r

@@ -1,0 +1,62 @@
+// The calls of a journal on bytes, as the hub makes them. The numbers of the register's buffer are encoded, the exported
+// function is lent the first of those bytes and other buffers, of the lengths that the line says, and the register's bytes are
+// decoded again. The result is printed, and then the buffers.
+ghost use mathlib.Core.List.{_∷_, []};
+ghost use mathlib.Core.Path.{_≡_};
+ghost use Prim.Native.Nat.{_+_, _*_, _/_, _≤_};
+ghost use lib.ListN.{length, take};
+ghost use Rattle.energy.specs.Energy.{energyCall};
+ghost use Rattle.account.specs.Account.{accountCall};
+ghost use Rattle.allocate.specs.Allocate.{allocateCall};
+ghost use Rattle.buffers.specs.Buffers.{tableIn, replied, written};
+ghost use Rattle.printing.specs.Rows.{Printed};
+ghost use Rattle.answers.specs.Lines.{energyOf};
+ghost use Rattle.queries.specs.Lines.{accountQueryOf, allocationQueryOf};
+ghost use Rattle.hublines.specs.Lines.{size, encoded, shown, shownBoth, energyDone, accountDone, allocateDone, energyLine, accountLine, allocateLine, Shown};
+use journal::Call;
+use printing::put_bytes;
+use printing::put_signed;
+
+// The result and the answer's bytes.
+fn print(out: &mut [u8], at: usize, result: i64, answer: &[u8]) -> usize
+    requires { ⌜ (at + 2048 ≤ length (now out)) × (length (now answer) ≤ 300) ⌝ }
+    ensures { λ r. ⌜ (r ≤ at + 2048) × Printed (now (out .entry)) at (shown result (now (answer .entry))) (now (out .exit)) r ⌝ }
+{
+    let end = put_signed(out, at, result, b' ');
+    put_bytes(out, end, answer, b'\n')
+}
+
+// And the answer table's.
+fn print_both(out: &mut [u8], at: usize, result: i64, answer: &[u8], shares: &[u8]) -> usize
+    requires { ⌜ (at + 2048 ≤ length (now out)) × (length (now answer) ≤ 300) × (length (now shares) ≤ 300) ⌝ }
+    ensures { λ r. ⌜ (r ≤ at + 2048) × Printed (now (out .entry)) at (shownBoth result (now (answer .entry)) (now (shares .entry))) (now (out .exit)) r ⌝ }
+{
+    let end = put_signed(out, at, result, b' ');
+    let next = put_bytes(out, end, answer, b' ');
+    put_bytes(out, next, shares, b'\n')
+}
+
+fn call_energy(register: &mut [u8], answer: &mut [u8], nums: &[i64]) -> i64
+    requires { ⌜ 6 ≤ length (now nums) ⌝ }
+    ensures { λ r. ⌜ (r, (now (register .exit), now (answer .exit))) ≡ written (energyCall (tableIn (now (register .entry))) (energyOf (now (nums .entry)))) (now (register .entry)) (now (answer .entry)) ⌝ }
+{
+    hub::petlumas_energy(
+        register, answer, nums[0], nums[1], nums[2], nums[3], nums[4], nums[5],
+    )
+}
+
+fn call_account(register: &[u8], answer: &mut [u8], nums: &[i64]) -> i64
+    requires { ⌜ 3 ≤ length (now nums) ⌝ }
+    ensures { λ r. ⌜ (r, now (answer .exit)) ≡ replied (accountCall (tableIn (now (register .entry))) (accountQueryOf (now (nums .entry)))) (now (answer .entry)) ⌝ }
+{
+    hub::petlumas_account(register, answer, nums[0], nums[1], nums[2])
+}
+
+fn call_allocate(register: &[u8], answer: &mut [u8], shares: &mut [u8], nums: &[i64]) -> i64
+    requires { ⌜ 6 ≤ length (now nums) ⌝ }
+    ensures { λ r. ⌜ (r, (now (shares .exit), now (answer .exit))) ≡ written (allocateCall (tableIn (now (register .entry))) (allocationQueryOf (now (nums .entry))) (length (now (shares .entry)) / 8)) (now (shares .entry)) (now (answer .entry)) ⌝ }
+{
+    hub::petlumas_allocate(
+        register, answer, shares, nums[0], nums[1], nums[2], nums[3], nums[4], nums[5],
+    )
+}
