@@ -1,2 +1,3 @@
 -- Laws of the calls on bytes.
 pub mod Texts
+pub mod Done

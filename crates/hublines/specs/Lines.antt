@@ -86,6 +86,14 @@ allocateLine t xs =
     (some (allocateDone (bytesOf t) (buffer (size xs 1)) (buffer (size xs 2)) t xs))
     none
 
+-- Buffers of which a line's first two numbers can be lent.
+pub record Lendable (t : List ℤ) (register answer : List ℕ) (xs : List ℤ) : Type 0 where
+  pub of-t : length t ≡ 7704
+  pub of-register : length register ≡ 61632
+  pub of-answer : length answer ≡ 300
+  pub first : size xs 0 ≤ 61632
+  pub second : size xs 1 ≤ 300
+
 -- The outcome is in the register's buffer and in the output, which has room for 2,048 bytes.
 pub record Shown (o : Outcome) (t : List ℤ) (out : List ℕ) (at : ℕ) (t' : List ℤ) (out' : List ℕ) (r : ℕ) : Type 0 where
   pub room : r ≤ at + 2048

@@ -2,6 +2,7 @@
 // function is lent the first of those bytes and other buffers, of the lengths that the line says, and the register's bytes are
 // decoded again. The result is printed, and then the buffers.
 ghost use mathlib.Core.List.{_∷_, []};
+ghost use mathlib.Core.Option.{some};
 ghost use mathlib.Core.Path.{_≡_};
 ghost use Prim.Native.Nat.{_+_, _*_, _/_, _≤_};
 ghost use lib.ListN.{length, take};
@@ -12,7 +13,7 @@ ghost use Rattle.buffers.specs.Buffers.{tableIn, replied, written};
 ghost use Rattle.printing.specs.Rows.{Printed};
 ghost use Rattle.answers.specs.Lines.{energyOf};
 ghost use Rattle.queries.specs.Lines.{accountQueryOf, allocationQueryOf};
-ghost use Rattle.hublines.specs.Lines.{size, encoded, shown, shownBoth, energyDone, accountDone, allocateDone, energyLine, accountLine, allocateLine, Shown};
+ghost use Rattle.hublines.specs.Lines.{size, encoded, shown, shownBoth, energyDone, accountDone, allocateDone, energyLine, accountLine, allocateLine, Lendable, Shown};
 use journal::Call;
 use printing::put_bytes;
 use printing::put_signed;
@@ -59,4 +60,67 @@ fn call_allocate(register: &[u8], answer: &mut [u8], shares: &mut [u8], nums: &[
     hub::petlumas_allocate(
         register, answer, shares, nums[0], nums[1], nums[2], nums[3], nums[4], nums[5],
     )
+}
+
+// The register's bytes are made in `register`, and the answer's buffer is the first of `answer`.
+fn energy_on(
+    t: &mut [i64],
+    register: &mut [u8],
+    answer: &mut [u8],
+    nums: &[i64],
+    out: &mut [u8],
+    at: usize,
+) -> usize
+    requires { ⌜ Lendable (now t) (now register) (now answer) (now nums) × (8 ≤ length (now nums)) × (at + 2048 ≤ length (now out)) ⌝ }
+    ensures { λ r. ⌜ Shown (some (energyDone (encoded (now (t .entry)) (now (register .entry))) (take (size (now (nums .entry)) 1) (now (answer .entry))) (now (t .entry)) (now (nums .entry)))) (now (t .entry)) (now (out .entry)) at (now (t .exit)) (now (out .exit)) r ⌝ }
+{
+    let n = numbers::get(nums, 0) as usize;
+    let m = numbers::get(nums, 1) as usize;
+    words::encode(t, 0, register, 0, 7704);
+    let result = call_energy(&mut register[0..n], &mut answer[0..m], &nums[2..]);
+    words::decode(register, 0, t, 0, 7704);
+    print(out, at, result, &answer[0..m])
+}
+
+fn account_on(
+    t: &[i64],
+    register: &mut [u8],
+    answer: &mut [u8],
+    nums: &[i64],
+    out: &mut [u8],
+    at: usize,
+) -> usize
+    requires { ⌜ Lendable (now t) (now register) (now answer) (now nums) × (5 ≤ length (now nums)) × (at + 2048 ≤ length (now out)) ⌝ }
+    ensures { λ r. ⌜ Shown (some (accountDone (encoded (now (t .entry)) (now (register .entry))) (take (size (now (nums .entry)) 1) (now (answer .entry))) (now (t .entry)) (now (nums .entry)))) (now (t .entry)) (now (out .entry)) at (now (t .entry)) (now (out .exit)) r ⌝ }
+{
+    let n = numbers::get(nums, 0) as usize;
+    let m = numbers::get(nums, 1) as usize;
+    words::encode(t, 0, register, 0, 7704);
+    let result = call_account(&register[0..n], &mut answer[0..m], &nums[2..]);
+    print(out, at, result, &answer[0..m])
+}
+
+fn allocate_on(
+    t: &[i64],
+    register: &mut [u8],
+    answer: &mut [u8],
+    shares: &mut [u8],
+    nums: &[i64],
+    out: &mut [u8],
+    at: usize,
+) -> usize
+    requires { ⌜ Lendable (now t) (now register) (now answer) (now nums) × (9 ≤ length (now nums)) × (length (now shares) ≡ 300) × (size (now nums) 2 ≤ 300) × (at + 2048 ≤ length (now out)) ⌝ }
+    ensures { λ r. ⌜ Shown (some (allocateDone (encoded (now (t .entry)) (now (register .entry))) (take (size (now (nums .entry)) 1) (now (answer .entry))) (take (size (now (nums .entry)) 2) (now (shares .entry))) (now (t .entry)) (now (nums .entry)))) (now (t .entry)) (now (out .entry)) at (now (t .entry)) (now (out .exit)) r ⌝ }
+{
+    let n = numbers::get(nums, 0) as usize;
+    let m = numbers::get(nums, 1) as usize;
+    let k = numbers::get(nums, 2) as usize;
+    words::encode(t, 0, register, 0, 7704);
+    let result = call_allocate(
+        &register[0..n],
+        &mut answer[0..m],
+        &mut shares[0..k],
+        &nums[3..],
+    );
+    print_both(out, at, result, &answer[0..m], &shares[0..k])
 }
