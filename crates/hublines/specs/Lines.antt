@@ -12,6 +12,8 @@ use lib.ListN.{length, take, drop, replicate}
 use Rattle.numbers.specs.Naturals.{natOf}
 use Rattle.numbers.specs.Search.{maybe}
 use Rattle.words.specs.Tables.{decodedInto, encodedInto}
+use Rattle.journal.specs.declared.Call.{Call}
+use Rattle.journal.specs.declared.Call.the-variants.{Fresh, Open, Energy, Status, Request, Withdraw, Account, Allocate, Date, Look, Table, Poke, Lend, Room, Hub, Unknown}
 use Rattle.energy.specs.Energy.{energyCall}
 use Rattle.account.specs.Account.{accountCall}
 use Rattle.allocate.specs.Allocate.{allocateCall}
@@ -68,23 +70,39 @@ bytesOf t = encoded t (replicate 61632 0)
 unfoldable pub buffer : ℕ → List ℕ
 buffer n = replicate n 170
 
+-- The call of a line that has k numbers, of which the first two are lengths.
+abbrev pub lending : ℕ → List ℤ → List ℕ × List ℤ → Outcome
+lending k xs o = cond (eqb (length xs) k && (leb (size xs 0) 61632 && leb (size xs 1) 300)) (some o) none
+
 unfoldable pub energyLine : List ℤ → List ℤ → Outcome
-energyLine t xs =
-    cond (eqb (length xs) 8 && (leb (size xs 0) 61632 && leb (size xs 1) 300))
-    (some (energyDone (bytesOf t) (buffer (size xs 1)) t xs))
-    none
+energyLine t xs = lending 8 xs (energyDone (bytesOf t) (buffer (size xs 1)) t xs)
 
 unfoldable pub accountLine : List ℤ → List ℤ → Outcome
-accountLine t xs =
-    cond (eqb (length xs) 5 && (leb (size xs 0) 61632 && leb (size xs 1) 300))
-    (some (accountDone (bytesOf t) (buffer (size xs 1)) t xs))
-    none
+accountLine t xs = lending 5 xs (accountDone (bytesOf t) (buffer (size xs 1)) t xs)
 
+-- An allocation's third number is a length too.
 unfoldable pub allocateLine : List ℤ → List ℤ → Outcome
 allocateLine t xs =
-    cond (eqb (length xs) 9 && (leb (size xs 0) 61632 && (leb (size xs 1) 300 && leb (size xs 2) 300)))
-    (some (allocateDone (bytesOf t) (buffer (size xs 1)) (buffer (size xs 2)) t xs))
-    none
+    cond (leb (size xs 2) 300) (lending 9 xs (allocateDone (bytesOf t) (buffer (size xs 1)) (buffer (size xs 2)) t xs)) none
+
+-- The call that the word after `hub` names.
+abbrev pub hubLine : Call → List ℤ → List ℤ → Outcome
+hubLine Fresh t xs = none
+hubLine Open t xs = none
+hubLine Energy t xs = energyLine t xs
+hubLine Status t xs = none
+hubLine Request t xs = none
+hubLine Withdraw t xs = none
+hubLine Account t xs = accountLine t xs
+hubLine Allocate t xs = allocateLine t xs
+hubLine Date t xs = none
+hubLine Look t xs = none
+hubLine Table t xs = none
+hubLine Poke t xs = none
+hubLine Lend t xs = none
+hubLine Room t xs = none
+hubLine Hub t xs = none
+hubLine Unknown t xs = none
 
 -- Buffers of which a line's first two numbers can be lent.
 pub record Lendable (t : List ℤ) (register answer : List ℕ) (xs : List ℤ) : Type 0 where

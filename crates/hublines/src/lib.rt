@@ -13,7 +13,7 @@ ghost use Rattle.buffers.specs.Buffers.{tableIn, replied, written};
 ghost use Rattle.printing.specs.Rows.{Printed};
 ghost use Rattle.answers.specs.Lines.{energyOf};
 ghost use Rattle.queries.specs.Lines.{accountQueryOf, allocationQueryOf};
-ghost use Rattle.hublines.specs.Lines.{size, encoded, shown, shownBoth, energyDone, accountDone, allocateDone, energyLine, accountLine, allocateLine, Lendable, Shown};
+ghost use Rattle.hublines.specs.Lines.{size, encoded, shown, shownBoth, energyDone, accountDone, allocateDone, energyLine, accountLine, allocateLine, hubLine, Lendable, Shown};
 use journal::Call;
 use printing::put_bytes;
 use printing::put_signed;
@@ -42,7 +42,14 @@ fn call_energy(register: &mut [u8], answer: &mut [u8], nums: &[i64]) -> i64
     ensures { λ r. ⌜ (r, (now (register .exit), now (answer .exit))) ≡ written (energyCall (tableIn (now (register .entry))) (energyOf (now (nums .entry)))) (now (register .entry)) (now (answer .entry)) ⌝ }
 {
     hub::petlumas_energy(
-        register, answer, nums[0], nums[1], nums[2], nums[3], nums[4], nums[5],
+        register,
+        answer,
+        nums[0],
+        nums[1],
+        nums[2],
+        nums[3],
+        nums[4],
+        nums[5],
     )
 }
 
@@ -58,7 +65,15 @@ fn call_allocate(register: &[u8], answer: &mut [u8], shares: &mut [u8], nums: &[
     ensures { λ r. ⌜ (r, (now (shares .exit), now (answer .exit))) ≡ written (allocateCall (tableIn (now (register .entry))) (allocationQueryOf (now (nums .entry))) (length (now (shares .entry)) / 8)) (now (shares .entry)) (now (answer .entry)) ⌝ }
 {
     hub::petlumas_allocate(
-        register, answer, shares, nums[0], nums[1], nums[2], nums[3], nums[4], nums[5],
+        register,
+        answer,
+        shares,
+        nums[0],
+        nums[1],
+        nums[2],
+        nums[3],
+        nums[4],
+        nums[5],
     )
 }
 
@@ -123,4 +138,75 @@ fn allocate_on(
         &nums[3..],
     );
     print_both(out, at, result, &answer[0..m], &shares[0..k])
+}
+
+fn energy(t: &mut [i64], nums: &[i64], out: &mut [u8], at: usize) -> usize
+    requires { ⌜ (length (now t) ≡ 7704) × (at + 2048 ≤ length (now out)) ⌝ }
+    ensures { λ r. ⌜ Shown (energyLine (now (t .entry)) (now (nums .entry))) (now (t .entry)) (now (out .entry)) at (now (t .exit)) (now (out .exit)) r ⌝ }
+{
+    if nums.len() != 8 {
+        return at;
+    }
+    if 61632 < numbers::get(nums, 0) {
+        return at;
+    }
+    if 300 < numbers::get(nums, 1) {
+        return at;
+    }
+    let mut register = [0u8; 61632];
+    let mut answer = [0xAAu8; 300];
+    energy_on(t, &mut register, &mut answer, nums, out, at)
+}
+
+fn account(t: &[i64], nums: &[i64], out: &mut [u8], at: usize) -> usize
+    requires { ⌜ (length (now t) ≡ 7704) × (at + 2048 ≤ length (now out)) ⌝ }
+    ensures { λ r. ⌜ Shown (accountLine (now (t .entry)) (now (nums .entry))) (now (t .entry)) (now (out .entry)) at (now (t .entry)) (now (out .exit)) r ⌝ }
+{
+    if nums.len() != 5 {
+        return at;
+    }
+    if 61632 < numbers::get(nums, 0) {
+        return at;
+    }
+    if 300 < numbers::get(nums, 1) {
+        return at;
+    }
+    let mut register = [0u8; 61632];
+    let mut answer = [0xAAu8; 300];
+    account_on(t, &mut register, &mut answer, nums, out, at)
+}
+
+fn allocate(t: &[i64], nums: &[i64], out: &mut [u8], at: usize) -> usize
+    requires { ⌜ (length (now t) ≡ 7704) × (at + 2048 ≤ length (now out)) ⌝ }
+    ensures { λ r. ⌜ Shown (allocateLine (now (t .entry)) (now (nums .entry))) (now (t .entry)) (now (out .entry)) at (now (t .entry)) (now (out .exit)) r ⌝ }
+{
+    if nums.len() != 9 {
+        return at;
+    }
+    if 61632 < numbers::get(nums, 0) {
+        return at;
+    }
+    if 300 < numbers::get(nums, 1) {
+        return at;
+    }
+    if 300 < numbers::get(nums, 2) {
+        return at;
+    }
+    let mut register = [0u8; 61632];
+    let mut answer = [0xAAu8; 300];
+    let mut shares = [0xAAu8; 300];
+    allocate_on(t, &mut register, &mut answer, &mut shares, nums, out, at)
+}
+
+// The call that the word after `hub` names.
+pub fn answer(call: Call, t: &mut [i64], nums: &[i64], out: &mut [u8], at: usize) -> usize
+    requires { ⌜ (length (now t) ≡ 7704) × (at + 2048 ≤ length (now out)) ⌝ }
+    ensures { λ r. ⌜ Shown (hubLine call (now (t .entry)) (now (nums .entry))) (now (t .entry)) (now (out .entry)) at (now (t .exit)) (now (out .exit)) r ⌝ }
+{
+    match call {
+        Call::Energy => energy(t, nums, out, at),
+        Call::Account => account(t, nums, out, at),
+        Call::Allocate => allocate(t, nums, out, at),
+        _ => at,
+    }
 }
