@@ -8,14 +8,14 @@ use lib.ListN.{take, drop, take-append-drop}
 use types.Run.{OneOf, miss}
 use denote.Enum.Declared.{tagOf}
 use Rattle.journal.specs.declared.Call.{Call}
-use Rattle.journal.specs.declared.Call.the-variants.{Fresh, Open, Energy, Status, Request, Withdraw, Account, Allocate, Date, Look, Table, Poke, Lend, Room, Unknown}
+use Rattle.journal.specs.declared.Call.the-variants.{Fresh, Open, Energy, Status, Request, Withdraw, Account, Allocate, Date, Look, Table, Poke, Lend, Room, Hub, Unknown}
 use Rattle.journal.proofs.Call.{the-type}
 use Rattle.answers.specs.Lines.{Outcome, Played}
 use Rattle.dispatch.specs.Calls.{noticeLine, onLent, callLine}
 
 -- the numbers of the calls that are no notices
 abbrev others : List ℕ
-others = 6 ∷ 7 ∷ 8 ∷ 9 ∷ 10 ∷ 11 ∷ 12 ∷ 13 ∷ 14 ∷ []
+others = 6 ∷ 7 ∷ 8 ∷ 9 ∷ 10 ∷ 11 ∷ 12 ∷ 13 ∷ 14 ∷ 15 ∷ []
 
 pub no-notice : (call : Call) (t xs : List ℤ) → OneOf others (tagOf the-type call) → noticeLine call t xs ≡ none
 no-notice Fresh t xs k = absurd (miss others 0 tt k)
@@ -32,6 +32,7 @@ no-notice Table t xs k = refl
 no-notice Poke t xs k = refl
 no-notice Lend t xs k = refl
 no-notice Room t xs k = refl
+no-notice Hub t xs k = refl
 no-notice Unknown t xs k = refl
 
 -- an outcome on the first numbers of a buffer is one on the buffer
@@ -48,7 +49,7 @@ on-lent-kept t lent o p =
 
 -- the numbers of the calls that go on to the notices
 abbrev lent-on : List ℕ
-lent-on = 0 ∷ 1 ∷ 2 ∷ 3 ∷ 4 ∷ 5 ∷ 12 ∷ 13 ∷ 14 ∷ []
+lent-on = 0 ∷ 1 ∷ 2 ∷ 3 ∷ 4 ∷ 5 ∷ 12 ∷ 13 ∷ 14 ∷ 15 ∷ []
 
 pub goes-on : (call : Call) (t : List ℤ) (lent room : ℕ) (xs : List ℤ) → OneOf lent-on (tagOf the-type call) → callLine call t lent room xs ≡ onLent t lent (noticeLine call (take lent t) xs)
 goes-on Fresh t lent room xs k = refl
@@ -65,4 +66,5 @@ goes-on Table t lent room xs k = absurd (miss lent-on 10 tt k)
 goes-on Poke t lent room xs k = absurd (miss lent-on 11 tt k)
 goes-on Lend t lent room xs k = refl
 goes-on Room t lent room xs k = refl
+goes-on Hub t lent room xs k = refl
 goes-on Unknown t lent room xs k = refl

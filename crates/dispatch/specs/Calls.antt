@@ -6,7 +6,7 @@ use lib.IntN.{ℤ}
 use lib.ListN.{take, drop}
 use Rattle.numbers.specs.Search.{maybe}
 use Rattle.journal.specs.declared.Call.{Call}
-use Rattle.journal.specs.declared.Call.the-variants.{Fresh, Open, Energy, Status, Request, Withdraw, Account, Allocate, Date, Look, Table, Poke, Lend, Room, Unknown}
+use Rattle.journal.specs.declared.Call.the-variants.{Fresh, Open, Energy, Status, Request, Withdraw, Account, Allocate, Date, Look, Table, Poke, Lend, Room, Hub, Unknown}
 use Rattle.answers.specs.Lines.{Outcome, freshLine, openLine, energyLine, statusLine, requestLine, withdrawLine}
 use Rattle.queries.specs.Lines.{accountLine, allocateLine, dateLine, lookLine, pokeLine, tableLine}
 
@@ -26,13 +26,14 @@ noticeLine Table t xs = none
 noticeLine Poke t xs = none
 noticeLine Lend t xs = none
 noticeLine Room t xs = none
+noticeLine Hub t xs = none
 noticeLine Unknown t xs = none
 
 -- The outcome on the first numbers of a buffer is one on the buffer: the others stay.
 abbrev pub onLent : List ℤ → ℕ → Outcome → Outcome
 onLent t lent o = maybe none (λ p. some (p .0, p .1 ++ drop lent t)) o
 
--- Any call but tlen and alen, on a buffer of which the first numbers are lent, with an answer table of `room` numbers.
+-- Any call but tlen, alen and those on bytes, on a buffer of which the first numbers are lent, with an answer table of `room` numbers.
 abbrev pub callLine : Call → List ℤ → ℕ → ℕ → List ℤ → Outcome
 callLine Fresh t lent room xs = onLent t lent (freshLine (take lent t) xs)
 callLine Open t lent room xs = onLent t lent (openLine (take lent t) xs)
@@ -48,4 +49,5 @@ callLine Table t lent room xs = tableLine t xs
 callLine Poke t lent room xs = pokeLine t xs
 callLine Lend t lent room xs = none
 callLine Room t lent room xs = none
+callLine Hub t lent room xs = none
 callLine Unknown t lent room xs = none

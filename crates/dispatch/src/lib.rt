@@ -21,7 +21,7 @@ fn notice(call: Call, t: &mut [i64], nums: &[i64], out: &mut [u8], at: usize) ->
     }
 }
 
-// Any call but tlen and alen. Poke and table reach the whole buffer.
+// Any call but tlen, alen and those on bytes. Poke and table reach the whole buffer.
 pub fn answer(
     call: Call,
     t: &mut [i64],

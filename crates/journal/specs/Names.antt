@@ -4,7 +4,7 @@ use mathlib.Core.List.{List, [], _∷_}
 use Prim.Native.Nat.{ℕ}
 use lib.Dec.{eqb}
 use Rattle.journal.specs.declared.Call.{Call}
-use Rattle.journal.specs.declared.Call.the-variants.{Fresh, Open, Energy, Status, Request, Withdraw, Account, Allocate, Date, Look, Table, Poke, Lend, Room, Unknown}
+use Rattle.journal.specs.declared.Call.the-variants.{Fresh, Open, Energy, Status, Request, Withdraw, Account, Allocate, Date, Look, Table, Poke, Lend, Room, Hub, Unknown}
 
 unfoldable pub sameBytes : List ℕ → List ℕ → Bool
 sameBytes [] [] = true
@@ -37,10 +37,11 @@ askedOf w =
     (pick (sameBytes w (116 ∷ 97 ∷ 98 ∷ 108 ∷ 101 ∷ [])) Table
     (noticeOf w))))))
 
--- poke, tlen, alen; else one of those above or none
+-- poke, tlen, alen, hub; else one of those above or none
 abbrev pub callOf : List ℕ → Call
 callOf w =
     (pick (sameBytes w (112 ∷ 111 ∷ 107 ∷ 101 ∷ [])) Poke
     (pick (sameBytes w (116 ∷ 108 ∷ 101 ∷ 110 ∷ [])) Lend
     (pick (sameBytes w (97 ∷ 108 ∷ 101 ∷ 110 ∷ [])) Room
-    (askedOf w))))
+    (pick (sameBytes w (104 ∷ 117 ∷ 98 ∷ [])) Hub
+    (askedOf w)))))

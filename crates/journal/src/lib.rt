@@ -5,7 +5,7 @@ ghost use lib.ListN.{length, drop};
 ghost use Rattle.journal.specs.Text.{isDigit, digitsOf, capped, nonNegative, negative as Text·negative, numberOf, valueOf, Skipped, Ended, wordsOf, numbersOf, readInto, countOf};
 ghost use Rattle.journal.specs.Names.{sameBytes, noticeOf, askedOf, callOf};
 
-// The calls of a journal. Lend is `tlen`, and Room is `alen`.
+// The calls of a journal. Lend is `tlen`, and Room is `alen`; the word after `hub` names a call on bytes.
 pub enum Call {
     Fresh,
     Open,
@@ -21,6 +21,7 @@ pub enum Call {
     Poke,
     Lend,
     Room,
+    Hub,
     Unknown,
 }
 
@@ -209,6 +210,9 @@ pub fn named(w: &[u8]) -> Call
     }
     if same(w, b"alen") {
         return Call::Room;
+    }
+    if same(w, b"hub") {
+        return Call::Hub;
     }
     asked(w)
 }

@@ -77,18 +77,61 @@ fn obey(call: Call, t: &mut [i64], nums: &[i64], out: &mut [u8], s: Standing) ->
     }
 }
 
+// The call that a word of a line names, and the word's end.
+struct Word {
+    call: Call,
+    end: usize,
+}
+
+fn first_word(line: &[u8], at: usize) -> Word
+    requires { ⌜ at ≤ length (now line) ⌝ }
+    ensures { λ r. ⌜ r .end ≤ length (now (line .entry)) ⌝ }
+{
+    let start = journal::skip(line, at);
+    let end = journal::word_end(line, start);
+    let call = journal::named(&line[start..end]);
+    Word { call, end }
+}
+
+// A call on bytes. The first word from at on names it.
+fn on_bytes(
+    t: &mut [i64],
+    line: &[u8],
+    at: usize,
+    nums: &mut [i64],
+    out: &mut [u8],
+    s: Standing,
+) -> Standing
+    requires { ⌜ Ready s × (at ≤ length (now line)) × (length (now t) ≡ 7704) × (length (now line) ≤ 8192) × (length (now nums) ≡ 4096) × (length (now out) ≡ 16384) ⌝ }
+    ensures { λ r. ⌜ Answered s r ⌝ }
+{
+    let word = first_word(line, at);
+    let end = word.end;
+    let call = word.call;
+    let Taken::Count(n) = journal::take_numbers(line, end, nums) else {
+        return s;
+    };
+    let from = s.at;
+    let mut r = s;
+    r.at = hublines::answer(call, t, &nums[0..n], out, from);
+    r
+}
+
 // A line that has a word. It is left alone, with no row, where it is no call.
 fn call(t: &mut [i64], line: &[u8], nums: &mut [i64], out: &mut [u8], s: Standing) -> Standing
     requires { ⌜ Ready s × (length (now t) ≡ 7704) × (length (now line) ≤ 8192) × (length (now nums) ≡ 4096) × (length (now out) ≡ 16384) ⌝ }
     ensures { λ r. ⌜ Answered s r ⌝ }
 {
-    let start = journal::skip(line, 0);
-    let end = journal::word_end(line, start);
+    let word = first_word(line, 0);
+    let end = word.end;
+    let call = word.call;
+    if let Call::Hub = call {
+        return on_bytes(t, line, end, nums, out, s);
+    }
     let Taken::Count(n) = journal::take_numbers(line, end, nums) else {
         return s;
     };
-    let named = journal::named(&line[start..end]);
-    obey(named, t, &nums[0..n], out, s)
+    obey(call, t, &nums[0..n], out, s)
 }
 
 // A line of at most 8,192 bytes, which is the next after those that have ended.

@@ -14,7 +14,7 @@ use lib.Seq.{drop-cons, take-suc, take-suc-set}
 use mir.Syntax.{w64}
 use mir.Val.{ofZ, SFits}
 use Rattle.io.specs.Digits.{Fewest, digits, glyph}
-use Rattle.printing.specs.Rows.{decimalWithin, decimalOf, textOf, ending, rowOf, unknownOf}
+use Rattle.printing.specs.Rows.{decimalWithin, decimalOf, textOf, ending, rowOf, unknownOf, digitsOf, hexOf}
 
 pub twenty : (n k : ℕ) → n < 2 ^ 64 → Fewest 10 1 n k → k ≤ 20
 twenty n k h f = go (leb k 20) refl
@@ -56,6 +56,13 @@ decimal-is n k h w = digits-within 20 k n (twenty n k h w) w
 
 pub one-more : (out shown : List ℕ) (end b : ℕ) → end < length out → take end out ≡ shown → take (end + 1) (set out end b) ≡ shown ++ (b ∷ [])
 one-more out shown end b h e = rw (add-one end, take-suc-set, e)
+
+pub two-more : (out before : List ℕ) (end x y : ℕ) → end + 1 < length out → take end out ≡ before → take (end + 2) (set (set out end x) (end + 1) y) ≡ before ++ (x ∷ y ∷ [])
+two-more out before end x y h e =
+    let n : end + 2 ≡ end + 1 + 1 = omega arith in
+    let l : end < length out = omega arith in
+    let m : end + 1 < length (set out end x) = simp length-set (omega arith) in
+    rw n (one-more (set out end x) (before ++ (x ∷ [])) (end + 1) y m (one-more out before end x l e) ∙ append-assoc before (x ∷ []) (y ∷ []))
 
 -- a number of k digits, copied, and the byte after it
 pub number-more : (out before text : List ℕ) (at k n after : ℕ) → at + k < length out → k ≡ length text → text ≡ decimalOf n → take (at + length text) out ≡ before ++ text → take (at + k + 1) (set out (at + k) after) ≡ before ++ (decimalOf n ++ (after ∷ []))
@@ -117,8 +124,24 @@ negative-is x out at m after h e = rw (← e, one-more out (take at out) at 45 h
 
 pub unknown-is : (out : List ℕ) (at line : ℕ) → at + 1 < length out → take (at + 2) (set (set out at 63) (at + 1) 32) ++ (decimalOf line ++ (10 ∷ [])) ≡ take at out ++ unknownOf line
 unfolding unknownOf
-unknown-is out at line h =
-    let n : at + 2 ≡ at + 1 + 1 = omega arith in
-    let l : at < length out = omega arith in
-    let m : at + 1 < length (set out at 63) = simp length-set (omega arith) in
-    rw (n, one-more (set out at 63) (take at out ++ (63 ∷ [])) (at + 1) 32 m (one-more out (take at out) at 63 l refl), append-assoc, append-assoc)
+unknown-is out at line h = rw (two-more out (take at out) at 63 32 h refl, append-assoc)
+
+-- ---- bytes in base sixteen
+
+pub digits-more : (out bytes shown : List ℕ) (i end x y : ℕ) → i < length bytes → end + 1 < length out → x ≡ glyph (getD bytes i 0 / 16) → y ≡ glyph (getD bytes i 0 % 16) → take end out ++ digitsOf (drop i bytes) ≡ shown → take (end + 2) (set (set out end x) (end + 1) y) ++ digitsOf (drop (i + 1) bytes) ≡ shown
+unfolding digitsOf
+digits-more out bytes shown i end x y h l p q e =
+    let at : digitsOf (drop i bytes) ≡ x ∷ y ∷ digitsOf (drop (i + 1) bytes) = rw (p, q, add-one i, drop-cons bytes i 0) in
+    rw (two-more out (take end out) end x y l refl, append-assoc) (rw at at e)
+
+pub digits-end : (bytes shown : List ℕ) (i : ℕ) → length bytes ≤ i → shown ++ digitsOf (drop i bytes) ≡ shown
+unfolding digitsOf
+digits-end bytes shown i h = rw (drop-of-length-le bytes h, append-nil)
+
+pub none-is : (bytes : List ℕ) → length bytes ≡ 0 → hexOf bytes ≡ 45 ∷ []
+none-is [] h = refl
+none-is (b ∷ bytes) h = absurd (omega arith)
+
+pub some-are : (bytes : List ℕ) → (length bytes ≡ 0 → ⊥) → hexOf bytes ≡ digitsOf bytes
+some-are [] h = absurd (h refl)
+some-are (b ∷ bytes) h = refl

@@ -1,4 +1,4 @@
--- Numbers and rows of numbers as text, lists of bytes.
+-- Numbers, rows of numbers and buffers as text, lists of bytes.
 use mathlib.Core.Bool.{cond}
 use mathlib.Core.List.{List, [], _∷_, _++_}
 use mathlib.Core.Path.{_≡_}
@@ -35,6 +35,16 @@ rowOf (x ∷ xs) = textOf x ++ (ending xs ∷ rowOf xs)
 -- What is printed for a line that is no call: `? ` and its number.
 unfoldable pub unknownOf : ℕ → List ℕ
 unknownOf line = 63 ∷ 32 ∷ (decimalOf line ++ (10 ∷ []))
+
+-- A byte is two digits in base sixteen.
+unfoldable pub digitsOf : List ℕ → List ℕ
+digitsOf [] = []
+digitsOf (b ∷ bs) = glyph (b / 16) ∷ glyph (b % 16) ∷ digitsOf bs
+
+-- A buffer's bytes; `-` (45) for an empty one.
+abbrev pub hexOf : List ℕ → List ℕ
+hexOf [] = 45 ∷ []
+hexOf (b ∷ bs) = digitsOf (b ∷ bs)
 
 -- The text stands in the output from at on, up to r, and what was printed before it stays.
 pub record Printed (out : List ℕ) (at : ℕ) (text out' : List ℕ) (r : ℕ) : Type 0 where

@@ -1,4 +1,4 @@
-// Rows of numbers as text. What is printed waits in the caller's buffer, from 0 to `at`.
+// Rows of numbers, and bytes, as text. What is printed waits in the caller's buffer, from 0 to `at`.
 ghost use mathlib.Core.List.{_∷_, [], _++_, map};
 ghost use mathlib.Core.Bool.{cond};
 ghost use mathlib.Core.Path.{_≡_};
@@ -6,7 +6,8 @@ ghost use Prim.Native.Nat.{_+_, _*_, _<_, _≤_};
 ghost use lib.Dec.{eqb};
 ghost use lib.IntN.{pos};
 ghost use lib.ListN.{length, take};
-ghost use Rattle.printing.specs.Rows.{decimalOf, textOf, rowOf, unknownOf, Printed};
+ghost use Rattle.io.specs.Digits.{glyph};
+ghost use Rattle.printing.specs.Rows.{decimalOf, textOf, rowOf, unknownOf, digitsOf, hexOf, Printed};
 
 fn copy(text: &[u8], out: &mut [u8], at: usize)
     requires { ⌜ at + length (now text) ≤ length (now out) ⌝ }
@@ -55,7 +56,7 @@ pub fn row(out: &mut [u8], at: usize, xs: &[u64]) -> usize
 }
 
 // A signed number, and the byte after it.
-fn put_signed(out: &mut [u8], at: usize, x: i64, after: u8) -> usize
+pub fn put_signed(out: &mut [u8], at: usize, x: i64, after: u8) -> usize
     requires { ⌜ at + 22 ≤ length (now out) ⌝ }
     ensures { λ r. ⌜ (r ≤ at + 22) × Printed (now (out .entry)) at (textOf x ++ (after ∷ [])) (now (out .exit)) r ⌝ }
 {
@@ -90,4 +91,41 @@ pub fn unknown(out: &mut [u8], at: usize, line: u64) -> usize
     out[at] = b'?';
     out[at + 1] = b' ';
     put(out, at + 2, line, b'\n')
+}
+
+fn digit(d: u8) -> u8
+    requires { ⌜ d < 16 ⌝ }
+    ensures { λ r. ⌜ r ≡ glyph d ⌝ }
+{
+    if d < 10 { 48 + d } else { 87 + d }
+}
+
+fn digits(out: &mut [u8], at: usize, bytes: &[u8]) -> usize
+    requires { ⌜ at + 2 * length (now bytes) ≤ length (now out) ⌝ }
+    ensures { λ r. ⌜ (r ≡ at + 2 * length (now (bytes .entry))) × (take r (now (out .exit)) ≡ take at (now (out .entry)) ++ digitsOf (now (bytes .entry))) ⌝ }
+{
+    let mut end = at;
+    let mut i = 0;
+    while i < bytes.len() {
+        out[end] = digit(bytes[i] / 16);
+        out[end + 1] = digit(bytes[i] % 16);
+        end += 2;
+        i += 1;
+    }
+    end
+}
+
+// Bytes in base sixteen, and the byte after them.
+pub fn put_bytes(out: &mut [u8], at: usize, bytes: &[u8], after: u8) -> usize
+    requires { ⌜ at + 2 * length (now bytes) + 2 ≤ length (now out) ⌝ }
+    ensures { λ r. ⌜ (r ≤ at + 2 * length (now (bytes .entry)) + 2) × Printed (now (out .entry)) at (hexOf (now (bytes .entry)) ++ (after ∷ [])) (now (out .exit)) r ⌝ }
+{
+    if bytes.len() == 0 {
+        out[at] = b'-';
+        out[at + 1] = after;
+        return at + 2;
+    }
+    let end = digits(out, at, bytes);
+    out[end] = after;
+    end + 1
 }

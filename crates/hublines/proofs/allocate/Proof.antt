@@ -1,0 +1,68 @@
+use mathlib.Core.Path.{refl}
+use native.Mathlib.Omega.{arith}
+use Rattle.hublines.proofs.Lent.{nothing, miscounted, first-out, second-out, third-out, none-anyway, lent, allocate-outcome, allocate-lent}
+use borrow.Author.Needs.{needs}
+use Rattle.hublines.proofs.allocate.Statement.{statement}
+use Rattle.hublines.proofs.allocate.Tie as tie
+
+returns : tie.Need-returns
+returns c = nothing _ _ _ (none-anyway (c .before .before .args .t .now) (c .before .before .args .nums .now) (miscounted 9 (c .before .before .args .nums .now) (allocate-outcome (c .before .before .args .t .now) (c .before .before .args .nums .now)) (c .if1 .taken)))
+
+get-requires : tie.Need-get-requires
+get-requires c κs = search needs
+
+returns-2 : tie.Need-returns-2
+returns-2 c = nothing _ _ _ (none-anyway (c .before .before .before .before .args .t .now) (c .before .before .before .before .args .nums .now) (first-out 9 (c .before .before .before .before .args .nums .now) (allocate-outcome (c .before .before .before .before .args .t .now) (c .before .before .before .before .args .nums .now)) (c .before .get .result) (c .before .before .if1 .left) (c .before .get .ensures .0) (c .if2 .taken)))
+
+get-requires-2 : tie.Need-get-requires-2
+get-requires-2 c κs = search needs
+
+returns-3 : tie.Need-returns-3
+returns-3 c = nothing _ _ _ (none-anyway (c .before .before .before .before .before .before .args .t .now) (c .before .before .before .before .before .before .args .nums .now) (second-out 9 (c .before .before .before .before .before .before .args .nums .now) (allocate-outcome (c .before .before .before .before .before .before .args .t .now) (c .before .before .before .before .before .before .args .nums .now)) (c .before .before .before .get .result) (c .before .before .before .before .if1 .left) (c .before .before .before .get .ensures .0) (c .before .get2 .result) (c .before .before .if2 .left) (c .before .get2 .ensures .0) (c .if3 .taken)))
+
+get-requires-3 : tie.Need-get-requires-3
+get-requires-3 c κs = search needs
+
+returns-4 : tie.Need-returns-4
+returns-4 c = nothing _ _ _ (third-out (c .before .before .before .before .before .before .before .before .args .t .now) (c .before .before .before .before .before .before .before .before .args .nums .now) (c .before .get3 .result) (c .before .get3 .ensures .0) (c .if4 .taken))
+
+slice-aggregate-allocate-on : tie.Need-slice-aggregate-allocate-on
+slice-aggregate-allocate-on c = search needs
+
+slice-aggregate-allocate-on-2 : tie.Need-slice-aggregate-allocate-on-2
+slice-aggregate-allocate-on-2 c = search needs
+
+slice-aggregate-allocate-on-3 : tie.Need-slice-aggregate-allocate-on-3
+slice-aggregate-allocate-on-3 c = search needs
+
+allocate-on-requires : tie.Need-allocate-on-requires
+allocate-on-requires c κs = search needs
+
+same-length : tie.Need-same-length
+same-length c = search needs
+
+returns-5 : tie.Need-returns-5
+returns-5 c =
+    let a = c .before .before .before .before .before .before .before .before .before .before .before .before .before .before .before .before .before .before .args in
+    let n = c .before .before .before .before .before .before .before .before .before .before .before .before .before .before .before .get in
+    let m = c .before .before .before .before .before .before .before .before .before .before .before .before .before .get2 in
+    let k = c .before .before .before .before .before .before .before .before .before .before .before .get3 in
+    allocate-lent (a .t .now) _ (a .nums .now) _ _ refl refl (omega (arith, m .ensures .0, c .before .before .before .before .before .before .before .before .before .before .before .before .if3 .left)) _ (k .result) refl (k .ensures .0) (c .before .before .before .before .before .before .before .before .before .before .if4 .left) (lent 9 (a .nums .now) (allocate-outcome (a .t .now) (a .nums .now)) (n .result) (c .before .before .before .before .before .before .before .before .before .before .before .before .before .before .before .before .if1 .left) (n .ensures .0) (m .result) (c .before .before .before .before .before .before .before .before .before .before .before .before .before .before .if2 .left) (m .ensures .0) (c .before .before .before .before .before .before .before .before .before .before .before .before .if3 .left)) (c .before .before .before .before .before .allocate-on .ensures)
+
+pub allocate-spec : {M : Type 1} → statement M
+allocate-spec =
+    tie.close
+    (tie.spec
+    returns
+    get-requires
+    returns-2
+    get-requires-2
+    returns-3
+    get-requires-3
+    returns-4
+    slice-aggregate-allocate-on
+    slice-aggregate-allocate-on-2
+    slice-aggregate-allocate-on-3
+    allocate-on-requires
+    same-length
+    returns-5)

@@ -1,0 +1,62 @@
+use mathlib.Core.Path.{_≡_}
+use mir.Syntax.{w64}
+use mir.Val.{toZ, ofZ}
+use Rattle.answers.specs.Lines.{num}
+use borrow.Author.Needs.{needs}
+use Rattle.hublines.proofs.call_allocate.Statement.{statement}
+use Rattle.hublines.proofs.call_allocate.Tie as tie
+
+shared-slice-copy-out-petlumas-allocate : tie.Need-shared-slice-copy-out-petlumas-allocate
+shared-slice-copy-out-petlumas-allocate c = search needs
+
+shared-slice-copy-out-petlumas-allocate-2 : tie.Need-shared-slice-copy-out-petlumas-allocate-2
+shared-slice-copy-out-petlumas-allocate-2 c = search needs
+
+shared-slice-copy-out-petlumas-allocate-3 : tie.Need-shared-slice-copy-out-petlumas-allocate-3
+shared-slice-copy-out-petlumas-allocate-3 c = search needs
+
+shared-slice-copy-out-petlumas-allocate-4 : tie.Need-shared-slice-copy-out-petlumas-allocate-4
+shared-slice-copy-out-petlumas-allocate-4 c = search needs
+
+shared-slice-copy-out-petlumas-allocate-5 : tie.Need-shared-slice-copy-out-petlumas-allocate-5
+shared-slice-copy-out-petlumas-allocate-5 c = search needs
+
+shared-slice-copy-out-petlumas-allocate-6 : tie.Need-shared-slice-copy-out-petlumas-allocate-6
+shared-slice-copy-out-petlumas-allocate-6 c = search needs
+
+petlumas-allocate-requires : tie.Need-petlumas-allocate-requires
+petlumas-allocate-requires c κs = search needs
+
+same-length : tie.Need-same-length
+same-length c = search needs
+
+same-length-2 : tie.Need-same-length-2
+same-length-2 c = search needs
+
+returns : tie.Need-returns
+returns c =
+    let xs = c .before .before .before .before .before .before .before .before .before .before .before .before .before .before .before .before .args .nums .now in
+    let f = c .before .before .before .before .petlumas-allocate in
+    let r : toZ w64 (ofZ w64 (f .result)) ≡ f .result = search needs in
+    let e0 : toZ w64 (ofZ w64 (num xs 0)) ≡ num xs 0 = search needs in
+    let e1 : toZ w64 (ofZ w64 (num xs 1)) ≡ num xs 1 = search needs in
+    let e2 : toZ w64 (ofZ w64 (num xs 2)) ≡ num xs 2 = search needs in
+    let e3 : toZ w64 (ofZ w64 (num xs 3)) ≡ num xs 3 = search needs in
+    let e4 : toZ w64 (ofZ w64 (num xs 4)) ≡ num xs 4 = search needs in
+    let e5 : toZ w64 (ofZ w64 (num xs 5)) ≡ num xs 5 = search needs in
+    rw r (rw (e0, e1, e2, e3, e4, e5) at (f .ensures))
+
+pub call-allocate-spec : {M : Type 1} → statement M
+call-allocate-spec =
+    tie.close
+    (tie.spec
+    shared-slice-copy-out-petlumas-allocate
+    shared-slice-copy-out-petlumas-allocate-2
+    shared-slice-copy-out-petlumas-allocate-3
+    shared-slice-copy-out-petlumas-allocate-4
+    shared-slice-copy-out-petlumas-allocate-5
+    shared-slice-copy-out-petlumas-allocate-6
+    petlumas-allocate-requires
+    same-length
+    same-length-2
+    returns)

@@ -1,0 +1,2 @@
+-- What the calls of a journal on bytes print and leave.
+pub mod Lines
