@@ -1,7 +1,7 @@
 -- What each call of a journal on bytes does on the numbers of its line. The first of them are the lengths of the buffers that
 -- it lends: the register's first bytes, and others whose every byte is 0xAA (170). A line with another count of numbers or
 -- with a length out of range is no call.
-use mathlib.Core.Bool.{Bool, cond, _&&_}
+use mathlib.Core.Bool.{cond, _&&_}
 use mathlib.Core.List.{List, [], _∷_, _++_}
 use mathlib.Core.Option.{Option, none, some}
 use mathlib.Core.Path.{_≡_}

@@ -1,10 +1,9 @@
 // The calls of a journal on bytes, as the hub makes them. The numbers of the register's buffer are encoded, the exported
 // function is lent the first of those bytes and other buffers, of the lengths that the line says, and the register's bytes are
 // decoded again. The result is printed, and then the buffers.
-ghost use mathlib.Core.List.{_∷_, []};
 ghost use mathlib.Core.Option.{some};
 ghost use mathlib.Core.Path.{_≡_};
-ghost use Prim.Native.Nat.{_+_, _*_, _/_, _≤_};
+ghost use Prim.Native.Nat.{_+_, _/_, _≤_};
 ghost use lib.ListN.{length, take};
 ghost use Rattle.energy.specs.Energy.{energyCall};
 ghost use Rattle.account.specs.Account.{accountCall};

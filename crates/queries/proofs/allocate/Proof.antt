@@ -1,7 +1,7 @@
-use mathlib.Core.Path.{refl, sym, ap, _∙_}
+use mathlib.Core.Path.{refl}
 use borrow.Author.Tests.{ne-eqb}
 use lib.IntN.{negsuc}
-use lib.ListN.{take, replicate}
+use lib.ListN.{replicate}
 use Rattle.daybook.specs.declared.AllocationQuery.{AllocationQuery}
 use Rattle.answers.proofs.Lines.{nothing, called}
 use Rattle.queries.specs.Lines.{allocationRow, allocateLine}
