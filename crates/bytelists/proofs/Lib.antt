@@ -1,0 +1,2 @@
+-- The claim about every list of calls through the hub.
+pub mod Fits
