@@ -1,2 +1,3 @@
 -- The claim about every list of calls through the hub.
 pub mod Fits
+pub mod Back
