@@ -1,3 +1,4 @@
 -- The claim about every list of calls through the hub.
 pub mod Fits
 pub mod Back
+pub mod Left
