@@ -2,3 +2,4 @@
 pub mod Fits
 pub mod Back
 pub mod Left
+pub mod Steps
