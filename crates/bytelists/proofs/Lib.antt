@@ -1,0 +1,7 @@
+-- The claim about every list of calls through the hub: numbers there and back, a call, where a list begins, the claim.
+pub mod Fits
+pub mod Back
+pub mod Left
+pub mod Steps
+pub mod Begins
+pub mod Theorem

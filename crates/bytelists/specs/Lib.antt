@@ -1,0 +1,2 @@
+-- Lists of calls through the hub, on the bytes of a lent register.
+pub mod ByteLists

@@ -1,0 +1,1 @@
+// No code: the claim about every list of calls through the hub.
