@@ -1,9 +1,9 @@
 -- Every number of a sound register fits 64 bits. Assumes nothing.
-use mathlib.Core.Path.{_≡_, refl, subst}
+use mathlib.Core.Path.{_≡_, subst}
 use mathlib.Core.Bool.{true}
-use mathlib.Core.Option.{Option, none, some}
+use mathlib.Core.Option.{Option}
 use mathlib.Core.List.{List, [], _∷_, _++_}
-use Prim.Native.Nat.{ℕ, zero, suc, _+_, _-_, _*_, _≤_, _<_}
+use Prim.Native.Nat.{ℕ, zero, suc, _-_, _*_, _≤_}
 use native.Mathlib.Omega.{arith}
 use lib.Dec.{leb}
 use lib.IntN.{ℤ, pos, negsuc}
@@ -17,7 +17,7 @@ use Rattle.daybook.specs.Book.{Entry, Pending}
 use Rattle.daybook.proofs.Lists.{Lists, Register}
 use Rattle.daybook.proofs.Well.{Regs, noreg, reg, Spans, nospan, still, ended, Recs, norec, rec, PendingOk, nopending, pending, FactsOk, Well, Points, nopoint, point, WellFormed}
 use Rattle.daybook.proofs.Apart.{fits-le}
-use Rattle.layout.specs.Layout.{tableLength, standard, pad, regNumbers, offNumbers, recNumbers, asked, headNumbers, pointNumbers, pointsNumbers, layout, registerOf}
+use Rattle.layout.specs.Layout.{tableLength, standard, pad, regNumbers, offNumbers, recNumbers, asked, headNumbers, pointNumbers, pointsNumbers, layout}
 use Rattle.layout.specs.Sound.{sound}
 use Rattle.layout.proofs.TableSound.{sound-lays, standard-fits}
 

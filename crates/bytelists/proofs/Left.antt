@@ -1,7 +1,7 @@
 -- What a notice leaves of a sound table: itself where it is sent back, else a table as long. Assumes nothing.
-use mathlib.Core.Path.{_≡_, refl, sym, _∙_, ap, subst}
+use mathlib.Core.Path.{_≡_, sym, _∙_, ap}
 use mathlib.Core.Bool.{Bool, true, false, cond}
-use mathlib.Core.List.{List, [], _++_}
+use mathlib.Core.List.{List, []}
 use Prim.Native.Nat.{ℕ, _+_, _-_}
 use native.Mathlib.Omega.{arith}
 use lib.IntN.{ℤ}
@@ -9,7 +9,7 @@ use lib.ListN.{length, drop, length-append, length-drop}
 use Rattle.daybook.specs.Book.{Book}
 use Rattle.daybook.specs.Notices.{Numbers}
 use Rattle.daybook.specs.Calls.{State, Answer}
-use Rattle.daybook.proofs.Lists.{Register, bookOf}
+use Rattle.daybook.proofs.Lists.{Register}
 use Rattle.daybook.proofs.Well.{WellFormed}
 use Rattle.layout.specs.Layout.{tableLength, standard, layout, registerOf, tableBook, written}
 use Rattle.layout.specs.Sound.{sound}

@@ -3,13 +3,14 @@ use mathlib.Core.Bool.{Bool, cond}
 use mathlib.Core.List.{List, [], _∷_}
 use Prim.Native.Nat.{ℕ, _*_}
 use lib.Dec.{leb}
+use lib.IntN.{ℤ}
 use lib.ListN.{length}
-use Rattle.daybook.specs.Calls.{Call, fresh!, open!, energy!, status!, request!, withdraw!, account!, allocate! }
+use Rattle.daybook.specs.Calls.{Call, fresh!, open!, energy!, status!, request!, withdraw!, account!, allocate!, State, Answer, step}
 use Rattle.opening.specs.Opening.{freshCall, openCall}
 use Rattle.energy.specs.Energy.{energyCall}
 use Rattle.status.specs.Status.{statusCall}
 use Rattle.transfer.specs.Transfer.{requestCall, withdrawCall}
-use Rattle.buffers.specs.Buffers.{tableIn, written}
+use Rattle.buffers.specs.Buffers.{tableIn, replied, written}
 use Rattle.history.specs.Lists.{tableStep}
 
 -- A call and the bytes of the answer buffer that it lends. A request's holidays are those that its bytes spell
@@ -45,3 +46,17 @@ heard [] b = []
 heard (h ∷ hs) b =
     let later : List Call = heard hs (bytesAfter (h .call) (h .answer) b) in
     cond (isHeard (h .call) (h .answer) b) (h .call ∷ later) later
+
+-- What each call returns and leaves in its answer buffer: the very definition that the hub's contracts have, alone or in
+-- `written`.
+unfoldable pub replies : List HubCall → List ℕ → List (ℤ × List ℕ)
+replies [] b = []
+replies (h ∷ hs) b =
+    replied (tableStep (h .call) (tableIn b) .0 .0) (h .answer) ∷ replies hs (bytesAfter (h .call) (h .answer) b)
+
+-- The same of the day book alone: a call with too short an answer buffer leaves the book as it was.
+unfoldable pub bookReplies : List HubCall → State → List (ℤ × List ℕ)
+bookReplies [] S = []
+bookReplies (h ∷ hs) S =
+    let r : Answer × State = step (h .call) S in
+    replied (r .0 .0) (h .answer) ∷ bookReplies hs (cond (leb (8 * length (r .0 .0)) (length (h .answer))) (r .1) S)
