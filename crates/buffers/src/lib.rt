@@ -24,12 +24,23 @@ pub fn numbers_in<'a, 'b>(bytes: &'a [u8], t: &'b mut [i64], n: usize) -> &'b mu
     &mut t[..n]
 }
 
+// Fills t with numbers that nobody reads. A table is then written whole whether its bytes are enough or not, and the back
+// end leaves out the clearing of the array that it stands in.
+fn fill(t: &mut [i64]) {
+    let mut k = 0;
+    while k < t.len() {
+        t[k] = -1;
+        k += 1;
+    }
+}
+
 // A register's table, in t.
 pub fn table_in<'a, 'b>(register: &'a [u8], t: &'b mut [i64]) -> &'b mut [i64]
     requires { ⌜ length (now t) ≡ 7688 ⌝ }
     ensures { λ r. ⌜ (now r ≡ tableIn (now (register .entry))) × (8 * length (now r) ≤ length (now (register .entry))) ⌝ }
 {
     if register.len() < 61504 {
+        fill(t);
         return numbers_in(register, t, 0);
     }
     numbers_in(register, t, 7688)

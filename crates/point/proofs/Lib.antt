@@ -5,6 +5,7 @@ pub mod Rows
 pub mod Registrations
 pub mod Spans
 pub mod OffDays
+pub mod OnePass
 pub mod Records
 pub mod Pending
 pub mod Decides

@@ -35,7 +35,7 @@ module _ (p : List ℤ) where
   past-under : (off on d : ℕ) → d < off → past off on d ≡ d
   past-under off on d h = rw (lt-leb off d h)
 
-  past-inside : (off on d : ℕ) → off ≤ d → d < on → past off on d ≡ on
+  pub past-inside : (off on d : ℕ) → off ≤ d → d < on → past off on d ≡ on
   past-inside off on d h k = rw (le-leb off d h, lt-ltb d on k)
 
   past-over : (off on d : ℕ) → off ≤ d → on ≤ d → past off on d ≡ d
@@ -119,7 +119,7 @@ module _ (p : List ℤ) where
       go (wrong e v u) = absurd (omega arith)
 
   -- a to b beside a span, on a day d of these
-  beside : (a b d off on : ℕ) → (ltb b off || leb on a) ≡ true → a ≤ d → d ≤ b → (leb off d && ltb d on) ≡ false
+  pub beside : (a b d off on : ℕ) → (ltb b off || leb on a) ≡ true → a ≤ d → d ≤ b → (leb off d && ltb d on) ≡ false
   beside a b d off on h u v = go (ltb b off) refl h
     where
       go : (t : Bool) → ltb b off ≡ t → (t || leb on a) ≡ true → (leb off d && ltb d on) ≡ false

@@ -1,8 +1,9 @@
 -- What the code tests of one point's part, place by place. A part that passes is the layout of well-formed lists, and the
 -- layout of such lists passes (proofs/Decides.antt).
+use mathlib.Core.Path.{_≡_}
 use mathlib.Core.Bool.{Bool, true, not, _&&_, _||_, cond}
 use mathlib.Core.List.{List}
-use Prim.Native.Nat.{ℕ, zero, suc, _+_, _*_, _≤_, _^_}
+use Prim.Native.Nat.{ℕ, zero, suc, _+_, _*_, _≤_, _<_, _^_}
 use lib.Dec.{leb, ltb, eqb}
 use lib.ListN.{length, getD}
 use lib.IntN.{ℤ, pos, negsuc}
@@ -30,6 +31,11 @@ pub record Counted (p : List ℤ) : Type 0 where
   pub fewRegs : numAt p 4 ≤ 8
   pub fewSpans : numAt p 5 ≤ 8
   pub fewRecs : 48 + 4 * numAt p 6 ≤ length p
+
+-- The bits of a number n, whose marker is 2 ^ 63 and whose sign bit they may have: both are below 2 ^ 63 or neither.
+pub record Bits (n bits : ℕ) : Type 0 where
+  pub same : n < 2 ^ 63 → bits ≡ n
+  pub large : 2 ^ 63 ≤ n → 2 ^ 63 ≤ bits
 
 -- ---- registrations: row k is (start, User) at 16 + 2 × k
 
@@ -118,12 +124,28 @@ recEnergy p k = biasOf (getD p (48 + 4 * k + 2) (pos 0))
 abbrev pub recType : List ℤ → ℕ → ℕ
 recType p k = numAt p (48 + 4 * k + 3)
 
+abbrev pub recInRange : ℕ → ℕ → ℕ → Bool
+recInRange end energy type = leb end 39999 && leb energy 2000000 && leb type 2
+
 -- It starts on the first day that is not off, fits its kind and holds no off day.
 unfoldable pub recAt : List ℤ → ℕ → ℕ → ℕ → Bool
 recAt p m from k =
-    leb (recEnd p k) 39999 && leb (recEnergy p k) 2000000 && leb (recType p k) 2
+    recInRange (recEnd p k) (recEnergy p k) (recType p k)
     && fitsKind (numAt p 1) (recStart p k) (recEnd p k)
     && eqb (recStart p k) (firstOn p m from) && noOff p m (recStart p k) (recEnd p k)
+
+-- The off day of span j; past the last of m a number above every day.
+abbrev pub offFrom : List ℤ → ℕ → ℕ → ℕ
+offFrom p m j = cond (ltb j m) (offDay p j) 18446744073709551615
+
+abbrev pub recBetween : ℕ → ℕ → ℕ → ℕ → Bool
+recBetween start end day off = eqb start day && ltb end off
+
+-- The same of a record that is to start on a day and to end before an off day.
+unfoldable pub recOn : List ℤ → ℕ → ℕ → ℕ → ℕ → Bool
+recOn p kind k day off =
+    recInRange (recEnd p k) (recEnergy p k) (recType p k) && recBetween (recStart p k) (recEnd p k) day off
+    && fitsKind kind day (recEnd p k)
 
 -- The next record comes after its end.
 abbrev pub recLeaves : List ℤ → ℕ → ℕ → ℕ

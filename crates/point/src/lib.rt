@@ -1,13 +1,15 @@
 // Soundness of one point's part of the register table. A part of any length is tested: how many records it holds is
 // said by its length. Counts are tested first, so that every row that is read lies in the part. Rows are read in order,
-// each once or twice; the spans, of which there are at most 8, are read twice more for each record.
+// each once or twice; the spans, once tested, a second time beside the records, with a cursor on the next one.
 ghost use mathlib.Core.Path.{_≡_};
+ghost use mathlib.Core.Bool.{true};
 ghost use Prim.Native.Nat.{_+_, _*_, _%_, _<_, _≤_, _^_};
 ghost use lib.ListN.{length, getD};
 ghost use lib.IntN.{pos};
 ghost use Rattle.daybook.specs.Notices.{fitsKind};
+ghost use Rattle.layout.specs.Layout.{numAt};
 ghost use Rattle.layout.specs.Sound.{factsSound, countsSound, unusedZero, partSound, zeros};
-ghost use Rattle.point.specs.Tests.{factsAt, Counted, regsOk, untilOf, spansOk, past, firstOn, noOff, recAt, recsOk, pendingOk, rowsOk};
+ghost use Rattle.point.specs.Tests.{factsAt, Counted, Bits, regsOk, untilOf, spansOk, past, firstOn, noOff, offFrom, recOn, recsOk, pendingOk, rowsOk};
 
 // The day before which an off span ends; -1, still off, as 40,001.
 pub fn until(x: i64) -> u64
@@ -30,19 +32,27 @@ pub fn get_until(p: &[i64], i: usize) -> u64
     until(p[i])
 }
 
-// Are the places a to b - 1 all 0?
+// The bits of the number at place i: in a test beside days as good as the number, and read without a test of its sign.
+pub fn bits_at(p: &[i64], i: usize) -> u64
+    requires { ⌜ i < length (now p) ⌝ }
+    ensures { λ r. ⌜ Bits (numAt (now (p .entry)) i) r ⌝ }
+{
+    words::bits(p[i])
+}
+
+// Are the places a to b - 1 all 0? Their bits are joined, with no way out of the loop, so that the back end takes several
+// places at a time.
 pub fn zeros_in(p: &[i64], a: usize, b: usize) -> bool
     requires { ⌜ b ≤ length (now p) ⌝ }
     ensures { λ r. ⌜ r ≡ zeros (now (p .entry)) a b ⌝ }
 {
+    let mut bits: u64 = 0;
     let mut i = a;
     while i < b {
-        if numbers::get(p, i) != 0 {
-            return false;
-        }
+        bits = bits | bits_at(p, i);
         i += 1;
     }
-    true
+    bits == 0
 }
 
 fn counts_sound(p: &[i64]) -> bool
@@ -98,8 +108,8 @@ fn registrations_ok(p: &[i64], n: usize) -> bool
     let mut k: usize = 0;
     while k < n {
         let i = 16 + 2 * k;
-        let start = numbers::get(p, i);
-        let user = numbers::get(p, i + 1);
+        let start = bits_at(p, i);
+        let user = bits_at(p, i + 1);
         if !((lo <= start) & (start <= 40000) & (1 <= user) & (user <= 16) & (latest != user)) {
             return false;
         }
@@ -181,35 +191,66 @@ pub fn fits_kind(kind: u64, start: u64, end: u64) -> bool
     start == end
 }
 
-// Record k, where the one before it leaves the days from `from` on.
-fn record_ok(p: &[i64], m: usize, from: u64, k: usize) -> bool
-    requires { ⌜ (32 + 2 * m ≤ length (now p)) × (48 + 4 * k + 3 < length (now p)) ⌝ }
-    ensures { λ r. ⌜ r ≡ recAt (now (p .entry)) m from k ⌝ }
+// The off day of span j; past the last of m a number above every day.
+fn off_day(p: &[i64], m: usize, j: usize) -> u64
+    requires { ⌜ 32 + 2 * m ≤ length (now p) ⌝ }
+    ensures { λ r. ⌜ r ≡ offFrom (now (p .entry)) m j ⌝ }
 {
-    let i = 48 + 4 * k;
-    let start = numbers::get(p, i);
-    let end = numbers::get(p, i + 1);
-    let in_range = (end <= 39999)
-        & (numbers::get_energy(p, i + 2) <= 2000000)
-        & (numbers::get(p, i + 3) <= 2);
-    in_range
-        & fits_kind(numbers::get(p, 1), start, end)
-        & (start == first_on(p, m, from))
-        & no_off(p, m, start, end)
+    if j < m {
+        return numbers::get(p, 32 + 2 * j);
+    }
+    0xffff_ffff_ffff_ffff
 }
 
-// Each of n records follows the one before it, beside m spans.
-fn records_ok(p: &[i64], m: usize, n: usize) -> bool
-    requires { ⌜ (32 + 2 * m ≤ length (now p)) × (48 + 4 * n ≤ length (now p)) ⌝ }
-    ensures { λ r. ⌜ r ≡ recsOk (now (p .entry)) m n ⌝ }
+// Record k, which is to start on a day and to end before an off day. The kind is tested by branches, not as `fits_kind`
+// does: the back end then tests it once for all records.
+fn record_ok(p: &[i64], kind: u64, k: usize, day: u64, off: u64) -> bool
+    requires { ⌜ (48 + 4 * k + 3 < length (now p)) × (day < 2 ^ 63) ⌝ }
+    ensures { λ r. ⌜ r ≡ recOn (now (p .entry)) kind k day off ⌝ }
 {
-    let mut from = numbers::get(p, 2);
-    let mut k: usize = 0;
-    while k < n {
-        if !record_ok(p, m, from, k) {
+    let i = 48 + 4 * k;
+    let end = bits_at(p, i + 1);
+    if !((end <= 39999)
+        & (numbers::get_energy(p, i + 2) <= 2000000)
+        & (numbers::get(p, i + 3) <= 2)) {
+        return false;
+    }
+    if !((bits_at(p, i) == day) & (end < off)) {
+        return false;
+    }
+    if kind == 0 {
+        if end <= day {
             return false;
         }
-        from = numbers::get(p, 48 + 4 * k + 1) + 1;
+        return true;
+    }
+    if end != day {
+        return false;
+    }
+    true
+}
+
+// Each of n records follows the one before it, beside m spans that pass. Both are read once: a record is awaited from
+// `day` on, the j spans before it have ended by then, and `off` is the next off day.
+fn records_ok(p: &[i64], m: usize, n: usize) -> bool
+    requires { ⌜ (32 + 2 * m ≤ length (now p)) × (48 + 4 * n ≤ length (now p)) × (numAt (now p) 2 ≤ 39999) × (spansOk (now p) m ≡ true) ⌝ }
+    ensures { λ r. ⌜ r ≡ recsOk (now (p .entry)) m n ⌝ }
+{
+    let kind = numbers::get(p, 1);
+    let mut day = numbers::get(p, 2);
+    let mut j: usize = 0;
+    let mut off = off_day(p, m, 0);
+    let mut k: usize = 0;
+    while k < n {
+        if off <= day {
+            day = get_until(p, 32 + 2 * j + 1);
+            j += 1;
+            off = off_day(p, m, j);
+        }
+        if !record_ok(p, kind, k, day, off) {
+            return false;
+        }
+        day = bits_at(p, 48 + 4 * k + 1) + 1;
         k += 1;
     }
     true
@@ -231,17 +272,18 @@ fn pending_ok(p: &[i64], n: usize) -> bool
             & (n <= 7))
 }
 
+// The spans are tested before the records, which are read beside them.
 fn rows_ok(p: &[i64]) -> bool
-    requires { ⌜ Counted (now p) ⌝ }
+    requires { ⌜ Counted (now p) × (numAt (now p) 2 ≤ 39999) ⌝ }
     ensures { λ r. ⌜ r ≡ rowsOk (now (p .entry)) ⌝ }
 {
     let regs = numbers::get(p, 4) as usize;
     let spans = numbers::get(p, 5) as usize;
     let recs = numbers::get(p, 6) as usize;
-    registrations_ok(p, regs)
-        & spans_ok(p, spans)
-        & records_ok(p, spans, recs)
-        & pending_ok(p, regs)
+    if !spans_ok(p, spans) {
+        return false;
+    }
+    registrations_ok(p, regs) & records_ok(p, spans, recs) & pending_ok(p, regs)
 }
 
 // Is this a sound point? The tests above decide what document 01 says (proofs/Decides.antt).
@@ -252,5 +294,8 @@ pub fn part_sound(p: &[i64]) -> bool
     if !counts_sound(p) {
         return false;
     }
-    facts_sound(p) & unused_zero(p) & rows_ok(p)
+    if !facts_sound(p) {
+        return false;
+    }
+    unused_zero(p) & rows_ok(p)
 }

@@ -1,10 +1,13 @@
 -- Sums over days are sums over records, and no day is walked: what a record has between two days is the difference of
 -- two prefixes, by the one telescope. Assumes nothing.
 use mathlib.Core.Path.{_≡_, refl, sym, ap, ap₂, _∙_}
+use mathlib.Core.Bool.{Bool, true, false, _||_}
 use mathlib.Core.Option.{Option, none, some}
 use mathlib.Core.List.{List}
-use Prim.Native.Nat.{ℕ, zero, suc, _+_, _-_, _≤_, _<_}
+use Prim.Native.Nat.{ℕ, zero, suc, _+_, _-_, _≤_, _<_, min}
 use native.Mathlib.Omega.{arith}
+use borrow.Author.Tests.{leb-true, ltb-true}
+use lib.Dec.{leb, ltb}
 use lib.IntN.{ℤ, pos, _+ℤ_, _-ℤ_, +ℤ-idl, +ℤ-idr}
 use Rattle.numbers.specs.Sums.{sumFrom}
 use Rattle.numbers.proofs.Integers.{eqZ, minus-fact}
@@ -33,6 +36,15 @@ before-most s e d h = omega arith
 pub before-up : (s e x y : ℕ) → x ≤ y → daysBefore s e x ≤ daysBefore s e y
 unfolding daysBefore
 before-up s e x y h = omega arith
+
+-- none of the days x to y - 1 is one of them
+pub before-apart : (s e x y : ℕ) → x ≤ y → (leb y s || ltb e x) ≡ true → daysBefore s e x ≡ daysBefore s e y
+unfolding daysBefore
+before-apart s e x y l h = go (leb y s) refl h
+  where
+    go : (t : Bool) → leb y s ≡ t → (t || ltb e x) ≡ true → min (x - s) (suc e - s) ≡ min (y - s) (suc e - s)
+    go true q h = omega (arith, leb-true y s q)
+    go false q h = omega (arith, ltb-true e x h)
 
 module _ (x : Entry) (d : ℕ) where
   before-in : x .start ≤ d → d ≤ x .end

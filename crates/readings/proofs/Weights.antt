@@ -1,15 +1,18 @@
 -- What an allocation reads of a point, for each way that the code ends: T of a non-daily point, the gas of a daily one.
 -- Assumes nothing.
 use mathlib.Core.Path.{_≡_, refl, sym, ap, _∙_}
-use mathlib.Core.Bool.{Bool, true, false, _&&_}
-use Prim.Native.Nat.{ℕ, suc, _+_, _-_, _≤_, _<_}
+use mathlib.Core.Bool.{Bool, true, false, _&&_, cond}
+use mathlib.Core.Option.{Option, none, some}
+use Prim.Native.Nat.{ℕ, zero, suc, _+_, _-_, _≤_, _<_}
 use native.Mathlib.Omega.{arith}
 use borrow.Author.Tests.{leb-true, ltb-true, eq-eqb, ne-eqb}
 use lib.Dec.{leb, ltb, eqb}
-use lib.IntN.{ℤ, pos, subℕ}
+use lib.IntN.{ℤ, pos, subℕ, _+ℤ_}
+use Rattle.numbers.specs.Search.{maybe, isSome}
+use Rattle.numbers.specs.Shares.{share}
 use Rattle.numbers.specs.Sums.{sumFrom, sumOver}
 use Rattle.numbers.proofs.Bools.{both}
-use Rattle.daybook.specs.Book.{Point, dayShare, filled}
+use Rattle.daybook.specs.Book.{Entry, Point, dayShare, filled}
 use Rattle.daybook.specs.Queries.{active, allFilled, dailyGas, meteredOf, atLeast0, weight}
 use Rattle.readings.specs.Readings.{filledDays}
 use Rattle.readings.proofs.Days.{some-filled}
@@ -29,6 +32,18 @@ measured-is f a b r e =
     let n : suc b - a ≡ b + 1 - a = omega arith in
     ap (λ n. atLeast0 (sumFrom f a n)) n ∙ ap atLeast0 (sym e) ∙ at-least r 2000000000
 
+-- days of which none is filled have no energy
+shares-none : (p : Point) (n a : ℕ) → filledDays p a n ≡ 0 → sumFrom (dayShare p) a n ≡ pos 0
+unfolding filledDays sumFrom dayShare
+shares-none p zero a z = refl
+shares-none p (suc n) a z = go (p .entry a) (shares-none p n (suc a)) z
+  where
+    go : (o : Option Entry) → (filledDays p (suc a) n ≡ 0 → sumFrom (dayShare p) (suc a) n ≡ pos 0)
+        → cond (isSome o) 1 0 + filledDays p (suc a) n ≡ 0
+        → maybe (pos 0) (λ e. share (e .energy) (suc (e .end) - e .start) (a - e .start)) o +ℤ sumFrom (dayShare p) (suc a) n ≡ pos 0
+    go none ih z = rw (ih (omega arith))
+    go (some e) ih z = absurd (omega arith)
+
 module _ (p : Point) (g a b : ℕ) where
   pub weight-none : (active g p && eqb (p .facts .kind) 0) ≡ false → 0 ≡ weight g a b p
   unfolding weight
@@ -42,6 +57,11 @@ module _ (p : Point) (g a b : ℕ) where
     pub weight-measured : ¬ (filledDays p a (b + 1 - a) ≡ 0) → atLeast0 (sumOver (dayShare p) a b) ≡ weight g a b p
     unfolding weight
     weight-measured z = rw (here, some-filled p a b, ne-eqb (filledDays p a (b + 1 - a)) 0 z)
+
+    pub weight-shown : ¬ (atLeast0 (sumOver (dayShare p) a b) ≡ 0) → atLeast0 (sumOver (dayShare p) a b) ≡ weight g a b p
+    weight-shown f =
+        let n : suc b - a ≡ b + 1 - a = omega arith in
+        weight-measured (λ z. f (ap (λ n. atLeast0 (sumFrom (dayShare p) a n)) n ∙ ap atLeast0 (shares-none p (b + 1 - a) a z)))
 
 -- ---- a daily point's gas
 

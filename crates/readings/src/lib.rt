@@ -35,13 +35,13 @@ fn record_energy(p: &[i64], k: usize, x: u64, y: u64) -> u64
     ensures { λ r. ⌜ (subℕ r 1000000 ≡ partBetween partialOf x y (recordOf (now (p .entry)) k)) × (r ≤ 2000000) ⌝ }
 {
     let at = 48 + 4 * k;
-    let start = numbers::get(p, at);
-    let end = numbers::get(p, at + 1);
-    let i = days_before(start, end, x);
-    let j = days_before(start, end, y);
-    if i == j {
+    let start = point::bits_at(p, at);
+    let end = point::bits_at(p, at + 1);
+    if (y <= start) | (end < x) {
         return 1000000;
     }
+    let i = days_before(start, end, x);
+    let j = days_before(start, end, y);
     let u = numbers::get_energy(p, at + 2);
     let n = end + 1 - start;
     numbers::partial_energy(u, n, j) + 1000000 - numbers::partial_energy(u, n, i)
@@ -68,8 +68,11 @@ fn record_days(p: &[i64], k: usize, x: u64, y: u64) -> u64
     ensures { λ r. ⌜ (pos r ≡ partBetween countOf x y (recordOf (now (p .entry)) k)) × (r ≤ 40000) ⌝ }
 {
     let at = 48 + 4 * k;
-    let start = numbers::get(p, at);
-    let end = numbers::get(p, at + 1);
+    let start = point::bits_at(p, at);
+    let end = point::bits_at(p, at + 1);
+    if (y <= start) | (end < x) {
+        return 0;
+    }
     days_before(start, end, y) - days_before(start, end, x)
 }
 
@@ -143,7 +146,7 @@ fn measured(p: &[i64], a: u64, b: u64) -> u64
     energy - 2000000000
 }
 
-// T of a point over the days a to b, for gas day g.
+// T of a point over the days a to b, for gas day g. Filled days are counted only where no energy shows them.
 pub fn weight(p: &[i64], g: u64, a: u64, b: u64) -> u64
     requires { ⌜ Readable (now p) × (g ≤ 39999) × (a ≤ b) × (b ≤ 39999) ⌝ }
     ensures { λ r. ⌜ (r ≡ weightOf g a b (pointAt (now (p .entry)))) × (r ≤ 10000 + 250000 * length (now (p .entry))) ⌝ }
@@ -151,10 +154,14 @@ pub fn weight(p: &[i64], g: u64, a: u64, b: u64) -> u64
     if !(active(p, g) & (numbers::get(p, 1) == 0)) {
         return 0;
     }
+    let energy = measured(p, a, b);
+    if energy != 0 {
+        return energy;
+    }
     if filled_between(p, a, b + 1) == 0 {
         return numbers::get(p, 3);
     }
-    measured(p, a, b)
+    0
 }
 
 // The share of day d, raised by 1,000,000.

@@ -1,62 +1,95 @@
 use mathlib.Core.Path.{_≡_, sym, ap, _∙_}
-use Prim.Native.Nat.{suc, _≤_, _-_}
+use mathlib.Core.Bool.{true}
+use mathlib.Core.Logic.{⊎-elim}
+use Prim.Native.Nat.{suc, _+_, _-_, _≤_}
 use native.Mathlib.Omega.{arith}
 use native.Mathlib.Numerals.{add-one}
 use borrow.Author.Tests.{not-true, not-false}
-use Rattle.point.specs.Tests.{rows, recAt, recLeaves, recsOk}
+use Rattle.point.specs.Tests.{rows, recEnd, recAt, recOn, recLeaves, recsOk}
 use Rattle.point.proofs.Loops.{rows-pass, rows-fail, rows-end}
+use Rattle.point.proofs.OnePass.{passes, Awaits, Found, awaits-first, found-here, is-span, found-on, found-test, found-leaves}
 use borrow.Author.Needs.{needs}
 use Rattle.point.proofs.records_ok.Statement.{statement}
 use Rattle.point.proofs.records_ok.Tie as tie
 
 abbrev Inv-loop : tie.InvT-loop
-Inv-loop p m n from₀ k₀ from k = (k ≤ n) × (rows (recAt p m) (recLeaves p) from k (n - k) ≡ recsOk p m n)
+Inv-loop p m n kind day₀ j₀ off₀ k₀ day j off k =
+    (k ≤ n) × (rows (recAt p m) (recLeaves p) day k (n - k) ≡ recsOk p m n) × Awaits p m day j off
 
 abbrev μ-loop : tie.MeasureT-loop
-μ-loop p m n from₀ k₀ from k = n - k
+μ-loop p m n kind day₀ j₀ off₀ k₀ day j off k = n - k
 
-get-requires : tie.Need-get-requires Inv-loop μ-loop
-get-requires c κs = search needs
+abbrev start : tie.In-loop Inv-loop μ-loop → tie.Start Inv-loop μ-loop
+start c = c .before .before .before .before .before
 
 loop-holds : tie.Need-loop-holds Inv-loop μ-loop
 unfolding recsOk
 loop-holds c =
-    let z : c .before .args .n - 0 ≡ c .before .args .n = omega arith in
-    (omega arith, rw (z, c .get .ensures .0))
+    let s = c .before .before .before in
+    let z : s .args .n - 0 ≡ s .args .n = omega arith in
+    (omega arith, rw (z, c .before .get2 .ensures .0), rw (c .off-day .ensures, c .before .get2 .ensures .0) (awaits-first (s .args .p .now) (s .args .m) (s .pre .3) (s .pre .2)))
+
+get-until-requires : tie.Need-get-until-requires Inv-loop μ-loop
+get-until-requires c κs =
+    let l = c .before .before .loop in
+    let s = start (c .before) in
+    omega (arith, is-span (s .args .p .now) (s .args .m) (s .pre .3) (l .day) (l .j) (l .off) (l .inv .2) (c .if1 .taken))
+
+-- by either way the cursor stands on the first day that is not off
+found : (c : tie.Joined1 Inv-loop μ-loop)
+    → let s : tie.Start Inv-loop μ-loop = start (c .before) in
+    Found (s .args .p .now) (s .args .m) (c .before .before .loop .day) (c .if1 .day) (c .if1 .j) (c .if1 .off)
+found c =
+    let l = c .before .before .loop in
+    let s = start (c .before) in
+    ⊎-elim
+    (λ w. rw (w .3, w .4, w .5, w .2 .ensures, w .1 .ensures .0, add-one (l .j)) (found-on (s .args .p .now) (s .args .m) (s .pre .3) (l .day) (l .j) (l .off) (l .inv .2) (w .0 .taken)))
+    (λ w. rw (w .1, w .2, w .3) (found-here (s .args .p .now) (s .args .m) (s .pre .3) (l .day) (l .j) (l .off) (l .inv .2) (w .0 .left)))
+    (c .if1 .came)
 
 record-ok-requires : tie.Need-record-ok-requires Inv-loop μ-loop
-record-ok-requires c κs = search needs
+record-ok-requires c κs = (search needs, omega (arith, found c .small))
+
+-- the record is tested as if beside all spans
+tested : (c : tie.After-record-ok Inv-loop μ-loop)
+    → let s : tie.Start Inv-loop μ-loop = start (c .before .before) in
+    recAt (s .args .p .now) (s .args .m) (c .before .before .before .loop .day) (c .before .before .before .loop .k) ≡ c .record-ok .result
+tested c =
+    let q = c .before in
+    let s = start (q .before) in
+    found-test (s .args .p .now) (s .args .m) (s .pre .3) _ _ _ _ (q .before .before .loop .k) (found q)
+    ∙ sym (rw (q .before .before .before .before .before .get .ensures .0) at (c .record-ok .ensures))
 
 returns : tie.Need-returns Inv-loop μ-loop
 returns c =
-    let l = c .before .before .before .loop in
-    sym (rows-fail _ _ _ (l .k) _ (omega arith) (sym (c .before .record-ok .ensures) ∙ not-true _ (c .if1 .taken))) ∙ l .inv .1
+    let l = c .before .before .before .before .loop in
+    sym (rows-fail _ _ _ (l .k) _ (omega arith) (tested (c .before) ∙ not-true _ (c .if2 .taken))) ∙ l .inv .1
 
-mul-get : tie.Need-mul-get Inv-loop μ-loop
-mul-get c = search needs
+passed : (c : tie.Else2 Inv-loop μ-loop)
+    → let q : tie.Joined1 Inv-loop μ-loop = c .before .before in
+    let s : tie.Start Inv-loop μ-loop = start (q .before) in
+    recOn (s .args .p .now) (q .before .before .before .before .before .get .result) (q .before .before .loop .k) (q .if1 .day) (q .if1 .off) ≡ true
+passed c = sym (c .before .record-ok .ensures) ∙ not-false _ (c .if2 .left)
 
-add-get : tie.Need-add-get Inv-loop μ-loop
-add-get c = search needs
+-- its end, read once more
+ends : (c : tie.After-bits-at Inv-loop μ-loop)
+    → let i : tie.In-loop Inv-loop μ-loop = c .before .before .before .before in
+    (c .bits-at .result ≡ recEnd (start i .args .p .now) (i .before .loop .k)) × (c .bits-at .result ≤ 39999)
+ends c =
+    let r = passes _ _ _ _ _ (passed (c .before)) in
+    let e = c .bits-at .ensures .same (omega (arith, r .end)) in
+    (e, omega (arith, e, r .end))
 
-add-get-2 : tie.Need-add-get-2 Inv-loop μ-loop
-add-get-2 c = search needs
-
-get-requires-2 : tie.Need-get-requires-2 Inv-loop μ-loop
-get-requires-2 c κs = search needs
-
-add-from : tie.Need-add-from Inv-loop μ-loop
-add-from c = search needs
-
-add-k : tie.Need-add-k Inv-loop μ-loop
-add-k c = search needs
-
-loop-less : tie.Need-loop-less Inv-loop μ-loop
-loop-less c = search needs
+add-day : tie.Need-add-day Inv-loop μ-loop
+add-day c = let e = ends c in search needs
 
 loop-again : tie.Need-loop-again Inv-loop μ-loop
 loop-again c =
-    let l = c .before .before .before .before .loop in
-    (omega arith, sym (rows-pass _ _ _ (l .k) _ _ (omega arith) (sym (c .before .before .record-ok .ensures) ∙ not-false _ (c .before .if1 .left)) (add-one (c .get2 .result) ∙ ap suc (c .get2 .ensures .0))) ∙ l .inv .1)
+    let q = c .before .before .before in
+    let l = q .before .before .loop in
+    let s = start (q .before) in
+    let e : c .bits-at .result + 1 ≡ suc (recEnd (s .args .p .now) (l .k)) = add-one (c .bits-at .result) ∙ ap suc (ends c .0) in
+    (omega arith, sym (rows-pass _ _ _ (l .k) _ _ (omega arith) (tested (c .before .before) ∙ not-false _ (c .before .if2 .left)) e) ∙ l .inv .1, rw e (found-leaves (s .args .p .now) (s .args .m) (s .pre .3) _ _ _ _ _ _ (found q) (passed (c .before))))
 
 returns-2 : tie.Need-returns-2 Inv-loop μ-loop
 returns-2 c = sym (rows-end _ _ _ (c .before .loop .k) _ (omega arith)) ∙ c .before .loop .inv .1
@@ -67,16 +100,24 @@ records-ok-spec =
     (tie.spec
     Inv-loop
     μ-loop
-    get-requires
+    (λ c κs. search needs)
+    (λ c κs. search needs)
+    (λ c κs. search needs)
     loop-holds
+    (λ c. search needs)
+    (λ c. search needs)
+    (λ c. search needs)
+    get-until-requires
+    (λ c. search needs)
+    (λ c κs. search needs)
     record-ok-requires
     returns
-    mul-get
-    add-get
-    add-get-2
-    get-requires-2
-    add-from
-    add-k
-    loop-less
+    (λ c. search needs)
+    (λ c. search needs)
+    (λ c. search needs)
+    (λ c κs. search needs)
+    add-day
+    (λ c. search needs)
+    (λ c. search needs)
     loop-again
     returns-2)

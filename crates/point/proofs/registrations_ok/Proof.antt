@@ -1,10 +1,13 @@
 use native.Mathlib.Numerals.{add-one}
 use mathlib.Core.Path.{_≡_, sym, ap, ap₂, _∙_}
+use mathlib.Core.Bool.{true}
+use mathlib.Core.List.{List}
 use Prim.Native.Nat.{ℕ, suc, _≤_, _-_}
 use native.Mathlib.Omega.{arith}
 use borrow.Author.Tests.{not-true, not-false, eq-eqb, ne-eqb}
-use Rattle.point.specs.Tests.{rows, regOk, regAt, regLeaves, regsOk}
-use Rattle.point.proofs.Loops.{rows-pass, rows-fail, rows-end}
+use lib.IntN.{ℤ}
+use Rattle.point.specs.Tests.{rows, regStart, regUser, regOk, regAt, regLeaves, regsOk}
+use Rattle.point.proofs.Loops.{rows-pass, rows-fail, rows-end, reg-same, reg-test, small-start}
 use borrow.Author.Needs.{needs}
 use Rattle.point.proofs.registrations_ok.Statement.{statement}
 use Rattle.point.proofs.registrations_ok.Tie as tie
@@ -38,22 +41,44 @@ mul-i c = search needs
 add-i : tie.Need-add-i Inv-loop μ-loop
 add-i c = search needs
 
-get-requires-3 : tie.Need-get-requires-3 Inv-loop μ-loop
-get-requires-3 c κs = search needs
+bits-at-requires : tie.Need-bits-at-requires Inv-loop μ-loop
+bits-at-requires c κs = search needs
 
-add-get : tie.Need-add-get Inv-loop μ-loop
-add-get c = search needs
+add-bits-at : tie.Need-add-bits-at Inv-loop μ-loop
+add-bits-at c = search needs
 
-get-requires-4 : tie.Need-get-requires-4 Inv-loop μ-loop
-get-requires-4 c κs = search needs
+bits-at-requires-2 : tie.Need-bits-at-requires-2 Inv-loop μ-loop
+bits-at-requires-2 c κs = search needs
+
+-- the row is tested as if by its numbers
+tested : (c : tie.After-bits-at2 Inv-loop μ-loop)
+    → let l : tie.At-loop Inv-loop μ-loop = c .before .before .before in
+    regAt (l .before .before .before .before .args .p .now) (l .loop .latest, l .loop .lo) (l .loop .k)
+    ≡ regOk (l .loop .latest, l .loop .lo) (c .before .bits-at .result) (c .bits-at2 .result)
+tested c = sym (reg-test _ _ _ _ _ _ (c .before .bits-at .ensures) (c .bits-at2 .ensures))
+
+passed : (c : tie.Else2 Inv-loop μ-loop)
+    → let l : tie.At-loop Inv-loop μ-loop = c .before .before .before .before in
+    regOk (l .loop .latest, l .loop .lo) (c .before .before .bits-at .result) (c .before .bits-at2 .result) ≡ true
+passed c =
+    let l = c .before .before .before .before .loop in
+    not-false (regOk (l .latest, l .lo) (c .before .before .bits-at .result) (c .before .bits-at2 .result)) (c .if2 .left)
+
+same : (c : tie.Else2 Inv-loop μ-loop)
+    → let l : tie.At-loop Inv-loop μ-loop = c .before .before .before .before in
+    let p : List ℤ = l .before .before .before .before .args .p .now in
+    (c .before .before .bits-at .result ≡ regStart p (l .loop .k)) × (c .before .bits-at2 .result ≡ regUser p (l .loop .k))
+same c = reg-same _ _ _ _ _ _ (c .before .before .bits-at .ensures) (c .before .bits-at2 .ensures) (passed c)
 
 returns-2 : tie.Need-returns-2 Inv-loop μ-loop
 returns-2 c =
     let l = c .before .before .before .before .loop in
-    sym (rows-fail _ _ _ (l .k) _ (omega arith) (rw (c .before .get4 .ensures .0, c .before .before .get3 .ensures .0) at (not-true (regOk (l .latest, l .lo) (c .before .before .get3 .result) (c .before .get4 .result)) (c .if2 .taken)))) ∙ l .inv .1
+    sym (rows-fail _ _ _ (l .k) _ (omega arith) (tested (c .before) ∙ not-true (regOk (l .latest, l .lo) (c .before .before .bits-at .result) (c .before .bits-at2 .result)) (c .if2 .taken))) ∙ l .inv .1
 
 add-lo : tie.Need-add-lo Inv-loop μ-loop
-add-lo c = search needs
+add-lo c =
+    let l = c .before .before .before .before .loop in
+    let h = small-start (l .latest) (l .lo) (c .before .before .bits-at .result) (c .before .bits-at2 .result) (passed c) in search needs
 
 add-k : tie.Need-add-k Inv-loop μ-loop
 add-k c = search needs
@@ -64,9 +89,8 @@ loop-less c = search needs
 loop-again : tie.Need-loop-again Inv-loop μ-loop
 loop-again c =
     let l = c .before .before .before .before .loop in
-    let start = c .before .before .get3 in
-    let user = c .before .get4 in
-    (omega arith, sym (rows-pass _ _ _ (l .k) _ _ (omega arith) (rw (user .ensures .0, start .ensures .0) at (not-false (regOk (l .latest, l .lo) (start .result) (user .result)) (c .if2 .left))) (ap₂ (λ (u s : ℕ). (u, s)) (user .ensures .0) (add-one (start .result) ∙ ap suc (start .ensures .0)))) ∙ l .inv .1)
+    let e = same c in
+    (omega arith, sym (rows-pass _ _ _ (l .k) _ _ (omega arith) (tested (c .before) ∙ passed c) (ap₂ (λ (u s : ℕ). (u, s)) (e .1) (add-one (c .before .before .bits-at .result) ∙ ap suc (e .0)))) ∙ l .inv .1)
 
 returns-3 : tie.Need-returns-3 Inv-loop μ-loop
 returns-3 c = sym (rows-end _ _ _ (c .before .loop .k) _ (omega arith)) ∙ c .before .loop .inv .1
@@ -83,9 +107,9 @@ registrations-ok-spec =
     loop-holds
     mul-i
     add-i
-    get-requires-3
-    add-get
-    get-requires-4
+    bits-at-requires
+    add-bits-at
+    bits-at-requires-2
     returns-2
     add-lo
     add-k

@@ -1,3 +1,6 @@
+use mathlib.Core.Path.{sym, _∙_}
+use mathlib.Core.Bool.{and-true, and-false}
+use borrow.Author.Tests.{not-true, not-false}
 use Rattle.point.specs.Tests.{rowsOk}
 use borrow.Author.Needs.{needs}
 use Rattle.point.proofs.rows_ok.Statement.{statement}
@@ -12,22 +15,32 @@ get-requires-2 c κs = search needs
 get-requires-3 : tie.Need-get-requires-3
 get-requires-3 c κs = search needs
 
-registrations-ok-requires : tie.Need-registrations-ok-requires
-registrations-ok-requires c κs = search needs
-
 spans-ok-requires : tie.Need-spans-ok-requires
 spans-ok-requires c κs = search needs
-
-records-ok-requires : tie.Need-records-ok-requires
-records-ok-requires c κs = search needs
-
-pending-ok-requires : tie.Need-pending-ok-requires
-pending-ok-requires c κs = search needs
 
 returns : tie.Need-returns
 unfolding rowsOk
 returns c =
-    rw (c .pending-ok .ensures, c .before .records-ok .ensures, c .before .before .spans-ok .ensures, c .before .before .before .registrations-ok .ensures, c .before .before .before .before .get3 .ensures .0, c .before .before .before .before .before .get2 .ensures .0, c .before .before .before .before .before .before .get .ensures .0)
+    let q = c .before in
+    rw (rw (q .before .before .get2 .ensures .0) at (sym (q .spans-ok .ensures) ∙ not-true _ (c .if1 .taken)), and-false _)
+
+registrations-ok-requires : tie.Need-registrations-ok-requires
+registrations-ok-requires c κs = search needs
+
+records-ok-requires : tie.Need-records-ok-requires
+records-ok-requires c κs =
+    let q = c .before .before in
+    (search needs, search needs, search needs, sym (q .spans-ok .ensures) ∙ not-false _ (c .before .if1 .left))
+
+pending-ok-requires : tie.Need-pending-ok-requires
+pending-ok-requires c κs = search needs
+
+returns-2 : tie.Need-returns-2
+unfolding rowsOk
+returns-2 c =
+    let q = c .before .before .before .before in
+    let s = rw (q .before .before .get2 .ensures .0) at (sym (q .spans-ok .ensures) ∙ not-false _ (c .before .before .before .if1 .left)) in
+    rw (c .pending-ok .ensures, c .before .records-ok .ensures, c .before .before .registrations-ok .ensures, q .before .get3 .ensures .0, q .before .before .get2 .ensures .0, q .before .before .before .get .ensures .0, s, and-true _)
 
 pub rows-ok-spec : {M : Type 1} → statement M
 rows-ok-spec =
@@ -36,8 +49,9 @@ rows-ok-spec =
     get-requires
     get-requires-2
     get-requires-3
-    registrations-ok-requires
     spans-ok-requires
+    returns
+    registrations-ok-requires
     records-ok-requires
     pending-ok-requires
-    returns)
+    returns-2)

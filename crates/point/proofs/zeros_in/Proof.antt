@@ -1,28 +1,24 @@
-use mathlib.Core.Path.{_≡_, sym, _∙_}
-use mathlib.Core.Bool.{true}
+use mathlib.Core.Path.{_≡_, _∙_}
 use Prim.Native.Nat.{_≤_, _-_}
 use native.Mathlib.Omega.{arith}
+use lib.Dec.{eqb}
 use Rattle.layout.specs.Sound.{zeros}
-use Rattle.point.proofs.Loops.{zeros-none, zeros-more, zeros-fail, zeros-less}
+use Rattle.point.proofs.Loops.{zeros-none, zeros-more, zeros-end}
 use borrow.Author.Needs.{needs}
 use Rattle.point.proofs.zeros_in.Statement.{statement}
 use Rattle.point.proofs.zeros_in.Tie as tie
 
 abbrev Inv-loop : tie.InvT-loop
-Inv-loop p a b i₀ i = (a ≤ i) × (zeros p a i ≡ true)
+Inv-loop p a b bits₀ i₀ bits i = (a ≤ i) × (i - a ≤ b - a) × (eqb bits 0 ≡ zeros p a i)
 
 abbrev μ-loop : tie.MeasureT-loop
-μ-loop p a b i₀ i = b - i
+μ-loop p a b bits₀ i₀ bits i = b - i
 
 loop-holds : tie.Need-loop-holds Inv-loop μ-loop
-loop-holds c = (omega arith, zeros-none _ _)
+loop-holds c = (omega arith, omega arith, zeros-none _ _)
 
-get-requires : tie.Need-get-requires Inv-loop μ-loop
-get-requires c κs = search needs
-
-returns : tie.Need-returns Inv-loop μ-loop
-returns c =
-    sym (zeros-fail _ _ (c .before .before .before .loop .i) _ (omega arith) (omega arith) (λ z. c .if1 .taken (c .before .get .ensures .0 ∙ z)))
+bits-at-requires : tie.Need-bits-at-requires Inv-loop μ-loop
+bits-at-requires c κs = search needs
 
 add-i : tie.Need-add-i Inv-loop μ-loop
 add-i c = search needs
@@ -32,12 +28,13 @@ loop-less c = search needs
 
 loop-again : tie.Need-loop-again Inv-loop μ-loop
 loop-again c =
-    (omega arith, zeros-more _ _ _ (omega arith) (c .before .before .before .loop .inv .1) (sym (c .before .get .ensures .0) ∙ c .if1 .left))
+    let l = c .before .before .loop in
+    (omega arith, omega arith, zeros-more _ _ (l .i) (l .bits) (c .bits-at .result) (l .inv .0) (l .inv .2) (c .bits-at .ensures))
 
-returns-2 : tie.Need-returns-2 Inv-loop μ-loop
-returns-2 c = sym (zeros-less _ _ (c .before .loop .i) _ (c .before .loop .inv .1) (omega arith))
+returns : tie.Need-returns Inv-loop μ-loop
+returns c = c .before .loop .inv .2 ∙ zeros-end _ _ (c .before .loop .i) _ (omega arith)
 
 pub zeros-in-spec : {M : Type 1} → statement M
 zeros-in-spec =
     tie.close
-    (tie.spec Inv-loop μ-loop loop-holds get-requires returns add-i loop-less loop-again returns-2)
+    (tie.spec Inv-loop μ-loop loop-holds bits-at-requires add-i loop-less loop-again returns)

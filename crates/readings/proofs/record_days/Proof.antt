@@ -1,11 +1,11 @@
 use Prim.Native.Nat.{_-_}
-use mathlib.Core.Path.{ap₂, _∙_}
+use mathlib.Core.Path.{_≡_, sym, ap₂, _∙_}
 use native.Mathlib.Omega.{arith}
 use lib.IntN.{pos}
 use Rattle.readings.specs.Readings.{daysBefore}
-use Rattle.readings.specs.Records.{recordOf}
+use Rattle.readings.specs.Records.{recordOf, countOf}
 use Rattle.readings.proofs.Part.{part-counted, RecordOk, record-ok}
-use Rattle.readings.proofs.Records.{before-up}
+use Rattle.readings.proofs.Records.{before-up, before-apart, part-none}
 use Rattle.readings.proofs.Days.{count-is}
 use borrow.Author.Needs.{needs}
 use Rattle.readings.proofs.record_days.Statement.{statement}
@@ -15,43 +15,63 @@ use Rattle.readings.proofs.record_days.Tie as tie
 row : (c : tie.Start) → RecordOk (recordOf (c .args .p .now) (c .args .k))
 row c = record-ok (c .pre .0) (c .args .k) (c .pre .1)
 
+starts : (c : tie.After-bits-at) → c .bits-at .result ≡ recordOf (c .before .args .p .now) (c .before .args .k) .start
+unfolding recordOf
+starts c = let h = row (c .before) in c .bits-at .ensures .same (omega arith)
+
+ends : (c : tie.After-bits-at2) → c .bits-at2 .result ≡ recordOf (c .before .before .args .p .now) (c .before .before .args .k) .end
+unfolding recordOf
+ends c = let h = row (c .before .before) in c .bits-at2 .ensures .same (omega arith)
+
 mul-at : tie.Need-mul-at
 mul-at c = let h = part-counted (c .pre .0) in search needs
 
 add-at : tie.Need-add-at
 add-at c = let h = part-counted (c .pre .0) in search needs
 
-get-requires : tie.Need-get-requires
-get-requires c κs = let h = part-counted (c .pre .0) in search needs
+bits-at-requires : tie.Need-bits-at-requires
+bits-at-requires c κs = let h = part-counted (c .pre .0) in search needs
 
-add-get : tie.Need-add-get
-add-get c = let h = part-counted (c .before .pre .0) in search needs
+add-bits-at : tie.Need-add-bits-at
+add-bits-at c = let h = part-counted (c .before .pre .0) in search needs
 
-get-requires-2 : tie.Need-get-requires-2
-get-requires-2 c κs = let h = part-counted (c .before .pre .0) in search needs
-
-days-before-requires : tie.Need-days-before-requires
-unfolding recordOf
-days-before-requires c κs = let h = row (c .before .before) in omega arith
-
-days-before-requires-2 : tie.Need-days-before-requires-2
-unfolding recordOf
-days-before-requires-2 c κs = let h = row (c .before .before .before) in omega arith
-
-sub-result : tie.Need-sub-result
-sub-result c =
-    let s = c .before .before .before .before in
-    omega (arith, before-up (c .before .before .before .get .result) (c .before .before .get2 .result) (s .args .x) (s .args .y) (s .pre .2))
+bits-at-requires-2 : tie.Need-bits-at-requires-2
+bits-at-requires-2 c κs = let h = part-counted (c .before .pre .0) in search needs
 
 returns : tie.Need-returns
 unfolding recordOf
 returns c =
-    let s = c .before .before .before .before in
+    let g = c .before in
+    let s = g .before .before in
+    let x = s .args .x in
+    let y = s .args .y in
+    let e = recordOf (s .args .p .now) (s .args .k) in
+    let h = rw (starts (g .before), ends g) at (c .if1 .taken) in
+    (sym (part-none countOf x y e (before-apart (e .start) (e .end) x y (s .pre .2) h)), search needs)
+
+days-before-requires : tie.Need-days-before-requires
+unfolding recordOf
+days-before-requires c κs = let h = row (c .before .before .before) in omega (arith, starts (c .before .before), ends (c .before))
+
+days-before-requires-2 : tie.Need-days-before-requires-2
+unfolding recordOf
+days-before-requires-2 c κs =
+    let h = row (c .before .before .before .before) in omega (arith, starts (c .before .before .before), ends (c .before .before))
+
+sub-result : tie.Need-sub-result
+sub-result c =
+    let s = c .before .before .before .before .before in
+    omega (arith, before-up (c .before .before .before .before .bits-at .result) (c .before .before .before .bits-at2 .result) (s .args .x) (s .args .y) (s .pre .2))
+
+returns-2 : tie.Need-returns-2
+unfolding recordOf
+returns-2 c =
+    let s = c .before .before .before .before .before in
     let h = row s in
-    let starts = c .before .before .before .get .ensures .0 in
-    let ends = c .before .before .get2 .ensures .0 in
-    let j = c .before .days-before .ensures .0 ∙ ap₂ (λ a b. daysBefore a b (s .args .y)) starts ends in
-    let i = c .days-before2 .ensures .0 ∙ ap₂ (λ a b. daysBefore a b (s .args .x)) starts ends in (
+    let a = starts (c .before .before .before .before) in
+    let b = ends (c .before .before .before) in
+    let j = c .before .days-before .ensures .0 ∙ ap₂ (λ a b. daysBefore a b (s .args .y)) a b in
+    let i = c .days-before2 .ensures .0 ∙ ap₂ (λ a b. daysBefore a b (s .args .x)) a b in (
       ap₂ (λ j i. pos (j - i)) j i
           ∙ count-is (recordOf (s .args .p .now) (s .args .k)) (s .args .x) (s .args .y) (s .pre .2),
       omega arith,
@@ -63,10 +83,11 @@ record-days-spec =
     (tie.spec
     mul-at
     add-at
-    get-requires
-    add-get
-    get-requires-2
+    bits-at-requires
+    add-bits-at
+    bits-at-requires-2
+    returns
     days-before-requires
     days-before-requires-2
     sub-result
-    returns)
+    returns-2)

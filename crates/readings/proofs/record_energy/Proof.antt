@@ -5,7 +5,7 @@ use Rattle.daybook.specs.Book.{Entry}
 use Rattle.readings.specs.Readings.{daysBefore}
 use Rattle.readings.specs.Records.{recordOf, partialOf}
 use Rattle.readings.proofs.Part.{part-counted, RecordOk, record-ok}
-use Rattle.readings.proofs.Records.{part-none}
+use Rattle.readings.proofs.Records.{before-apart, part-none}
 use Rattle.readings.proofs.Energy.{Parts, parts-near, parts-are}
 use borrow.Author.Needs.{needs}
 use Rattle.readings.proofs.record_energy.Statement.{statement}
@@ -18,21 +18,29 @@ read s = recordOf (s .args .p .now) (s .args .k)
 row : (s : tie.Start) → RecordOk (read s)
 row s = record-ok (s .pre .0) (s .args .k) (s .pre .1)
 
+starts : (c : tie.After-bits-at) → c .bits-at .result ≡ read (c .before) .start
+unfolding recordOf
+starts c = let h = row (c .before) in c .bits-at .ensures .same (omega arith)
+
+ends : (c : tie.After-bits-at2) → c .bits-at2 .result ≡ read (c .before .before) .end
+unfolding recordOf
+ends c = let h = row (c .before .before) in c .bits-at2 .ensures .same (omega arith)
+
 before-x : (c : tie.After-days-before)
-    → let s : tie.Start = c .before .before .before in
+    → let s : tie.Start = c .before .before .before .before in
     c .days-before .result ≡ daysBefore (read s .start) (read s .end) (s .args .x)
 unfolding recordOf
 before-x c =
     c .days-before .ensures .0
-    ∙ ap₂ (λ a b. daysBefore a b (c .before .before .before .args .x)) (c .before .before .get .ensures .0) (c .before .get2 .ensures .0)
+    ∙ ap₂ (λ a b. daysBefore a b (c .before .before .before .before .args .x)) (starts (c .before .before .before)) (ends (c .before .before))
 
 before-y : (c : tie.After-days-before2)
-    → let s : tie.Start = c .before .before .before .before in
+    → let s : tie.Start = c .before .before .before .before .before in
     c .days-before2 .result ≡ daysBefore (read s .start) (read s .end) (s .args .y)
 unfolding recordOf
 before-y c =
     c .days-before2 .ensures .0
-    ∙ ap₂ (λ a b. daysBefore a b (c .before .before .before .before .args .y)) (c .before .before .before .get .ensures .0) (c .before .before .get2 .ensures .0)
+    ∙ ap₂ (λ a b. daysBefore a b (c .before .before .before .before .before .args .y)) (starts (c .before .before .before .before)) (ends (c .before .before .before))
 
 mul-at : tie.Need-mul-at
 mul-at c = let h = part-counted (c .pre .0) in search needs
@@ -40,27 +48,33 @@ mul-at c = let h = part-counted (c .pre .0) in search needs
 add-at : tie.Need-add-at
 add-at c = let h = part-counted (c .pre .0) in search needs
 
-get-requires : tie.Need-get-requires
-get-requires c κs = let h = part-counted (c .pre .0) in search needs
+bits-at-requires : tie.Need-bits-at-requires
+bits-at-requires c κs = let h = part-counted (c .pre .0) in search needs
 
-add-get : tie.Need-add-get
-add-get c = let h = part-counted (c .before .pre .0) in search needs
+add-bits-at : tie.Need-add-bits-at
+add-bits-at c = let h = part-counted (c .before .pre .0) in search needs
 
-get-requires-2 : tie.Need-get-requires-2
-get-requires-2 c κs = let h = part-counted (c .before .pre .0) in search needs
+bits-at-requires-2 : tie.Need-bits-at-requires-2
+bits-at-requires-2 c κs = let h = part-counted (c .before .pre .0) in search needs
+
+returns : tie.Need-returns
+unfolding recordOf
+returns c =
+    let g = c .before in
+    let s = g .before .before in
+    let x = s .args .x in
+    let y = s .args .y in
+    let h = rw (starts (g .before), ends g) at (c .if1 .taken) in
+    (sym (part-none partialOf x y (read s) (before-apart (read s .start) (read s .end) x y (s .pre .2) h)), search needs)
 
 days-before-requires : tie.Need-days-before-requires
 unfolding recordOf
-days-before-requires c κs = let h = row (c .before .before) in omega arith
+days-before-requires c κs = let h = row (c .before .before .before) in omega (arith, starts (c .before .before), ends (c .before))
 
 days-before-requires-2 : tie.Need-days-before-requires-2
 unfolding recordOf
-days-before-requires-2 c κs = let h = row (c .before .before .before) in omega arith
-
-returns : tie.Need-returns
-returns c =
-    let s = c .before .before .before .before .before in
-    (sym (part-none partialOf (s .args .x) (s .args .y) (read s) (sym (before-x (c .before .before)) ∙ c .if1 .taken ∙ before-y (c .before))), search needs)
+days-before-requires-2 c κs =
+    let h = row (c .before .before .before .before) in omega (arith, starts (c .before .before .before), ends (c .before .before))
 
 add-get-energy : tie.Need-add-get-energy
 add-get-energy c = let h = part-counted (c .before .before .before .before .before .pre .0) in search needs
@@ -69,35 +83,42 @@ get-energy-requires : tie.Need-get-energy-requires
 get-energy-requires c κs = let h = part-counted (c .before .before .before .before .before .pre .0) in search needs
 
 add-n : tie.Need-add-n
-add-n c = search needs
+unfolding recordOf
+add-n c =
+    let g = c .before .before .before .before in
+    let h = row (g .before .before) in let e = ends g in search needs
 
 sub-n : tie.Need-sub-n
 sub-n c = search needs
 
 partial-energy-requires : tie.Need-partial-energy-requires
 unfolding recordOf
-partial-energy-requires c κs = let h = row (c .before .before .before .before .before .before) in omega arith
+partial-energy-requires c κs =
+    let g = c .before .before .before .before in
+    let h = row (g .before .before) in omega (arith, starts (g .before), ends g)
 
 add-result : tie.Need-add-result
 add-result c = search needs
 
 partial-energy-requires-2 : tie.Need-partial-energy-requires-2
 unfolding recordOf
-partial-energy-requires-2 c κs = let h = row (c .before .before .before .before .before .before .before) in omega arith
+partial-energy-requires-2 c κs =
+    let g = c .before .before .before .before .before in
+    let h = row (g .before .before) in omega (arith, starts (g .before), ends g)
 
 -- what is at hand where the two parts have been read
 parts : (c : tie.After-partial-energy2)
-    → let d : tie.After-days-before2 = c .before .before .before .before in
-    let s : tie.Start = d .before .before .before .before in
+    → let d : tie.After-days-before2 = c .before .before .before in
+    let s : tie.Start = d .before .before .before .before .before in
     Parts (read s) (s .args .x) (s .args .y) (c .before .before .get-energy .result)
-    (d .before .before .get2 .result + 1 - d .before .before .before .get .result)
+    (d .before .before .before .bits-at2 .result + 1 - d .before .before .before .before .bits-at .result)
     (d .before .days-before .result) (d .days-before2 .result) (c .partial-energy2 .result) (c .before .partial-energy .result)
 unfolding recordOf
 parts c =
-    let d = c .before .before .before .before in
+    let d = c .before .before .before in
     record {
       raised = c .before .before .get-energy .ensures;
-      days = omega (arith, d .before .before .get2 .ensures .0, d .before .before .before .get .ensures .0);
+      days = omega (arith, ends (d .before .before .before), starts (d .before .before .before .before));
       beforeX = before-x (d .before);
       beforeY = before-y d;
       firstI = c .partial-energy2 .ensures .0;
@@ -118,12 +139,12 @@ record-energy-spec =
     (tie.spec
     mul-at
     add-at
-    get-requires
-    add-get
-    get-requires-2
+    bits-at-requires
+    add-bits-at
+    bits-at-requires-2
+    returns
     days-before-requires
     days-before-requires-2
-    returns
     add-get-energy
     get-energy-requires
     add-n

@@ -8,7 +8,7 @@ use Rattle.daybook.specs.Queries.{active}
 use Rattle.readings.specs.Readings.{pointAt}
 use Rattle.readings.proofs.Part.{part-counted}
 use Rattle.readings.proofs.Users.{kind-is, base-is, base-few}
-use Rattle.readings.proofs.Weights.{weight-none, weight-base, weight-measured}
+use Rattle.readings.proofs.Weights.{weight-none, weight-base, weight-measured, weight-shown}
 use borrow.Author.Needs.{needs}
 use Rattle.readings.proofs.weight.Statement.{statement}
 use Rattle.readings.proofs.weight.Tie as tie
@@ -34,6 +34,21 @@ returns c =
     let s = t .before .before in
     (weight-none (point s) (s .args .g) (s .args .a) (s .args .b) (sym (test-is t) ∙ not-true _ (c .if1 .taken)), search needs)
 
+measured-requires : tie.Need-measured-requires
+measured-requires c κs = search needs
+
+returns-2 : tie.Need-returns-2
+returns-2 c =
+    let m = c .before in
+    let i = m .before in
+    let s = i .before .before .before in
+    let h = part-counted (s .pre .0) in (
+      m .measured .ensures .0
+          ∙ weight-shown (point s) (s .args .g) (s .args .a) (s .args .b) (sym (test-is (i .before)) ∙ not-false _ (i .if1 .left))
+          (λ z. c .if2 .taken (m .measured .ensures .0 ∙ z)),
+      omega arith,
+    )
+
 add-filled-between : tie.Need-add-filled-between
 add-filled-between c = search needs
 
@@ -43,28 +58,25 @@ filled-between-requires c κs = search needs
 get-requires-2 : tie.Need-get-requires-2
 get-requires-2 c κs = search needs
 
-returns-2 : tie.Need-returns-2
-returns-2 c =
-    let i = c .before .before .before in
+returns-3 : tie.Need-returns-3
+returns-3 c =
+    let f = c .before .before in
+    let i = f .before .before .before in
     let s = i .before .before .before in
-    let h = base-few (s .pre .0) in
-    let none = sym (c .before .before .filled-between .ensures) ∙ c .before .if2 .taken in (
+    let h = base-few (s .pre .0) in (
       c .get2 .ensures .0 ∙ base-is (s .args .p .now)
-          ∙ weight-base (point s) (s .args .g) (s .args .a) (s .args .b) (sym (test-is (i .before)) ∙ not-false _ (i .if1 .left)) none,
+          ∙ weight-base (point s) (s .args .g) (s .args .a) (s .args .b) (sym (test-is (i .before)) ∙ not-false _ (i .if1 .left)) (sym (f .filled-between .ensures) ∙ c .before .if3 .taken),
       omega arith,
     )
 
-measured-requires : tie.Need-measured-requires
-measured-requires c κs = search needs
-
-returns-3 : tie.Need-returns-3
-returns-3 c =
-    let i = c .before .before .before in
-    let s = i .before .before .before in
-    let h = part-counted (s .pre .0) in (
-      c .measured .ensures .0
+returns-4 : tie.Need-returns-4
+returns-4 c =
+    let f = c .before in
+    let i = f .before .before .before in
+    let s = i .before .before .before in (
+      sym (f .before .if2 .left) ∙ f .before .before .measured .ensures .0
           ∙ weight-measured (point s) (s .args .g) (s .args .a) (s .args .b) (sym (test-is (i .before)) ∙ not-false _ (i .if1 .left))
-          (λ e. c .before .if2 .left (c .before .before .filled-between .ensures ∙ e)),
+          (λ e. c .if3 .left (f .filled-between .ensures ∙ e)),
       omega arith,
     )
 
@@ -75,9 +87,10 @@ weight-spec =
     active-requires
     get-requires
     returns
+    measured-requires
+    returns-2
     add-filled-between
     filled-between-requires
     get-requires-2
-    returns-2
-    measured-requires
-    returns-3)
+    returns-3
+    returns-4)
