@@ -45,26 +45,11 @@ to-is c =
     c .natural3 .ensures .0
     ∙ natural-read (query (s .before .before .before) .to) (sfits-of (s .struct-told3 .given .1 .1 .0 .1))
 
-sound-requires : tie.Need-sound-requires
-sound-requires c κs = search needs
-
 returns : tie.Need-returns
 returns c = unsound-ends _ _ (sym (c .before .sound .ensures) ∙ not-true _ (c .if1 .taken))
 
-in-range-requires : tie.Need-in-range-requires
-in-range-requires c κs = search needs
-
 returns-2 : tie.Need-returns-2
 returns-2 c = range-ends _ _ (sound-is (c .before .before)) (sym (c .before .in-range .ensures) ∙ not-true _ (c .if2 .taken))
-
-natural-requires : tie.Need-natural-requires
-natural-requires c κs = search needs
-
-natural-requires-2 : tie.Need-natural-requires-2
-natural-requires-2 c κs = search needs
-
-natural-requires-3 : tie.Need-natural-requires-3
-natural-requires-3 c κs = search needs
 
 table-energy-requires : tie.Need-table-energy-requires
 table-energy-requires c κs =
@@ -82,12 +67,12 @@ pub account-spec : {M : Type 1} → statement M
 account-spec =
     tie.close
     (tie.spec
-    sound-requires
+    (λ c κs. search needs)
     returns
-    in-range-requires
+    (λ c κs. search needs)
     returns-2
-    natural-requires
-    natural-requires-2
-    natural-requires-3
+    (λ c κs. search needs)
+    (λ c κs. search needs)
+    (λ c κs. search needs)
     table-energy-requires
     returns-3)

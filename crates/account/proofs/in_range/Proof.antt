@@ -5,15 +5,6 @@ use borrow.Author.Needs.{sfits-of, needs}
 use Rattle.account.proofs.in_range.Statement.{statement}
 use Rattle.account.proofs.in_range.Tie as tie
 
-natural-requires : tie.Need-natural-requires
-natural-requires c κs = search needs
-
-natural-requires-2 : tie.Need-natural-requires-2
-natural-requires-2 c κs = search needs
-
-natural-requires-3 : tie.Need-natural-requires-3
-natural-requires-3 c κs = search needs
-
 returns : tie.Need-returns
 returns c =
     let s = c .before .before .before in
@@ -24,4 +15,4 @@ returns c =
     (c .natural3 .ensures .0 ∙ natural-read (n .to) (sfits-of (s .struct-told3 .given .1 .1 .0 .1)))
 
 pub in-range-spec : {M : Type 1} → statement M
-in-range-spec = tie.close (tie.spec natural-requires natural-requires-2 natural-requires-3 returns)
+in-range-spec = tie.close (tie.spec (λ c κs. search needs) (λ c κs. search needs) (λ c κs. search needs) returns)

@@ -21,23 +21,11 @@ Inv-loop p user x y n sum₀ j₀ sum j =
 abbrev μ-loop : tie.MeasureT-loop
 μ-loop p user x y n sum₀ j₀ sum j = n - j
 
-get-requires : tie.Need-get-requires Inv-loop μ-loop
-get-requires c κs = search needs
-
 loop-holds : tie.Need-loop-holds Inv-loop μ-loop
 loop-holds c = (omega arith, omega arith, sum-none _ 0)
 
-registration-energy-requires : tie.Need-registration-energy-requires Inv-loop μ-loop
-registration-energy-requires c κs = search needs
-
 add-sum : tie.Need-add-sum Inv-loop μ-loop
 add-sum c = let h = part-counted (c .before .before .before .before .pre .0) in search needs
-
-add-j : tie.Need-add-j Inv-loop μ-loop
-add-j c = search needs
-
-loop-less : tie.Need-loop-less Inv-loop μ-loop
-loop-less c = search needs
 
 loop-again : tie.Need-loop-again Inv-loop μ-loop
 loop-again c =
@@ -73,12 +61,12 @@ point-energy-spec =
     (tie.spec
     Inv-loop
     μ-loop
-    get-requires
+    (λ c κs. search needs)
     loop-holds
-    registration-energy-requires
+    (λ c κs. search needs)
     add-sum
-    add-j
-    loop-less
+    (λ c. search needs)
+    (λ c. search needs)
     loop-again
     add-result
     mul-result

@@ -23,14 +23,8 @@ returns c =
     let s = c .before .before in
     (sym (own-other _ (s .args .user) (s .args .p .now) (s .args .x) (s .args .y) (s .args .j) (λ e. c .if1 .taken (c .before .get .ensures .0 ∙ e))), search needs)
 
-start-in-requires : tie.Need-start-in-requires
-start-in-requires c κs = search needs
-
 add-start-in : tie.Need-add-start-in
 add-start-in c = let h = part-counted (c .before .before .before .pre .0) in search needs
-
-start-in-requires-2 : tie.Need-start-in-requires-2
-start-in-requires-2 c κs = search needs
 
 energy-between-requires : tie.Need-energy-between-requires
 energy-between-requires c κs =
@@ -56,8 +50,8 @@ registration-energy-spec =
     add-get-2
     get-requires
     returns
-    start-in-requires
+    (λ c κs. search needs)
     add-start-in
-    start-in-requires-2
+    (λ c κs. search needs)
     energy-between-requires
     returns-2)

@@ -7,25 +7,16 @@ use borrow.Author.Needs.{needs}
 use Rattle.account.proofs.start_in.Statement.{statement}
 use Rattle.account.proofs.start_in.Tie as tie
 
-get-requires : tie.Need-get-requires
-get-requires c κs = search needs
-
 returns : tie.Need-returns
 returns c =
     let s = c .before .before in
     sym (start-end (s .args .p .now) (s .args .x) (s .args .y) (s .args .j) (omega arith))
-
-mul-get : tie.Need-mul-get
-mul-get c = search needs
 
 add-get : tie.Need-add-get
 add-get c = let h = part-counted (c .before .before .pre .0) in search needs
 
 get-requires-2 : tie.Need-get-requires-2
 get-requires-2 c κs = let h = part-counted (c .before .before .pre .0) in search needs
-
-moved-into-requires : tie.Need-moved-into-requires
-moved-into-requires c κs = search needs
 
 returns-2 : tie.Need-returns-2
 returns-2 c =
@@ -36,4 +27,11 @@ returns-2 c =
 pub start-in-spec : {M : Type 1} → statement M
 start-in-spec =
     tie.close
-    (tie.spec get-requires returns mul-get add-get get-requires-2 moved-into-requires returns-2)
+    (tie.spec
+    (λ c κs. search needs)
+    returns
+    (λ c. search needs)
+    add-get
+    get-requires-2
+    (λ c κs. search needs)
+    returns-2)

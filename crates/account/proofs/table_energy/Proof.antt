@@ -32,9 +32,6 @@ loop-holds c = (omega arith, omega arith, sum-none _ 0)
 part-requires : tie.Need-part-requires Inv-loop μ-loop
 part-requires c κs = let l = sound-long _ (c .before .before .before .pre .0) in search needs
 
-add-point-energy : tie.Need-add-point-energy Inv-loop μ-loop
-add-point-energy c = search needs
-
 point-energy-requires : tie.Need-point-energy-requires Inv-loop μ-loop
 point-energy-requires c κs =
     let s = c .before .before .before .before in
@@ -42,12 +39,6 @@ point-energy-requires c κs =
 
 add-sum : tie.Need-add-sum Inv-loop μ-loop
 add-sum c = let l = sound-long _ (c .before .before .before .before .before .pre .0) in search needs
-
-add-i : tie.Need-add-i Inv-loop μ-loop
-add-i c = search needs
-
-loop-less : tie.Need-loop-less Inv-loop μ-loop
-loop-less c = search needs
 
 loop-again : tie.Need-loop-again Inv-loop μ-loop
 loop-again c =
@@ -85,11 +76,11 @@ table-energy-spec =
     get-requires
     loop-holds
     part-requires
-    add-point-energy
+    (λ c. search needs)
     point-energy-requires
     add-sum
-    add-i
-    loop-less
+    (λ c. search needs)
+    (λ c. search needs)
     loop-again
     mul-difference
     difference-requires

@@ -44,27 +44,11 @@ weights-are c =
 sum-is : (c : tie.After-sum-of) → c .sum-of .result ≡ total (weights (c .before .before .before .before .before .before .before .before .before .before .before .before .before .args .q) (tableBook standard (c .before .before .before .before .before .before .before .before .before .before .before .before .before .args .t .now)))
 sum-is c = c .sum-of .ensures .0 ∙ ap total (weights-are (c .before .before)) ∙ total-padded (weights (c .before .before .before .before .before .before .before .before .before .before .before .before .before .args .q) (tableBook standard (c .before .before .before .before .before .before .before .before .before .before .before .before .before .args .t .now)))
 
--- src/lib.rt:223:9
-sound-requires : tie.Need-sound-requires
-sound-requires c κs = search needs
-
--- src/lib.rt:224:9
-refused-requires : tie.Need-refused-requires
-refused-requires c κs = search needs
-
 -- src/lib.rt:224:9
 returns : tie.Need-returns
 returns c =
     let s = c .before .before .before in
     sent-back 1 (s .args .out .now) (c .refused .ensures) (call-unsound (s .args .t .now) (s .args .q) (length (s .args .out .now)) (sym (c .before .before .sound .ensures) ∙ not-true _ (c .before .if1 .taken)))
-
--- src/lib.rt:226:9
-in-range-requires : tie.Need-in-range-requires
-in-range-requires c κs = search needs
-
--- src/lib.rt:227:9
-refused-requires-2 : tie.Need-refused-requires-2
-refused-requires-2 c κs = search needs
 
 -- src/lib.rt:227:9
 returns-2 : tie.Need-returns-2
@@ -72,18 +56,6 @@ returns-2 c =
     let s = c .before .before .before .before .before in
     sent-back 2 (s .args .out .now) (c .refused2 .ensures)
     (call-range (s .args .t .now) (s .args .q) (length (s .args .out .now)) (sound-is (c .before .before .before)) (sym (c .before .before .in-range .ensures) ∙ not-true _ (c .before .if2 .taken)))
-
--- src/lib.rt:234:9
-natural-requires : tie.Need-natural-requires
-natural-requires c κs = search needs
-
--- src/lib.rt:235:9
-natural-requires-2 : tie.Need-natural-requires-2
-natural-requires-2 c κs = search needs
-
--- src/lib.rt:236:9
-natural-requires-3 : tie.Need-natural-requires-3
-natural-requires-3 c κs = search needs
 
 -- src/lib.rt:232:14
 weights-requires : tie.Need-weights-requires
@@ -95,28 +67,12 @@ weights-requires c κs =
       rw (to-is c) (ok .toHigh),
     )
 
--- src/lib.rt:238:20
-slice-aggregate-sum-of : tie.Need-slice-aggregate-sum-of
-slice-aggregate-sum-of c = search needs
-
--- src/lib.rt:238:9
-sum-of-requires : tie.Need-sum-of-requires
-sum-of-requires c κs = search needs
-
--- src/lib.rt:240:9
-refused-requires-3 : tie.Need-refused-requires-3
-refused-requires-3 c κs = search needs
-
 -- src/lib.rt:240:9
 returns-3 : tie.Need-returns-3
 returns-3 c =
     let s = c .before .before .before .before .before .before .before .before .before .before .before .before .before .before .before in
     sent-back 15 (s .args .out .now) (c .refused3 .ensures)
     (call-weightless (s .args .t .now) (s .args .q) (length (s .args .out .now)) (sound-is (c .before .before .before .before .before .before .before .before .before .before .before .before .before)) (range-is (c .before .before .before .before .before .before .before .before .before .before .before)) (sym (sum-is (c .before .before)) ∙ c .before .if3 .taken))
-
--- src/lib.rt:242:21
-slice-aggregate-apportion : tie.Need-slice-aggregate-apportion
-slice-aggregate-apportion c = search needs
 
 -- src/lib.rt:242:5
 apportion-requires : tie.Need-apportion-requires
@@ -130,10 +86,6 @@ apportion-requires c κs = record {
 }
 
 -- src/lib.rt:220:1
-same-length : tie.Need-same-length
-same-length c = search needs
-
--- src/lib.rt:220:1
 returns-4 : tie.Need-returns-4
 returns-4 c =
     let s = c .before .before .before .before .before .before .before .before .before .before .before .before .before .before .before .before .before .before in
@@ -144,21 +96,21 @@ pub allocate-spec : {M : Type 1} → statement M
 allocate-spec =
     tie.close
     (tie.spec
-    sound-requires
-    refused-requires
+    (λ c κs. search needs)
+    (λ c κs. search needs)
     returns
-    in-range-requires
-    refused-requires-2
+    (λ c κs. search needs)
+    (λ c κs. search needs)
     returns-2
-    natural-requires
-    natural-requires-2
-    natural-requires-3
+    (λ c κs. search needs)
+    (λ c κs. search needs)
+    (λ c κs. search needs)
     weights-requires
-    slice-aggregate-sum-of
-    sum-of-requires
-    refused-requires-3
+    (λ c. search needs)
+    (λ c κs. search needs)
+    (λ c κs. search needs)
     returns-3
-    slice-aggregate-apportion
+    (λ c. search needs)
     apportion-requires
-    same-length
+    (λ c. search needs)
     returns-4)

@@ -36,10 +36,6 @@ fros-is c =
     c .fros .ensures
     ∙ ap (λ g. padded (map (λ p. p .fro g) (pointsOf (c .before .before .before .before .before .before .before .before .before .before .args .t .now)))) (gasday-is (c .before .before .before .before .before .before .before))
 
--- src/lib.rt:207:9
-natural-requires : tie.Need-natural-requires
-natural-requires c κs = search needs
-
 -- src/lib.rt:208:28
 metered-requires : tie.Need-metered-requires
 metered-requires c κs =
@@ -65,14 +61,6 @@ split-to-requires c κs =
     let s = c .before .before .before .before .before .before .before in
     (weigh-32 (s .pre), in-range-tells (s .args .q) (length (s .args .out .now)) (s .pre .inRange) .1, c .before .net-load .ensures .1, s .pre .some, s .pre .few, s .pre .sum)
 
--- src/lib.rt:210:14
-fros-requires : tie.Need-fros-requires
-fros-requires c κs = search needs
-
--- src/lib.rt:211:22
-slice-aggregate-totals : tie.Need-slice-aggregate-totals
-slice-aggregate-totals c = search needs
-
 -- src/lib.rt:211:9
 totals-requires : tie.Need-totals-requires
 totals-requires c κs =
@@ -83,14 +71,6 @@ totals-requires c κs =
       rw out (placed-long (split (load .net-load .result) (s .args .s) 0 (s .args .ws .now)) (s .args .out .now) (split-32 (s .pre) (load .net-load .result))),
       subst (SharesBelow 3032000000) (sym out) (shares-small (s .pre) (nsl-is load) (load .net-load .ensures .1) (s .args .out .now)),
     )
-
--- src/lib.rt:214:14
-integer-requires : tie.Need-integer-requires
-integer-requires c κs = search needs
-
--- src/lib.rt:202:1
-same-length : tie.Need-same-length
-same-length c = search needs
 
 -- src/lib.rt:202:1
 returns : tie.Need-returns
@@ -108,14 +88,14 @@ pub apportion-spec : {M : Type 1} → statement M
 apportion-spec =
     tie.close
     (tie.spec
-    natural-requires
+    (λ c κs. search needs)
     metered-requires
     get-requires
     net-load-requires
     split-to-requires
-    fros-requires
-    slice-aggregate-totals
+    (λ c κs. search needs)
+    (λ c. search needs)
     totals-requires
-    integer-requires
-    same-length
+    (λ c κs. search needs)
+    (λ c. search needs)
     returns)

@@ -36,22 +36,6 @@ fro-on-requires c κs =
     let k = c .before .before .loop .i in
     subst Readable (sym (c .part .ensures .0)) (part-readable (s .args .t .now) (s .pre) k (omega (arith, c .before .before .before .get .ensures .0)))
 
--- src/lib.rt:169:9
-mul-us : tie.Need-mul-us Inv-loop μ-loop
-mul-us c = search needs
-
--- src/lib.rt:169:9
-array-write-us : tie.Need-array-write-us Inv-loop μ-loop
-array-write-us c = omega arith
-
--- src/lib.rt:170:9
-add-i : tie.Need-add-i Inv-loop μ-loop
-add-i c = search needs
-
--- src/lib.rt:168:5
-loop-less : tie.Need-loop-less Inv-loop μ-loop
-loop-less c = search needs
-
 -- src/lib.rt:168:5
 loop-again : tie.Need-loop-again Inv-loop μ-loop
 loop-again c =
@@ -77,9 +61,9 @@ fros-spec =
     loop-holds
     part-requires
     fro-on-requires
-    mul-us
-    array-write-us
-    add-i
-    loop-less
+    (λ c. search needs)
+    (λ c. omega arith)
+    (λ c. search needs)
+    (λ c. search needs)
     loop-again
     returns)

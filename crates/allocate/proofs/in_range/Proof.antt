@@ -7,34 +7,6 @@ use Rattle.allocate.proofs.Loads.{isLoad, in-range-is}
 use Rattle.allocate.proofs.in_range.Statement.{statement}
 use Rattle.allocate.proofs.in_range.Tie as tie
 
--- src/lib.rt:42:9
-natural-requires : tie.Need-natural-requires
-natural-requires c κs = search needs
-
--- src/lib.rt:43:9
-natural-requires-2 : tie.Need-natural-requires-2
-natural-requires-2 c κs = search needs
-
--- src/lib.rt:44:9
-natural-requires-3 : tie.Need-natural-requires-3
-natural-requires-3 c κs = search needs
-
--- src/lib.rt:50:17
-add-result : tie.Need-add-result
-add-result c = search needs
-
--- src/lib.rt:51:12
-natural-requires-4 : tie.Need-natural-requires-4
-natural-requires-4 c κs = search needs
-
--- src/lib.rt:52:11
-load-ok-requires : tie.Need-load-ok-requires
-load-ok-requires c κs = search needs
-
--- src/lib.rt:53:11
-load-ok-requires-2 : tie.Need-load-ok-requires-2
-load-ok-requires-2 c κs = search needs
-
 -- src/lib.rt:33:1
 returns : tie.Need-returns
 returns c =
@@ -53,11 +25,11 @@ pub in-range-spec : {M : Type 1} → statement M
 in-range-spec =
     tie.close
     (tie.spec
-    natural-requires
-    natural-requires-2
-    natural-requires-3
-    add-result
-    natural-requires-4
-    load-ok-requires
-    load-ok-requires-2
+    (λ c κs. search needs)
+    (λ c κs. search needs)
+    (λ c κs. search needs)
+    (λ c. search needs)
+    (λ c κs. search needs)
+    (λ c κs. search needs)
+    (λ c κs. search needs)
     returns)

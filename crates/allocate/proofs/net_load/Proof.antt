@@ -32,38 +32,6 @@ load-is c =
     (c .before .raised-load .ensures .0 ∙ toZ-ofZ w64 (s .args .q .uag) (sfits-of (fits .1 .1 .1 .1 .0 .1)))
     (c .raised-load2 .ensures .0 ∙ toZ-ofZ w64 (s .args .q .clp) (sfits-of (fits .1 .1 .1 .1 .1 .0 .1)))
 
--- src/lib.rt:65:18
-natural-requires : tie.Need-natural-requires
-natural-requires c κs = search needs
-
--- src/lib.rt:65:42
-mul-gained : tie.Need-mul-gained
-mul-gained c = search needs
-
--- src/lib.rt:65:18
-add-gained : tie.Need-add-gained
-add-gained c = search needs
-
--- src/lib.rt:65:18
-add-gained-2 : tie.Need-add-gained-2
-add-gained-2 c = search needs
-
--- src/lib.rt:66:23
-raised-load-requires : tie.Need-raised-load-requires
-raised-load-requires c κs = search needs
-
--- src/lib.rt:66:17
-add-taken : tie.Need-add-taken
-add-taken c = search needs
-
--- src/lib.rt:66:42
-raised-load-requires-2 : tie.Need-raised-load-requires-2
-raised-load-requires-2 c κs = search needs
-
--- src/lib.rt:66:17
-add-taken-2 : tie.Need-add-taken-2
-add-taken-2 c = search needs
-
 -- src/lib.rt:68:9
 returns : tie.Need-returns
 returns c = (omega (arith, c .if1 .taken) ∙ load-is (c .before), omega arith)
@@ -76,13 +44,13 @@ pub net-load-spec : {M : Type 1} → statement M
 net-load-spec =
     tie.close
     (tie.spec
-    natural-requires
-    mul-gained
-    add-gained
-    add-gained-2
-    raised-load-requires
-    add-taken
-    raised-load-requires-2
-    add-taken-2
+    (λ c κs. search needs)
+    (λ c. search needs)
+    (λ c. search needs)
+    (λ c. search needs)
+    (λ c κs. search needs)
+    (λ c. search needs)
+    (λ c κs. search needs)
+    (λ c. search needs)
     returns
     returns-2)

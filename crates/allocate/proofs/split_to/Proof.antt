@@ -33,14 +33,6 @@ loop-holds : tie.Need-loop-holds Inv-loop μ-loop
 unfolding split
 loop-holds c = (omega arith, refl, sym (sum-none (c .before .args .ws .now)), sym (nothing-yet (c .before .args .load) (c .before .args .s)), refl)
 
--- src/lib.rt:96:16
-mul-sum : tie.Need-mul-sum Inv-loop μ-loop
-mul-sum c = search needs
-
--- src/lib.rt:96:16
-shared-slice-read-sum : tie.Need-shared-slice-read-sum Inv-loop μ-loop
-shared-slice-read-sum c = search needs
-
 -- src/lib.rt:96:9
 add-sum : tie.Need-add-sum Inv-loop μ-loop
 add-sum c = record { fits = omega (arith, more-small c, c .before .before .before .before .pre .4) }
@@ -71,14 +63,6 @@ put-requires c κs =
     let small = part-small (s .args .load) (k .sum + getD (s .args .ws .now) (k .k) 0) (s .args .s) (s .pre .3) (more-small (c .before)) in
     (omega (arith, k .inv .1, s .pre .1), omega (arith, small, s .pre .2))
 
--- src/lib.rt:100:9
-add-k : tie.Need-add-k Inv-loop μ-loop
-add-k c = search needs
-
--- src/lib.rt:95:5
-loop-less : tie.Need-loop-less Inv-loop μ-loop
-loop-less c = search needs
-
 -- src/lib.rt:95:5
 loop-again : tie.Need-loop-again Inv-loop μ-loop
 loop-again c =
@@ -96,10 +80,6 @@ loop-again c =
           ∙ ap₂ (λ a l. set (k .out) (k .k) (pos ((s .args .load * (a + getD ws (k .k) 0)) / s .args .s - l))) e low
           ∙ split-step (s .args .load) (s .args .s) ws (s .args .out .now) (k .out) (k .k) (s .pre .3) inside (omega (arith, s .pre .1)) (k .inv .4),
     )
-
--- src/lib.rt:88:1
-same-length : tie.Need-same-length Inv-loop μ-loop
-same-length c = search needs
 
 -- src/lib.rt:88:1
 returns : tie.Need-returns Inv-loop μ-loop
@@ -120,15 +100,15 @@ split-to-spec =
     Inv-loop
     μ-loop
     loop-holds
-    mul-sum
-    shared-slice-read-sum
+    (λ c. search needs)
+    (λ c. search needs)
     add-sum
     mul-high
     div-high
     sub-put
     put-requires
-    add-k
-    loop-less
+    (λ c. search needs)
+    (λ c. search needs)
     loop-again
-    same-length
+    (λ c. search needs)
     returns)

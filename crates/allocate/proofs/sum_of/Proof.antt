@@ -19,27 +19,11 @@ abbrev μ-loop : tie.MeasureT-loop
 loop-holds : tie.Need-loop-holds Inv-loop μ-loop
 loop-holds c = (omega arith, sym (sum-none (c .args .ws .now)), omega arith)
 
--- src/lib.rt:81:16
-mul-sum : tie.Need-mul-sum Inv-loop μ-loop
-mul-sum c = search needs
-
--- src/lib.rt:81:16
-shared-slice-read-sum : tie.Need-shared-slice-read-sum Inv-loop μ-loop
-shared-slice-read-sum c = search needs
-
 -- src/lib.rt:81:9
 add-sum : tie.Need-add-sum Inv-loop μ-loop
 add-sum c =
     let s = c .before .before in
     record { fits = omega (arith, s .before .pre .1 (s .loop .k)) }
-
--- src/lib.rt:82:9
-add-k : tie.Need-add-k Inv-loop μ-loop
-add-k c = search needs
-
--- src/lib.rt:80:5
-loop-less : tie.Need-loop-less Inv-loop μ-loop
-loop-less c = search needs
 
 -- src/lib.rt:80:5
 loop-again : tie.Need-loop-again Inv-loop μ-loop
@@ -65,10 +49,10 @@ sum-of-spec =
     Inv-loop
     μ-loop
     loop-holds
-    mul-sum
-    shared-slice-read-sum
+    (λ c. search needs)
+    (λ c. search needs)
     add-sum
-    add-k
-    loop-less
+    (λ c. search needs)
+    (λ c. search needs)
     loop-again
     returns)

@@ -32,33 +32,9 @@ own-is c =
 loop-holds : tie.Need-loop-holds Inv-loop μ-loop
 loop-holds c = (omega arith, omega arith, sym (total-none _ _ _))
 
--- src/lib.rt:122:20
-mul-own : tie.Need-mul-own Inv-loop μ-loop
-mul-own c = search needs
-
--- src/lib.rt:122:20
-shared-slice-read-own : tie.Need-shared-slice-read-own Inv-loop μ-loop
-shared-slice-read-own c = search needs
-
--- src/lib.rt:122:30
-get-requires : tie.Need-get-requires Inv-loop μ-loop
-get-requires c κs = search needs
-
--- src/lib.rt:122:16
-own-requires : tie.Need-own-requires Inv-loop μ-loop
-own-requires c κs = search needs
-
 -- src/lib.rt:122:9
 add-sum : tie.Need-add-sum Inv-loop μ-loop
 add-sum c = record { fits = omega (arith, own-is c .1) }
-
--- src/lib.rt:123:9
-add-k : tie.Need-add-k Inv-loop μ-loop
-add-k c = search needs
-
--- src/lib.rt:121:5
-loop-less : tie.Need-loop-less Inv-loop μ-loop
-loop-less c = search needs
 
 -- src/lib.rt:121:5
 loop-again : tie.Need-loop-again Inv-loop μ-loop
@@ -81,12 +57,12 @@ total-of-spec =
     Inv-loop
     μ-loop
     loop-holds
-    mul-own
-    shared-slice-read-own
-    get-requires
-    own-requires
+    (λ c. search needs)
+    (λ c. search needs)
+    (λ c κs. search needs)
+    (λ c κs. search needs)
     add-sum
-    add-k
-    loop-less
+    (λ c. search needs)
+    (λ c. search needs)
     loop-again
     returns)

@@ -24,34 +24,6 @@ abbrev μ-loop : tie.MeasureT-loop
 loop-holds : tie.Need-loop-holds Inv-loop μ-loop
 loop-holds c = (omega arith, refl)
 
--- src/lib.rt:43:47
-add-total-of : tie.Need-add-total-of Inv-loop μ-loop
-add-total-of c = search needs
-
--- src/lib.rt:43:27
-total-of-requires : tie.Need-total-of-requires Inv-loop μ-loop
-total-of-requires c κs = search needs
-
--- src/lib.rt:43:18
-integer-requires : tie.Need-integer-requires Inv-loop μ-loop
-integer-requires c κs = search needs
-
--- src/lib.rt:43:9
-mul-all : tie.Need-mul-all Inv-loop μ-loop
-mul-all c = search needs
-
--- src/lib.rt:43:9
-array-set-from-all : tie.Need-array-set-from-all Inv-loop μ-loop
-array-set-from-all c = search needs
-
--- src/lib.rt:44:9
-add-k : tie.Need-add-k Inv-loop μ-loop
-add-k c = search needs
-
--- src/lib.rt:42:5
-loop-less : tie.Need-loop-less Inv-loop μ-loop
-loop-less c = search needs
-
 -- src/lib.rt:42:5
 loop-again : tie.Need-loop-again Inv-loop μ-loop
 loop-again c =
@@ -76,12 +48,12 @@ totals-spec =
     Inv-loop
     μ-loop
     loop-holds
-    add-total-of
-    total-of-requires
-    integer-requires
-    mul-all
-    array-set-from-all
-    add-k
-    loop-less
+    (λ c. search needs)
+    (λ c κs. search needs)
+    (λ c κs. search needs)
+    (λ c. search needs)
+    (λ c. search needs)
+    (λ c. search needs)
+    (λ c. search needs)
     loop-again
     returns)

@@ -39,22 +39,6 @@ weight-requires c κs =
     let ok = part-readable (s .args .t .now) (s .pre .0) k (omega (arith, c .before .before .before .get .ensures .0)) in
     (subst Readable (sym (c .part .ensures .0)) ok, s .pre .1, s .pre .2, s .pre .3)
 
--- src/lib.rt:154:9
-mul-ws : tie.Need-mul-ws Inv-loop μ-loop
-mul-ws c = search needs
-
--- src/lib.rt:154:9
-array-write-ws : tie.Need-array-write-ws Inv-loop μ-loop
-array-write-ws c = omega arith
-
--- src/lib.rt:155:9
-add-i : tie.Need-add-i Inv-loop μ-loop
-add-i c = search needs
-
--- src/lib.rt:153:5
-loop-less : tie.Need-loop-less Inv-loop μ-loop
-loop-less c = search needs
-
 -- src/lib.rt:153:5
 loop-again : tie.Need-loop-again Inv-loop μ-loop
 loop-again c =
@@ -89,9 +73,9 @@ weights-spec =
     loop-holds
     part-requires
     weight-requires
-    mul-ws
-    array-write-ws
-    add-i
-    loop-less
+    (λ c. search needs)
+    (λ c. omega arith)
+    (λ c. search needs)
+    (λ c. search needs)
     loop-again
     returns)

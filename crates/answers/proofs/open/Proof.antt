@@ -10,21 +10,6 @@ returns : tie.Need-returns
 unfolding openLine
 returns c = nothing _ _ _ (rw (ne-eqb _ _ (c .if1 .taken)))
 
-to-opening-requires : tie.Need-to-opening-requires
-to-opening-requires c κs = search needs
-
-open-requires : tie.Need-open-requires
-open-requires c κs = search needs
-
-notice-requires : tie.Need-notice-requires
-notice-requires c κs = search needs
-
-same-length : tie.Need-same-length
-same-length c = search needs
-
-same-length-2 : tie.Need-same-length-2
-same-length-2 c = search needs
-
 returns-2 : tie.Need-returns-2
 unfolding openLine
 returns-2 c =
@@ -38,9 +23,9 @@ open-spec =
     tie.close
     (tie.spec
     returns
-    to-opening-requires
-    open-requires
-    notice-requires
-    same-length
-    same-length-2
+    (λ c κs. search needs)
+    (λ c κs. search needs)
+    (λ c κs. search needs)
+    (λ c. search needs)
+    (λ c. search needs)
     returns-2)

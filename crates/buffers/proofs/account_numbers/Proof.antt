@@ -9,15 +9,6 @@ use Rattle.buffers.specs.Buffers.{bitsOf}
 use Rattle.buffers.proofs.account_numbers.Statement.{statement}
 use Rattle.buffers.proofs.account_numbers.Tie as tie
 
-enum-known-a : tie.Need-enum-known-a
-enum-known-a c = search needs
-
-bits-requires : tie.Need-bits-requires
-bits-requires c κs = search needs
-
-enum-known-a-2 : tie.Need-enum-known-a-2
-enum-known-a-2 c = search needs
-
 returns : tie.Need-returns
 returns c =
     let k = c .before .before in
@@ -29,4 +20,4 @@ returns-2 c = sym (ap (λ a. bitsOf (accountNumbers a)) (c .before .a2 .given .1
 
 pub account-numbers-spec : {M : Type 1} → statement M
 account-numbers-spec =
-    tie.close (tie.spec enum-known-a bits-requires enum-known-a-2 returns returns-2)
+    tie.close (tie.spec (λ c. search needs) (λ c κs. search needs) (λ c. search needs) returns returns-2)

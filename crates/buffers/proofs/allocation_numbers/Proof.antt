@@ -20,41 +20,8 @@ Inv-loop nsl totals numbers₀ k₀ numbers k =
 abbrev μ-loop : tie.MeasureT-loop
 μ-loop nsl totals numbers₀ k₀ numbers k = 16 - k
 
-array-write-numbers : tie.Need-array-write-numbers Inv-loop μ-loop
-array-write-numbers c = search needs
-
-bits-requires : tie.Need-bits-requires Inv-loop μ-loop
-bits-requires c κs = search needs
-
-array-write-numbers-2 : tie.Need-array-write-numbers-2 Inv-loop μ-loop
-array-write-numbers-2 c = search needs
-
 loop-holds : tie.Need-loop-holds Inv-loop μ-loop
 loop-holds c = (search needs, (refl, filled-two _ _ (c .before .before .before .args .a .totals) (replicate 16 0)))
-
-mul-bits : tie.Need-mul-bits Inv-loop μ-loop
-mul-bits c = search needs
-
-array-copy-out-bits : tie.Need-array-copy-out-bits Inv-loop μ-loop
-array-copy-out-bits c = search needs
-
-bits-requires-2 : tie.Need-bits-requires-2 Inv-loop μ-loop
-bits-requires-2 c κs = search needs
-
-add-numbers : tie.Need-add-numbers Inv-loop μ-loop
-add-numbers c = search needs
-
-mul-numbers : tie.Need-mul-numbers Inv-loop μ-loop
-mul-numbers c = search needs
-
-array-write-numbers-3 : tie.Need-array-write-numbers-3 Inv-loop μ-loop
-array-write-numbers-3 c = search needs
-
-add-k : tie.Need-add-k Inv-loop μ-loop
-add-k c = search needs
-
-loop-less : tie.Need-loop-less Inv-loop μ-loop
-loop-less c = search needs
 
 loop-again : tie.Need-loop-again Inv-loop μ-loop
 loop-again c =
@@ -79,17 +46,17 @@ allocation-numbers-spec =
     (tie.spec
     Inv-loop
     μ-loop
-    array-write-numbers
-    bits-requires
-    array-write-numbers-2
+    (λ c. search needs)
+    (λ c κs. search needs)
+    (λ c. search needs)
     loop-holds
-    mul-bits
-    array-copy-out-bits
-    bits-requires-2
-    add-numbers
-    mul-numbers
-    array-write-numbers-3
-    add-k
-    loop-less
+    (λ c. search needs)
+    (λ c. search needs)
+    (λ c κs. search needs)
+    (λ c. search needs)
+    (λ c. search needs)
+    (λ c. search needs)
+    (λ c. search needs)
+    (λ c. search needs)
     loop-again
     returns)

@@ -5,12 +5,6 @@ use Rattle.buffers.specs.Buffers.{bitsOf}
 use Rattle.buffers.proofs.date_numbers.Statement.{statement}
 use Rattle.buffers.proofs.date_numbers.Tie as tie
 
-enum-known-a : tie.Need-enum-known-a
-enum-known-a c = search needs
-
-enum-known-a-2 : tie.Need-enum-known-a-2
-enum-known-a-2 c = search needs
-
 returns : tie.Need-returns
 returns c = sym (ap (λ a. bitsOf (dateNumbers a)) (c .before .a .given .1))
 
@@ -18,4 +12,4 @@ returns-2 : tie.Need-returns-2
 returns-2 c = sym (ap (λ a. bitsOf (dateNumbers a)) (c .before .a2 .given .1))
 
 pub date-numbers-spec : {M : Type 1} → statement M
-date-numbers-spec = tie.close (tie.spec enum-known-a enum-known-a-2 returns returns-2)
+date-numbers-spec = tie.close (tie.spec (λ c. search needs) (λ c. search needs) returns returns-2)

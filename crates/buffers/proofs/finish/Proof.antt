@@ -6,28 +6,10 @@ use Rattle.buffers.proofs.Bytes.{written-none, written-all}
 use Rattle.buffers.proofs.finish.Statement.{statement}
 use Rattle.buffers.proofs.finish.Tie as tie
 
-reply-requires : tie.Need-reply-requires
-reply-requires c κs = search needs
-
-integer-requires : tie.Need-integer-requires
-integer-requires c κs = search needs
-
-same-length : tie.Need-same-length
-same-length c = search needs
-
 returns : tie.Need-returns
 returns c =
     let p = c .before .before .before .before in
     written-none _ _ _ _ (p .reply .result) (p .reply .ensures .0) (λ (z : p .reply .result ≡ 0). omega arith) _ (toZ-ofZ (search needs) ∙ c .integer .ensures)
-
-encode-requires : tie.Need-encode-requires
-encode-requires c κs = search needs
-
-same-length-2 : tie.Need-same-length-2
-same-length-2 c = search needs
-
-same-length-3 : tie.Need-same-length-3
-same-length-3 c = search needs
 
 returns-2 : tie.Need-returns-2
 returns-2 c =
@@ -38,4 +20,12 @@ returns-2 c =
 pub finish-spec : {M : Type 1} → statement M
 finish-spec =
     tie.close
-    (tie.spec reply-requires integer-requires same-length returns encode-requires same-length-2 same-length-3 returns-2)
+    (tie.spec
+    (λ c κs. search needs)
+    (λ c κs. search needs)
+    (λ c. search needs)
+    returns
+    (λ c κs. search needs)
+    (λ c. search needs)
+    (λ c. search needs)
+    returns-2)

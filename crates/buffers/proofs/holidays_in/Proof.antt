@@ -5,18 +5,11 @@ use Rattle.buffers.specs.Buffers.{numbersIn}
 use Rattle.buffers.proofs.holidays_in.Statement.{statement}
 use Rattle.buffers.proofs.holidays_in.Tie as tie
 
-numbers-in-requires : tie.Need-numbers-in-requires
-numbers-in-requires c κs = search needs
-
 returns : tie.Need-returns
 returns c = c .numbers-in .ensures .0 ∙ ap (numbersIn _) (omega arith)
-
-numbers-in-requires-2 : tie.Need-numbers-in-requires-2
-numbers-in-requires-2 c κs = search needs
 
 returns-2 : tie.Need-returns-2
 returns-2 c = c .numbers-in2 .ensures .0 ∙ ap (numbersIn _) (omega arith)
 
 pub holidays-in-spec : {M : Type 1} → statement M
-holidays-in-spec =
-    tie.close (tie.spec numbers-in-requires returns numbers-in-requires-2 returns-2)
+holidays-in-spec = tie.close (tie.spec (λ c κs. search needs) returns (λ c κs. search needs) returns-2)

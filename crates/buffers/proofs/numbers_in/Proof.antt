@@ -4,9 +4,6 @@ use Rattle.buffers.proofs.Bytes.{read-length, read-numbers}
 use Rattle.buffers.proofs.numbers_in.Statement.{statement}
 use Rattle.buffers.proofs.numbers_in.Tie as tie
 
-decode-requires : tie.Need-decode-requires
-decode-requires c κs = search needs
-
 slice-aggregate-result : tie.Need-slice-aggregate-result
 slice-aggregate-result c =
     let d = c .before .before in
@@ -19,5 +16,4 @@ returns c =
     (read-numbers (s .args .bytes .now) _ _ _ (s .pre .1) (d .decode .ensures), read-length (s .args .bytes .now) _ _ _ (s .pre .1) (d .decode .ensures))
 
 pub numbers-in-spec : {M : Type 1} → statement M
-numbers-in-spec =
-    tie.close (tie.spec decode-requires slice-aggregate-result returns)
+numbers-in-spec = tie.close (tie.spec (λ c κs. search needs) slice-aggregate-result returns)

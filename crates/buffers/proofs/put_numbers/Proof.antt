@@ -22,32 +22,11 @@ loop-holds : tie.Need-loop-holds Inv-loop μ-loop
 unfolding encodedInto
 loop-holds c = search needs
 
-mul-put-number8 : tie.Need-mul-put-number8 Inv-loop μ-loop
-mul-put-number8 c = search needs
-
-mul-put-number8-2 : tie.Need-mul-put-number8-2 Inv-loop μ-loop
-mul-put-number8-2 c = search needs
-
-shared-slice-read-put-number8 : tie.Need-shared-slice-read-put-number8 Inv-loop μ-loop
-shared-slice-read-put-number8 c = search needs
-
-put-number8-requires : tie.Need-put-number8-requires Inv-loop μ-loop
-put-number8-requires c κs = search needs
-
-add-k : tie.Need-add-k Inv-loop μ-loop
-add-k c = search needs
-
-loop-less : tie.Need-loop-less Inv-loop μ-loop
-loop-less c = search needs
-
 loop-again : tie.Need-loop-again Inv-loop μ-loop
 loop-again c =
     let l = c .before .before .before .before .before .before .loop in
     let s = c .before .before .before .before .before .before .before .before .before in
     (search needs, (search needs, one-more _ (s .args .numbers .now) _ _ _ (l .inv .1 .1) (c .before .before .put-number8 .ensures)))
-
-same-length : tie.Need-same-length Inv-loop μ-loop
-same-length c = search needs
 
 returns : tie.Need-returns Inv-loop μ-loop
 unfolding withNumbers
@@ -63,12 +42,12 @@ put-numbers-spec =
     Inv-loop
     μ-loop
     loop-holds
-    mul-put-number8
-    mul-put-number8-2
-    shared-slice-read-put-number8
-    put-number8-requires
-    add-k
-    loop-less
+    (λ c. search needs)
+    (λ c. search needs)
+    (λ c. search needs)
+    (λ c κs. search needs)
+    (λ c. search needs)
+    (λ c. search needs)
     loop-again
-    same-length
+    (λ c. search needs)
     returns)

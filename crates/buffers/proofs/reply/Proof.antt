@@ -3,23 +3,11 @@ use Rattle.buffers.proofs.Bytes.{replied-room, replied-one, replied-two
 use Rattle.buffers.proofs.reply.Statement.{statement}
 use Rattle.buffers.proofs.reply.Tie as tie
 
-shared-slice-read-refusal : tie.Need-shared-slice-read-refusal
-shared-slice-read-refusal c = search needs
-
-mul-if1 : tie.Need-mul-if1
-mul-if1 c = search needs
-
 returns : tie.Need-returns
 returns c = (replied-one (c .before .before .before .before .before .args .numbers .now) _ (c .before .if1 .taken) (c .if2 .taken), search needs)
 
 returns-2 : tie.Need-returns-2
 returns-2 c = (replied-two (c .before .before .before .before .before .args .numbers .now) _ (c .before .if1 .taken) (c .if2 .left), search needs)
-
-put-numbers-requires : tie.Need-put-numbers-requires
-put-numbers-requires c κs = search needs
-
-same-length : tie.Need-same-length
-same-length c = search needs
 
 returns-3 : tie.Need-returns-3
 returns-3 c = (replied-room (c .before .before .before .before .before .before .before .before .args .numbers .now) _ _ (c .before .before .before .before .if1 .left) (c .before .before .put-numbers .ensures), search needs)
@@ -28,10 +16,10 @@ pub reply-spec : {M : Type 1} → statement M
 reply-spec =
     tie.close
     (tie.spec
-    shared-slice-read-refusal
-    mul-if1
+    (λ c. search needs)
+    (λ c. search needs)
     returns
     returns-2
-    put-numbers-requires
-    same-length
+    (λ c κs. search needs)
+    (λ c. search needs)
     returns-3)

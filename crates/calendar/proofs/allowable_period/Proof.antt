@@ -9,15 +9,6 @@ use Rattle.calendar.proofs.Business.{period-no-first, period-no-last, p
 use Rattle.calendar.proofs.allowable_period.Statement.{statement}
 use Rattle.calendar.proofs.allowable_period.Tie as tie
 
-business-day-before-requires : tie.Need-business-day-before-requires
-business-day-before-requires c κs = search needs
-
-enum-known-first : tie.Need-enum-known-first
-enum-known-first c = search needs
-
-enum-told : tie.Need-enum-told
-enum-told c = search needs
-
 lead-is : (c : tie.Joined1) → c .if1 .lead ≡ cond (eqb (c .before .args .no-change) 1) 4 10
 lead-is c = ⊎-elim (λ w. w .1 ∙ rw (eq-eqb _ _ (w .0 .taken))) (λ w. w .1 ∙ rw (ne-eqb _ _ (w .0 .left))) (c .if1 .came)
 
@@ -25,15 +16,6 @@ returns : tie.Need-returns
 returns c =
     let s = c .before .before .before in
     period-no-first _ _ _ _ (lead-is s) (sym (ap reachedDay (c .enum-told .given .1)) ∙ c .before .before .business-day-before .ensures)
-
-business-day-after-requires : tie.Need-business-day-after-requires
-business-day-after-requires c κs = search needs
-
-enum-known-last : tie.Need-enum-known-last
-enum-known-last c = search needs
-
-enum-told-2 : tie.Need-enum-told-2
-enum-told-2 c = search needs
 
 returns-2 : tie.Need-returns-2
 returns-2 c =
@@ -53,12 +35,12 @@ pub allowable-period-spec : {M : Type 1} → statement M
 allowable-period-spec =
     tie.close
     (tie.spec
-    business-day-before-requires
-    enum-known-first
-    enum-told
+    (λ c κs. search needs)
+    (λ c. search needs)
+    (λ c. search needs)
     returns
-    business-day-after-requires
-    enum-known-last
-    enum-told-2
+    (λ c κs. search needs)
+    (λ c. search needs)
+    (λ c. search needs)
     returns-2
     returns-3)

@@ -11,21 +11,6 @@ use lib.Signed.{ltZ}
 use Rattle.calendar.proofs.ascends_at.Statement.{statement}
 use Rattle.calendar.proofs.ascends_at.Tie as tie
 
-mul-result : tie.Need-mul-result
-mul-result c = search needs
-
-shared-slice-copy-out-result : tie.Need-shared-slice-copy-out-result
-shared-slice-copy-out-result c = search needs
-
-add-result : tie.Need-add-result
-add-result c = search needs
-
-mul-result-2 : tie.Need-mul-result-2
-mul-result-2 c = search needs
-
-shared-slice-copy-out-result-2 : tie.Need-shared-slice-copy-out-result-2
-shared-slice-copy-out-result-2 c = search needs
-
 returns : tie.Need-returns
 returns c =
     let a = c .before .before .args in
@@ -37,9 +22,9 @@ pub ascends-at-spec : {M : Type 1} → statement M
 ascends-at-spec =
     tie.close
     (tie.spec
-    mul-result
-    shared-slice-copy-out-result
-    add-result
-    mul-result-2
-    shared-slice-copy-out-result-2
+    (λ c. search needs)
+    (λ c. search needs)
+    (λ c. search needs)
+    (λ c. search needs)
+    (λ c. search needs)
     returns)

@@ -17,26 +17,11 @@ abbrev μ-loop : tie.MeasureT-loop
 loop-holds : tie.Need-loop-holds Inv-loop μ-loop
 loop-holds c = (omega arith, refl)
 
-last-before-requires : tie.Need-last-before-requires Inv-loop μ-loop
-last-before-requires c κs = search needs
-
-enum-known-reached : tie.Need-enum-known-reached Inv-loop μ-loop
-enum-known-reached c = search needs
-
-enum-told : tie.Need-enum-told Inv-loop μ-loop
-enum-told c = search needs
-
 returns : tie.Need-returns Inv-loop μ-loop
 returns c =
     let s = c .before .before .before .before in
     let outside = sym (ap reachedDay (c .enum-told .given .1)) ∙ c .before .before .last-before .ensures in
     before-outside _ (s .loop .left) _ (omega arith) outside ∙ s .loop .inv .1
-
-sub-left : tie.Need-sub-left Inv-loop μ-loop
-sub-left c = search needs
-
-loop-less : tie.Need-loop-less Inv-loop μ-loop
-loop-less c = search needs
 
 loop-again : tie.Need-loop-again Inv-loop μ-loop
 loop-again c =
@@ -54,11 +39,11 @@ business-day-before-spec =
     Inv-loop
     μ-loop
     loop-holds
-    last-before-requires
-    enum-known-reached
-    enum-told
+    (λ c κs. search needs)
+    (λ c. search needs)
+    (λ c. search needs)
     returns
-    sub-left
-    loop-less
+    (λ c. search needs)
+    (λ c. search needs)
     loop-again
     returns-2)

@@ -7,18 +7,6 @@ use Rattle.calendar.proofs.Dates.{calendar-bound, date-off, date-late, 
 use Rattle.calendar.proofs.date.Statement.{statement}
 use Rattle.calendar.proofs.date.Tie as tie
 
-natural-requires : tie.Need-natural-requires
-natural-requires c κs = search needs
-
-natural-requires-2 : tie.Need-natural-requires-2
-natural-requires-2 c κs = search needs
-
-natural-requires-3 : tie.Need-natural-requires-3
-natural-requires-3 c κs = search needs
-
-on-calendar-requires : tie.Need-on-calendar-requires
-on-calendar-requires c κs = search needs
-
 year-is : (c : tie.After-natural) → c .natural .result ≡ natOf (c .before .before .before .before .args .d .year)
 year-is c =
     let s = c .before in
@@ -58,10 +46,10 @@ pub date-spec : {M : Type 1} → statement M
 date-spec =
     tie.close
     (tie.spec
-    natural-requires
-    natural-requires-2
-    natural-requires-3
-    on-calendar-requires
+    (λ c κs. search needs)
+    (λ c κs. search needs)
+    (λ c κs. search needs)
+    (λ c κs. search needs)
     returns
     day-of-requires
     returns-2

@@ -13,15 +13,6 @@ use Rattle.calendar.proofs.days_before.Tie as tie
 table : List ℕ
 table = 0 ∷ 31 ∷ 59 ∷ 90 ∷ 120 ∷ 151 ∷ 181 ∷ 212 ∷ 243 ∷ 273 ∷ 304 ∷ 334 ∷ []
 
-sub-result : tie.Need-sub-result
-sub-result c = search needs
-
-mul-result : tie.Need-mul-result
-mul-result c = search needs
-
-array-read-result : tie.Need-array-read-result
-array-read-result c = search needs
-
 returns : tie.Need-returns
 unfolding table all daysBefore
 returns c =
@@ -29,4 +20,4 @@ returns c =
     (e, omega (arith, e, days-before-bound (c .args .month) (c .pre .1)))
 
 pub days-before-spec : {M : Type 1} → statement M
-days-before-spec = tie.close (tie.spec sub-result mul-result array-read-result returns)
+days-before-spec = tie.close (tie.spec (λ c. search needs) (λ c. search needs) (λ c. search needs) returns)

@@ -18,20 +18,11 @@ abbrev μ-loop : tie.MeasureT-loop
 loop-holds : tie.Need-loop-holds Inv-loop μ-loop
 loop-holds c = (omega arith, rw add-one)
 
-add-day : tie.Need-add-day Inv-loop μ-loop
-add-day c = search needs
-
-is-business-day-requires : tie.Need-is-business-day-requires Inv-loop μ-loop
-is-business-day-requires c κs = search needs
-
 returns : tie.Need-returns Inv-loop μ-loop
 returns c =
     let s = c .before .before .before in
     let hit = sym (c .before .is-business-day .ensures) ∙ c .if1 .taken in
     sym (from-hit _ (s .loop .day + 1) (39999 - s .loop .day) (omega arith) hit) ∙ s .loop .inv .1
-
-loop-less : tie.Need-loop-less Inv-loop μ-loop
-loop-less c = search needs
 
 loop-again : tie.Need-loop-again Inv-loop μ-loop
 loop-again c =
@@ -52,9 +43,9 @@ first-after-spec =
     Inv-loop
     μ-loop
     loop-holds
-    add-day
-    is-business-day-requires
+    (λ c. search needs)
+    (λ c κs. search needs)
     returns
-    loop-less
+    (λ c. search needs)
     loop-again
     returns-2)

@@ -2,18 +2,11 @@ use borrow.Author.Needs.{needs}
 use Rattle.calendar.proofs.is_business_day.Statement.{statement}
 use Rattle.calendar.proofs.is_business_day.Tie as tie
 
-is-weekend-requires : tie.Need-is-weekend-requires
-is-weekend-requires c κs = search needs
-
 returns : tie.Need-returns
 returns c = rw (← c .before .is-weekend .ensures, c .if1 .taken)
-
-is-listed-requires : tie.Need-is-listed-requires
-is-listed-requires c κs = search needs
 
 returns-2 : tie.Need-returns-2
 returns-2 c = rw (← c .before .before .is-weekend .ensures, c .before .if1 .left, c .is-listed .ensures)
 
 pub is-business-day-spec : {M : Type 1} → statement M
-is-business-day-spec =
-    tie.close (tie.spec is-weekend-requires returns is-listed-requires returns-2)
+is-business-day-spec = tie.close (tie.spec (λ c κs. search needs) returns (λ c κs. search needs) returns-2)

@@ -6,11 +6,8 @@ use Rattle.calendar.proofs.Dates.{day-natural}
 use Rattle.calendar.proofs.is_day_at.Statement.{statement}
 use Rattle.calendar.proofs.is_day_at.Tie as tie
 
-get-requires : tie.Need-get-requires
-get-requires c κs = search needs
-
 returns : tie.Need-returns
 returns c = rw (c .get .ensures .0) (day-natural (getD (now (c .before .args .hs)) (c .before .args .k) (pos 0)))
 
 pub is-day-at-spec : {M : Type 1} → statement M
-is-day-at-spec = tie.close (tie.spec get-requires returns)
+is-day-at-spec = tie.close (tie.spec (λ c κs. search needs) returns)

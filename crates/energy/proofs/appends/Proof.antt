@@ -7,12 +7,6 @@ use borrow.Author.Needs.{needs}
 use Rattle.energy.proofs.appends.Statement.{statement}
 use Rattle.energy.proofs.appends.Tie as tie
 
-row-of-requires : tie.Need-row-of-requires
-row-of-requires c κs = search needs
-
-get-requires : tie.Need-get-requires
-get-requires c κs = search needs
-
 returns : tie.Need-returns
 returns c =
     let ok = c .before .before .pre in
@@ -20,4 +14,4 @@ returns c =
     ap₂ eqb (c .before .row-of .ensures .0) (c .get .ensures .0 ∙ place-recs (ok .well) (ok .is)) ∙ appends-is recs (c .before .before .args .start)
 
 pub appends-spec : {M : Type 1} → statement M
-appends-spec = tie.close (tie.spec row-of-requires get-requires returns)
+appends-spec = tie.close (tie.spec (λ c κs. search needs) (λ c κs. search needs) returns)

@@ -3,11 +3,8 @@ use borrow.Author.Needs.{needs}
 use Rattle.energy.proofs.beyond_range.Statement.{statement}
 use Rattle.energy.proofs.beyond_range.Tie as tie
 
-add-result : tie.Need-add-result
-add-result c = search needs
-
 returns : tie.Need-returns
 returns c = beyond-raised (c .args .range) (c .args .energy)
 
 pub beyond-range-spec : {M : Type 1} → statement M
-beyond-range-spec = tie.close (tie.spec add-result returns)
+beyond-range-spec = tie.close (tie.spec (λ c. search needs) returns)

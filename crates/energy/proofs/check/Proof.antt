@@ -6,22 +6,10 @@ use borrow.Author.Needs.{needs}
 use Rattle.energy.proofs.check.Statement.{statement}
 use Rattle.energy.proofs.check.Tie as tie
 
-get-requires : tie.Need-get-requires
-get-requires c κs = search needs
-
-fits-kind-requires : tie.Need-fits-kind-requires
-fits-kind-requires c κs = search needs
-
 returns : tie.Need-returns
 returns c =
     let z = c .before .before .before in
     sent-6 (z .args .x) (z .args .nondaily) (z .args .daily) (pointFrom (z .args .p .now)) (sym (row6-is (z .pre .0) (z .args .x) _ (c .before .before .get .ensures .0) (c .before .fits-kind .ensures)) ∙ c .if1 .taken)
-
-appends-requires : tie.Need-appends-requires
-appends-requires c κs = search needs
-
-append-day-requires : tie.Need-append-day-requires
-append-day-requires c κs = search needs
 
 returns-2 : tie.Need-returns-2
 returns-2 c =
@@ -32,12 +20,6 @@ returns-2 c =
     let e6 = sym (row6-is ok x _ (o .before .before .get .ensures .0) (o .before .fits-kind .ensures)) ∙ o .if1 .left in
     sent-7 x (z .args .nondaily) (z .args .daily) (pointFrom (z .args .p .now)) e6
     (sym (row7-is ok x (c .before .before .before .appends .ensures) _ (omega arith) (c .before .before .append-day .ensures)) ∙ c .if2 .taken)
-
-get-requires-2 : tie.Need-get-requires-2
-get-requires-2 c κs = search needs
-
-no-off-requires : tie.Need-no-off-requires
-no-off-requires c κs = search needs
 
 returns-3 : tie.Need-returns-3
 returns-3 c =
@@ -51,9 +33,6 @@ returns-3 c =
     sent-8 x (z .args .nondaily) (z .args .daily) (pointFrom (z .args .p .now)) e6 e7
     (sym (row8-is ok x _ e6 (omega arith) (c .before .before .get2 .ensures .0) (c .before .no-off .ensures)) ∙ c .if3 .taken)
 
-unusual-requires : tie.Need-unusual-requires
-unusual-requires c κs = search needs
-
 returns-4 : tie.Need-returns-4
 returns-4 c =
     let m = c .before .before .before in
@@ -66,9 +45,6 @@ returns-4 c =
     let e7 = sym (row7-is ok x (n .before .before .before .appends .ensures) _ (omega arith) (n .before .before .append-day .ensures)) ∙ n .if2 .left in
     let e8 = sym (row8-is ok x _ e6 (omega arith) (m .before .before .get2 .ensures .0) (m .before .no-off .ensures)) ∙ m .if3 .left in
     sent-9 x (z .args .nondaily) (z .args .daily) (pointFrom (z .args .p .now)) e6 e7 e8 (sym (row9-is ok x (z .args .nondaily) (z .args .daily) _ (o .before .before .get .ensures .0) (c .before .before .unusual .ensures)) ∙ c .if4 .taken)
-
-get-requires-3 : tie.Need-get-requires-3
-get-requires-3 c κs = search needs
 
 returns-5 : tie.Need-returns-5
 returns-5 c =
@@ -104,17 +80,17 @@ pub check-spec : {M : Type 1} → statement M
 check-spec =
     tie.close
     (tie.spec
-    get-requires
-    fits-kind-requires
+    (λ c κs. search needs)
+    (λ c κs. search needs)
     returns
-    appends-requires
-    append-day-requires
+    (λ c κs. search needs)
+    (λ c κs. search needs)
     returns-2
-    get-requires-2
-    no-off-requires
+    (λ c κs. search needs)
+    (λ c κs. search needs)
     returns-3
-    unusual-requires
+    (λ c κs. search needs)
     returns-4
-    get-requires-3
+    (λ c κs. search needs)
     returns-5
     returns-6)

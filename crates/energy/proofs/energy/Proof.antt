@@ -25,26 +25,11 @@ sound-is c = sym (c .before .sound .ensures) ∙ not-false _ (c .if1 .left)
 in-range-here : (c : tie.Else2) → inRange (c .before .before .read .result) ≡ true
 in-range-here c = sym (c .before .in-range .ensures) ∙ not-false _ (c .if2 .left)
 
-sound-requires : tie.Need-sound-requires
-sound-requires c κs = search needs
-
-same-length : tie.Need-same-length
-same-length c = search needs
-
 returns : tie.Need-returns
 returns c =
     let s = c .before .before .before in
     let t = s .args .t .now in
     gives (energy-unsound t (s .args .n) (sym (c .before .sound .ensures) ∙ not-true _ (c .if1 .taken)))
-
-read-requires : tie.Need-read-requires
-read-requires c κs = search needs
-
-in-range-requires : tie.Need-in-range-requires
-in-range-requires c κs = search needs
-
-same-length-2 : tie.Need-same-length-2
-same-length-2 c = search needs
 
 returns-2 : tie.Need-returns-2
 returns-2 c =
@@ -57,9 +42,6 @@ index-of-requires : tie.Need-index-of-requires
 index-of-requires c κs =
     let e = c .before .before .before .before in
     sound-long (start e .args .t .now) (sound-is e)
-
-same-length-3 : tie.Need-same-length-3
-same-length-3 c = search needs
 
 returns-3 : tie.Need-returns-3
 returns-3 c =
@@ -78,24 +60,6 @@ get-energy-requires-2 : tie.Need-get-energy-requires-2
 get-energy-requires-2 c κs =
     let e = c .before .before .before .before .before .before .before .before .before in
     omega (arith, sound-long (start e .args .t .now) (sound-is e))
-
-mul-a : tie.Need-mul-a
-mul-a c = search needs
-
-add-a : tie.Need-add-a
-add-a c = search needs
-
-add-b : tie.Need-add-b
-add-b c = search needs
-
-mul-enter : tie.Need-mul-enter
-mul-enter c = search needs
-
-sub-enter : tie.Need-sub-enter
-sub-enter c = search needs
-
-part-enter-start : tie.Need-part-enter-start
-part-enter-start c = search needs
 
 part-enter-end : tie.Need-part-enter-end
 part-enter-end c =
@@ -117,9 +81,6 @@ enter-requires c κs =
     let small = ranges-small t n (sound-is (r .before)) _ _ (g1 .get-energy .ensures) (g2 .get-energy2 .ensures) in
     (lent-laid t n (sound-is (r .before)) _ (r .read .ensures) (in-range-here l) _ (f .index-of .ensures .0) (o .if3 .left), in-range-tells _ (in-range-here l), small .0, small .1)
 
-same-length-4 : tie.Need-same-length-4
-same-length-4 c = search needs
-
 returns-4 : tie.Need-returns-4
 returns-4 c =
     let g2 = c .before .before .before in
@@ -139,25 +100,25 @@ pub energy-spec : {M : Type 1} → statement M
 energy-spec =
     tie.close
     (tie.spec
-    sound-requires
-    same-length
+    (λ c κs. search needs)
+    (λ c. search needs)
     returns
-    read-requires
-    in-range-requires
-    same-length-2
+    (λ c κs. search needs)
+    (λ c κs. search needs)
+    (λ c. search needs)
     returns-2
     index-of-requires
-    same-length-3
+    (λ c. search needs)
     returns-3
     get-energy-requires
     get-energy-requires-2
-    mul-a
-    add-a
-    add-b
-    mul-enter
-    sub-enter
-    part-enter-start
+    (λ c. search needs)
+    (λ c. search needs)
+    (λ c. search needs)
+    (λ c. search needs)
+    (λ c. search needs)
+    (λ c. search needs)
     part-enter-end
     enter-requires
-    same-length-4
+    (λ c. search needs)
     returns-4)

@@ -3,12 +3,6 @@ use borrow.Author.Needs.{needs}
 use Rattle.energy.proofs.enter.Statement.{statement}
 use Rattle.energy.proofs.enter.Tie as tie
 
-check-requires : tie.Need-check-requires
-check-requires c κs = search needs
-
-same-length : tie.Need-same-length
-same-length c = search needs
-
 returns : tie.Need-returns
 returns c =
     let k = c .before in
@@ -29,9 +23,6 @@ settle-request-requires c κs =
     let s = k .before .before in
     (then-laid (s .pre .0) (s .args .x) (s .pre .1) (s .args .nondaily) (s .args .daily) _ (k .check .ensures) (l .if1 .left) (r .enter-record .ensures), s .pre .1)
 
-same-length-2 : tie.Need-same-length-2
-same-length-2 c = search needs
-
 returns-2 : tie.Need-returns-2
 returns-2 c =
     let r = c .before .before .before .before in
@@ -44,10 +35,10 @@ pub enter-spec : {M : Type 1} → statement M
 enter-spec =
     tie.close
     (tie.spec
-    check-requires
-    same-length
+    (λ c κs. search needs)
+    (λ c. search needs)
     returns
     enter-record-requires
     settle-request-requires
-    same-length-2
+    (λ c. search needs)
     returns-2)

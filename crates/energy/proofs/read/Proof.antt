@@ -5,24 +5,6 @@ use borrow.Author.Needs.{needs, sfits-of}
 use Rattle.energy.proofs.read.Statement.{statement}
 use Rattle.energy.proofs.read.Tie as tie
 
-natural-requires : tie.Need-natural-requires
-natural-requires c κs = search needs
-
-natural-requires-2 : tie.Need-natural-requires-2
-natural-requires-2 c κs = search needs
-
-natural-requires-3 : tie.Need-natural-requires-3
-natural-requires-3 c κs = search needs
-
-bias-requires : tie.Need-bias-requires
-bias-requires c κs = search needs
-
-natural-requires-4 : tie.Need-natural-requires-4
-natural-requires-4 c κs = search needs
-
-natural-requires-5 : tie.Need-natural-requires-5
-natural-requires-5 c κs = search needs
-
 returns : tie.Need-returns
 returns c =
     let d = c .before .before .before in
@@ -41,10 +23,10 @@ pub read-spec : {M : Type 1} → statement M
 read-spec =
     tie.close
     (tie.spec
-    natural-requires
-    natural-requires-2
-    natural-requires-3
-    bias-requires
-    natural-requires-4
-    natural-requires-5
+    (λ c κs. search needs)
+    (λ c κs. search needs)
+    (λ c κs. search needs)
+    (λ c κs. search needs)
+    (λ c κs. search needs)
+    (λ c κs. search needs)
     returns)

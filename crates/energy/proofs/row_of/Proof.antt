@@ -15,29 +15,11 @@ Inv-loop p start n j₀ j = (j ≤ n) × (n ≡ numAt p 6) × (j + rowIn (drop j
 abbrev μ-loop : tie.MeasureT-loop
 μ-loop p start n j₀ j = n - j
 
-get-requires : tie.Need-get-requires Inv-loop μ-loop
-get-requires c κs = search needs
-
 loop-holds : tie.Need-loop-holds Inv-loop μ-loop
 loop-holds c = (omega arith, c .get .ensures .0, omega arith)
 
-mul-get : tie.Need-mul-get Inv-loop μ-loop
-mul-get c = search needs
-
-add-get : tie.Need-add-get Inv-loop μ-loop
-add-get c = search needs
-
-get-requires-2 : tie.Need-get-requires-2 Inv-loop μ-loop
-get-requires-2 c κs = search needs
-
 returns : tie.Need-returns Inv-loop μ-loop
 returns c = (row-hit (c .before .before .before .before .before .pre) (c .before .before .before .loop .j) _ _ (omega arith) (sym (c .before .get2 .ensures .0) ∙ c .if1 .taken) (c .before .before .before .loop .inv .2), omega arith)
-
-add-j : tie.Need-add-j Inv-loop μ-loop
-add-j c = search needs
-
-loop-less : tie.Need-loop-less Inv-loop μ-loop
-loop-less c = search needs
 
 loop-again : tie.Need-loop-again Inv-loop μ-loop
 loop-again c = (omega arith, search needs, row-miss (c .before .before .before .before .before .pre) (c .before .before .before .loop .j) _ _ (omega arith) (λ q. c .if1 .left (c .before .get2 .ensures .0 ∙ q)) (c .before .before .before .loop .inv .2))
@@ -51,13 +33,13 @@ row-of-spec =
     (tie.spec
     Inv-loop
     μ-loop
-    get-requires
+    (λ c κs. search needs)
     loop-holds
-    mul-get
-    add-get
-    get-requires-2
+    (λ c. search needs)
+    (λ c. search needs)
+    (λ c κs. search needs)
     returns
-    add-j
-    loop-less
+    (λ c. search needs)
+    (λ c. search needs)
     loop-again
     returns-2)

@@ -5,16 +5,10 @@ use borrow.Author.Needs.{needs}
 use Rattle.energy.proofs.unusual.Statement.{statement}
 use Rattle.energy.proofs.unusual.Tie as tie
 
-beyond-range-requires : tie.Need-beyond-range-requires
-beyond-range-requires c κs = search needs
-
 returns : tie.Need-returns
 returns c =
     let s = c .before .before .args in
     c .beyond-range .ensures ∙ beyond-first (s .nondaily) (s .daily) (s .kind) (energyOf (s .energy)) (c .before .if1 .taken)
-
-beyond-range-requires-2 : tie.Need-beyond-range-requires-2
-beyond-range-requires-2 c κs = search needs
 
 returns-2 : tie.Need-returns-2
 returns-2 c =
@@ -22,4 +16,4 @@ returns-2 c =
     c .beyond-range2 .ensures ∙ beyond-second (s .nondaily) (s .daily) (s .kind) (energyOf (s .energy)) (c .before .if1 .left)
 
 pub unusual-spec : {M : Type 1} → statement M
-unusual-spec = tie.close (tie.spec beyond-range-requires returns beyond-range-requires-2 returns-2)
+unusual-spec = tie.close (tie.spec (λ c κs. search needs) returns (λ c κs. search needs) returns-2)

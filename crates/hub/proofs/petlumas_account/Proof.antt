@@ -23,31 +23,10 @@ gave c =
     c .account-numbers .ensures
     ∙ ap bitsOf (rw (toZ-ofZ (f .user), toZ-ofZ (f .from), toZ-ofZ (f .to), c .before .before .before .before .table-in .ensures .0) at (c .before .before .account .ensures))
 
-slice-aggregate-table-in : tie.Need-slice-aggregate-table-in
-slice-aggregate-table-in c = search needs
-
-table-in-requires : tie.Need-table-in-requires
-table-in-requires c κs = search needs
-
-account-requires : tie.Need-account-requires
-account-requires c κs = search needs
-
-account-numbers-requires : tie.Need-account-numbers-requires
-account-numbers-requires c κs = search needs
-
-slice-aggregate-reply : tie.Need-slice-aggregate-reply
-slice-aggregate-reply c = search needs
-
 reply-requires : tie.Need-reply-requires
 reply-requires c κs =
     let d = c .before .before in
     (search needs, search needs, first-small (d .account-numbers .result) (given (start d)) (gave d) (account-small _ _))
-
-integer-requires : tie.Need-integer-requires
-integer-requires c κs = search needs
-
-same-length : tie.Need-same-length
-same-length c = search needs
 
 returns : tie.Need-returns
 returns c =
@@ -59,12 +38,12 @@ pub petlumas-account-spec : {M : Type 1} → statement M
 petlumas-account-spec =
     tie.close
     (tie.spec
-    slice-aggregate-table-in
-    table-in-requires
-    account-requires
-    account-numbers-requires
-    slice-aggregate-reply
+    (λ c. search needs)
+    (λ c κs. search needs)
+    (λ c κs. search needs)
+    (λ c κs. search needs)
+    (λ c. search needs)
     reply-requires
-    integer-requires
-    same-length
+    (λ c κs. search needs)
+    (λ c. search needs)
     returns)

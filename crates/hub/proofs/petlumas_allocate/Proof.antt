@@ -33,37 +33,10 @@ gave c =
     let e = rw (toZ-ofZ (f .gasday), toZ-ofZ (f .from), toZ-ofZ (f .to), toZ-ofZ (f .tdq), toZ-ofZ (f .uag), toZ-ofZ (f .clp), c .before .before .before .before .before .before .before .before .before .table-in .ensures .0, c .before .before .before .before .before .before .shares-in .ensures .0, call-cut) at (c .before .before .before .allocate .ensures) in
     (c .allocation-numbers .ensures ∙ ap bitsOf (e .0), e .1)
 
-slice-aggregate-table-in : tie.Need-slice-aggregate-table-in
-slice-aggregate-table-in c = search needs
-
-table-in-requires : tie.Need-table-in-requires
-table-in-requires c κs = search needs
-
-slice-aggregate-shares-in : tie.Need-slice-aggregate-shares-in
-slice-aggregate-shares-in c = search needs
-
-shares-in-requires : tie.Need-shares-in-requires
-shares-in-requires c κs = search needs
-
-allocate-requires : tie.Need-allocate-requires
-allocate-requires c κs = search needs
-
-allocation-numbers-requires : tie.Need-allocation-numbers-requires
-allocation-numbers-requires c κs = search needs
-
-slice-aggregate-finish : tie.Need-slice-aggregate-finish
-slice-aggregate-finish c = search needs
-
 finish-requires : tie.Need-finish-requires
 finish-requires c κs =
     let e = c .before .before .before .before in
     (search needs, search needs, search needs, first-small (e .allocation-numbers .result) (given (start e) .0) (gave e .0) (allocate-small _ _ _))
-
-same-length : tie.Need-same-length
-same-length c = search needs
-
-same-length-2 : tie.Need-same-length-2
-same-length-2 c = search needs
 
 returns : tie.Need-returns
 returns c =
@@ -79,14 +52,14 @@ pub petlumas-allocate-spec : {M : Type 1} → statement M
 petlumas-allocate-spec =
     tie.close
     (tie.spec
-    slice-aggregate-table-in
-    table-in-requires
-    slice-aggregate-shares-in
-    shares-in-requires
-    allocate-requires
-    allocation-numbers-requires
-    slice-aggregate-finish
+    (λ c. search needs)
+    (λ c κs. search needs)
+    (λ c. search needs)
+    (λ c κs. search needs)
+    (λ c κs. search needs)
+    (λ c κs. search needs)
+    (λ c. search needs)
     finish-requires
-    same-length
-    same-length-2
+    (λ c. search needs)
+    (λ c. search needs)
     returns)

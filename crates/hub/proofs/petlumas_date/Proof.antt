@@ -22,25 +22,10 @@ gave c =
     let f = start c .fits in
     c .date-numbers .ensures ∙ ap bitsOf (rw (toZ-ofZ (f .year), toZ-ofZ (f .month), toZ-ofZ (f .day)) at (c .before .date .ensures))
 
-date-requires : tie.Need-date-requires
-date-requires c κs = search needs
-
-date-numbers-requires : tie.Need-date-numbers-requires
-date-numbers-requires c κs = search needs
-
-slice-aggregate-reply : tie.Need-slice-aggregate-reply
-slice-aggregate-reply c = search needs
-
 reply-requires : tie.Need-reply-requires
 reply-requires c κs =
     let d = c .before .before in
     (search needs, search needs, first-small (d .date-numbers .result) (given (start d)) (gave d) (date-small _ _ _))
-
-integer-requires : tie.Need-integer-requires
-integer-requires c κs = search needs
-
-same-length : tie.Need-same-length
-same-length c = search needs
 
 returns : tie.Need-returns
 returns c =
@@ -52,10 +37,10 @@ pub petlumas-date-spec : {M : Type 1} → statement M
 petlumas-date-spec =
     tie.close
     (tie.spec
-    date-requires
-    date-numbers-requires
-    slice-aggregate-reply
+    (λ c κs. search needs)
+    (λ c κs. search needs)
+    (λ c. search needs)
     reply-requires
-    integer-requires
-    same-length
+    (λ c κs. search needs)
+    (λ c. search needs)
     returns)

@@ -29,31 +29,10 @@ gave c =
     let e = rw (toZ-ofZ (f .mirn), toZ-ofZ (f .kind), toZ-ofZ (f .user), toZ-ofZ (f .install), toZ-ofZ (f .base), c .before .before .before .before .table-in .ensures .0) at (c .before .before .open .ensures) in
     (c .notice-numbers .ensures ∙ ap bitsOf (e .0), e .1)
 
-slice-aggregate-table-in : tie.Need-slice-aggregate-table-in
-slice-aggregate-table-in c = search needs
-
-table-in-requires : tie.Need-table-in-requires
-table-in-requires c κs = search needs
-
-open-requires : tie.Need-open-requires
-open-requires c κs = search needs
-
-notice-numbers-requires : tie.Need-notice-numbers-requires
-notice-numbers-requires c κs = search needs
-
-slice-aggregate-finish : tie.Need-slice-aggregate-finish
-slice-aggregate-finish c = search needs
-
 finish-requires : tie.Need-finish-requires
 finish-requires c κs =
     let e = c .before .before .before .before in
     (search needs, search needs, search needs, first-small (e .notice-numbers .result) (given (start e) .0) (gave e .0) (open-small _ _))
-
-same-length : tie.Need-same-length
-same-length c = search needs
-
-same-length-2 : tie.Need-same-length-2
-same-length-2 c = search needs
 
 returns : tie.Need-returns
 returns c =
@@ -65,12 +44,12 @@ pub petlumas-open-spec : {M : Type 1} → statement M
 petlumas-open-spec =
     tie.close
     (tie.spec
-    slice-aggregate-table-in
-    table-in-requires
-    open-requires
-    notice-numbers-requires
-    slice-aggregate-finish
+    (λ c. search needs)
+    (λ c κs. search needs)
+    (λ c κs. search needs)
+    (λ c κs. search needs)
+    (λ c. search needs)
     finish-requires
-    same-length
-    same-length-2
+    (λ c. search needs)
+    (λ c. search needs)
     returns)

@@ -32,37 +32,10 @@ gave c =
     let e = rw (toZ-ofZ (f .mirn), toZ-ofZ (f .user), toZ-ofZ (f .proposed), toZ-ofZ (f .nochange), h .before .before .table-in .ensures .0, h .holidays-in .ensures, first-513) at (r .request .ensures) in
     (c .request-numbers .ensures ∙ ap bitsOf (e .0), e .1)
 
-slice-aggregate-table-in : tie.Need-slice-aggregate-table-in
-slice-aggregate-table-in c = search needs
-
-table-in-requires : tie.Need-table-in-requires
-table-in-requires c κs = search needs
-
-slice-aggregate-holidays-in : tie.Need-slice-aggregate-holidays-in
-slice-aggregate-holidays-in c = search needs
-
-holidays-in-requires : tie.Need-holidays-in-requires
-holidays-in-requires c κs = search needs
-
-request-requires : tie.Need-request-requires
-request-requires c κs = search needs
-
-request-numbers-requires : tie.Need-request-numbers-requires
-request-numbers-requires c κs = search needs
-
-slice-aggregate-finish : tie.Need-slice-aggregate-finish
-slice-aggregate-finish c = search needs
-
 finish-requires : tie.Need-finish-requires
 finish-requires c κs =
     let e = c .before .before .before .before in
     (search needs, search needs, search needs, first-small (e .request-numbers .result) (given (start e) .0) (gave e .0) (request-small _ _ _))
-
-same-length : tie.Need-same-length
-same-length c = search needs
-
-same-length-2 : tie.Need-same-length-2
-same-length-2 c = search needs
 
 returns : tie.Need-returns
 returns c =
@@ -74,14 +47,14 @@ pub petlumas-request-spec : {M : Type 1} → statement M
 petlumas-request-spec =
     tie.close
     (tie.spec
-    slice-aggregate-table-in
-    table-in-requires
-    slice-aggregate-holidays-in
-    holidays-in-requires
-    request-requires
-    request-numbers-requires
-    slice-aggregate-finish
+    (λ c. search needs)
+    (λ c κs. search needs)
+    (λ c. search needs)
+    (λ c κs. search needs)
+    (λ c κs. search needs)
+    (λ c κs. search needs)
+    (λ c. search needs)
     finish-requires
-    same-length
-    same-length-2
+    (λ c. search needs)
+    (λ c. search needs)
     returns)

@@ -10,31 +10,13 @@ returns : tie.Need-returns
 unfolding accountLine
 returns c = nothing _ _ _ (miscounted 5 (c .before .before .args .nums .now) (account-outcome (c .before .before .args .t .now) (c .before .before .args .nums .now)) (c .if1 .taken))
 
-get-requires : tie.Need-get-requires
-get-requires c κs = search needs
-
 returns-2 : tie.Need-returns-2
 unfolding accountLine
 returns-2 c = nothing _ _ _ (first-out 5 (c .before .before .before .before .args .nums .now) (account-outcome (c .before .before .before .before .args .t .now) (c .before .before .before .before .args .nums .now)) (c .before .get .result) (c .before .before .if1 .left) (c .before .get .ensures .0) (c .if2 .taken))
 
-get-requires-2 : tie.Need-get-requires-2
-get-requires-2 c κs = search needs
-
 returns-3 : tie.Need-returns-3
 unfolding accountLine
 returns-3 c = nothing _ _ _ (second-out 5 (c .before .before .before .before .before .before .args .nums .now) (account-outcome (c .before .before .before .before .before .before .args .t .now) (c .before .before .before .before .before .before .args .nums .now)) (c .before .before .before .get .result) (c .before .before .before .before .if1 .left) (c .before .before .before .get .ensures .0) (c .before .get2 .result) (c .before .before .if2 .left) (c .before .get2 .ensures .0) (c .if3 .taken))
-
-slice-aggregate-account-on : tie.Need-slice-aggregate-account-on
-slice-aggregate-account-on c = search needs
-
-slice-aggregate-account-on-2 : tie.Need-slice-aggregate-account-on-2
-slice-aggregate-account-on-2 c = search needs
-
-account-on-requires : tie.Need-account-on-requires
-account-on-requires c κs = search needs
-
-same-length : tie.Need-same-length
-same-length c = search needs
 
 returns-4 : tie.Need-returns-4
 returns-4 c =
@@ -48,12 +30,12 @@ account-spec =
     tie.close
     (tie.spec
     returns
-    get-requires
+    (λ c κs. search needs)
     returns-2
-    get-requires-2
+    (λ c κs. search needs)
     returns-3
-    slice-aggregate-account-on
-    slice-aggregate-account-on-2
-    account-on-requires
-    same-length
+    (λ c. search needs)
+    (λ c. search needs)
+    (λ c κs. search needs)
+    (λ c. search needs)
     returns-4)

@@ -8,38 +8,14 @@ use Rattle.hublines.proofs.allocate.Tie as tie
 returns : tie.Need-returns
 returns c = nothing _ _ _ (none-anyway (c .before .before .args .t .now) (c .before .before .args .nums .now) (miscounted 9 (c .before .before .args .nums .now) (allocate-outcome (c .before .before .args .t .now) (c .before .before .args .nums .now)) (c .if1 .taken)))
 
-get-requires : tie.Need-get-requires
-get-requires c κs = search needs
-
 returns-2 : tie.Need-returns-2
 returns-2 c = nothing _ _ _ (none-anyway (c .before .before .before .before .args .t .now) (c .before .before .before .before .args .nums .now) (first-out 9 (c .before .before .before .before .args .nums .now) (allocate-outcome (c .before .before .before .before .args .t .now) (c .before .before .before .before .args .nums .now)) (c .before .get .result) (c .before .before .if1 .left) (c .before .get .ensures .0) (c .if2 .taken)))
-
-get-requires-2 : tie.Need-get-requires-2
-get-requires-2 c κs = search needs
 
 returns-3 : tie.Need-returns-3
 returns-3 c = nothing _ _ _ (none-anyway (c .before .before .before .before .before .before .args .t .now) (c .before .before .before .before .before .before .args .nums .now) (second-out 9 (c .before .before .before .before .before .before .args .nums .now) (allocate-outcome (c .before .before .before .before .before .before .args .t .now) (c .before .before .before .before .before .before .args .nums .now)) (c .before .before .before .get .result) (c .before .before .before .before .if1 .left) (c .before .before .before .get .ensures .0) (c .before .get2 .result) (c .before .before .if2 .left) (c .before .get2 .ensures .0) (c .if3 .taken)))
 
-get-requires-3 : tie.Need-get-requires-3
-get-requires-3 c κs = search needs
-
 returns-4 : tie.Need-returns-4
 returns-4 c = nothing _ _ _ (third-out (c .before .before .before .before .before .before .before .before .args .t .now) (c .before .before .before .before .before .before .before .before .args .nums .now) (c .before .get3 .result) (c .before .get3 .ensures .0) (c .if4 .taken))
-
-slice-aggregate-allocate-on : tie.Need-slice-aggregate-allocate-on
-slice-aggregate-allocate-on c = search needs
-
-slice-aggregate-allocate-on-2 : tie.Need-slice-aggregate-allocate-on-2
-slice-aggregate-allocate-on-2 c = search needs
-
-slice-aggregate-allocate-on-3 : tie.Need-slice-aggregate-allocate-on-3
-slice-aggregate-allocate-on-3 c = search needs
-
-allocate-on-requires : tie.Need-allocate-on-requires
-allocate-on-requires c κs = search needs
-
-same-length : tie.Need-same-length
-same-length c = search needs
 
 returns-5 : tie.Need-returns-5
 returns-5 c =
@@ -54,15 +30,15 @@ allocate-spec =
     tie.close
     (tie.spec
     returns
-    get-requires
+    (λ c κs. search needs)
     returns-2
-    get-requires-2
+    (λ c κs. search needs)
     returns-3
-    get-requires-3
+    (λ c κs. search needs)
     returns-4
-    slice-aggregate-allocate-on
-    slice-aggregate-allocate-on-2
-    slice-aggregate-allocate-on-3
-    allocate-on-requires
-    same-length
+    (λ c. search needs)
+    (λ c. search needs)
+    (λ c. search needs)
+    (λ c κs. search needs)
+    (λ c. search needs)
     returns-5)

@@ -6,21 +6,6 @@ use borrow.Author.Needs.{needs}
 use Rattle.hublines.proofs.call_account.Statement.{statement}
 use Rattle.hublines.proofs.call_account.Tie as tie
 
-shared-slice-copy-out-petlumas-account : tie.Need-shared-slice-copy-out-petlumas-account
-shared-slice-copy-out-petlumas-account c = search needs
-
-shared-slice-copy-out-petlumas-account-2 : tie.Need-shared-slice-copy-out-petlumas-account-2
-shared-slice-copy-out-petlumas-account-2 c = search needs
-
-shared-slice-copy-out-petlumas-account-3 : tie.Need-shared-slice-copy-out-petlumas-account-3
-shared-slice-copy-out-petlumas-account-3 c = search needs
-
-petlumas-account-requires : tie.Need-petlumas-account-requires
-petlumas-account-requires c κs = search needs
-
-same-length : tie.Need-same-length
-same-length c = search needs
-
 returns : tie.Need-returns
 returns c =
     let xs = c .before .before .before .before .before .before .before .before .before .args .nums .now in
@@ -35,9 +20,9 @@ pub call-account-spec : {M : Type 1} → statement M
 call-account-spec =
     tie.close
     (tie.spec
-    shared-slice-copy-out-petlumas-account
-    shared-slice-copy-out-petlumas-account-2
-    shared-slice-copy-out-petlumas-account-3
-    petlumas-account-requires
-    same-length
+    (λ c. search needs)
+    (λ c. search needs)
+    (λ c. search needs)
+    (λ c κs. search needs)
+    (λ c. search needs)
     returns)

@@ -6,33 +6,6 @@ use borrow.Author.Needs.{needs}
 use Rattle.hublines.proofs.call_allocate.Statement.{statement}
 use Rattle.hublines.proofs.call_allocate.Tie as tie
 
-shared-slice-copy-out-petlumas-allocate : tie.Need-shared-slice-copy-out-petlumas-allocate
-shared-slice-copy-out-petlumas-allocate c = search needs
-
-shared-slice-copy-out-petlumas-allocate-2 : tie.Need-shared-slice-copy-out-petlumas-allocate-2
-shared-slice-copy-out-petlumas-allocate-2 c = search needs
-
-shared-slice-copy-out-petlumas-allocate-3 : tie.Need-shared-slice-copy-out-petlumas-allocate-3
-shared-slice-copy-out-petlumas-allocate-3 c = search needs
-
-shared-slice-copy-out-petlumas-allocate-4 : tie.Need-shared-slice-copy-out-petlumas-allocate-4
-shared-slice-copy-out-petlumas-allocate-4 c = search needs
-
-shared-slice-copy-out-petlumas-allocate-5 : tie.Need-shared-slice-copy-out-petlumas-allocate-5
-shared-slice-copy-out-petlumas-allocate-5 c = search needs
-
-shared-slice-copy-out-petlumas-allocate-6 : tie.Need-shared-slice-copy-out-petlumas-allocate-6
-shared-slice-copy-out-petlumas-allocate-6 c = search needs
-
-petlumas-allocate-requires : tie.Need-petlumas-allocate-requires
-petlumas-allocate-requires c κs = search needs
-
-same-length : tie.Need-same-length
-same-length c = search needs
-
-same-length-2 : tie.Need-same-length-2
-same-length-2 c = search needs
-
 returns : tie.Need-returns
 returns c =
     let xs = c .before .before .before .before .before .before .before .before .before .before .before .before .before .before .before .before .args .nums .now in
@@ -50,13 +23,13 @@ pub call-allocate-spec : {M : Type 1} → statement M
 call-allocate-spec =
     tie.close
     (tie.spec
-    shared-slice-copy-out-petlumas-allocate
-    shared-slice-copy-out-petlumas-allocate-2
-    shared-slice-copy-out-petlumas-allocate-3
-    shared-slice-copy-out-petlumas-allocate-4
-    shared-slice-copy-out-petlumas-allocate-5
-    shared-slice-copy-out-petlumas-allocate-6
-    petlumas-allocate-requires
-    same-length
-    same-length-2
+    (λ c. search needs)
+    (λ c. search needs)
+    (λ c. search needs)
+    (λ c. search needs)
+    (λ c. search needs)
+    (λ c. search needs)
+    (λ c κs. search needs)
+    (λ c. search needs)
+    (λ c. search needs)
     returns)

@@ -6,33 +6,6 @@ use borrow.Author.Needs.{needs}
 use Rattle.hublines.proofs.call_energy.Statement.{statement}
 use Rattle.hublines.proofs.call_energy.Tie as tie
 
-shared-slice-copy-out-petlumas-energy : tie.Need-shared-slice-copy-out-petlumas-energy
-shared-slice-copy-out-petlumas-energy c = search needs
-
-shared-slice-copy-out-petlumas-energy-2 : tie.Need-shared-slice-copy-out-petlumas-energy-2
-shared-slice-copy-out-petlumas-energy-2 c = search needs
-
-shared-slice-copy-out-petlumas-energy-3 : tie.Need-shared-slice-copy-out-petlumas-energy-3
-shared-slice-copy-out-petlumas-energy-3 c = search needs
-
-shared-slice-copy-out-petlumas-energy-4 : tie.Need-shared-slice-copy-out-petlumas-energy-4
-shared-slice-copy-out-petlumas-energy-4 c = search needs
-
-shared-slice-copy-out-petlumas-energy-5 : tie.Need-shared-slice-copy-out-petlumas-energy-5
-shared-slice-copy-out-petlumas-energy-5 c = search needs
-
-shared-slice-copy-out-petlumas-energy-6 : tie.Need-shared-slice-copy-out-petlumas-energy-6
-shared-slice-copy-out-petlumas-energy-6 c = search needs
-
-petlumas-energy-requires : tie.Need-petlumas-energy-requires
-petlumas-energy-requires c κs = search needs
-
-same-length : tie.Need-same-length
-same-length c = search needs
-
-same-length-2 : tie.Need-same-length-2
-same-length-2 c = search needs
-
 returns : tie.Need-returns
 returns c =
     let xs = c .before .before .before .before .before .before .before .before .before .before .before .before .before .before .before .args .nums .now in
@@ -50,13 +23,13 @@ pub call-energy-spec : {M : Type 1} → statement M
 call-energy-spec =
     tie.close
     (tie.spec
-    shared-slice-copy-out-petlumas-energy
-    shared-slice-copy-out-petlumas-energy-2
-    shared-slice-copy-out-petlumas-energy-3
-    shared-slice-copy-out-petlumas-energy-4
-    shared-slice-copy-out-petlumas-energy-5
-    shared-slice-copy-out-petlumas-energy-6
-    petlumas-energy-requires
-    same-length
-    same-length-2
+    (λ c. search needs)
+    (λ c. search needs)
+    (λ c. search needs)
+    (λ c. search needs)
+    (λ c. search needs)
+    (λ c. search needs)
+    (λ c κs. search needs)
+    (λ c. search needs)
+    (λ c. search needs)
     returns)

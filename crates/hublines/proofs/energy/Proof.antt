@@ -10,34 +10,13 @@ returns : tie.Need-returns
 unfolding energyLine
 returns c = nothing _ _ _ (miscounted 8 (c .before .before .args .nums .now) (energy-outcome (c .before .before .args .t .now) (c .before .before .args .nums .now)) (c .if1 .taken))
 
-get-requires : tie.Need-get-requires
-get-requires c κs = search needs
-
 returns-2 : tie.Need-returns-2
 unfolding energyLine
 returns-2 c = nothing _ _ _ (first-out 8 (c .before .before .before .before .args .nums .now) (energy-outcome (c .before .before .before .before .args .t .now) (c .before .before .before .before .args .nums .now)) (c .before .get .result) (c .before .before .if1 .left) (c .before .get .ensures .0) (c .if2 .taken))
 
-get-requires-2 : tie.Need-get-requires-2
-get-requires-2 c κs = search needs
-
 returns-3 : tie.Need-returns-3
 unfolding energyLine
 returns-3 c = nothing _ _ _ (second-out 8 (c .before .before .before .before .before .before .args .nums .now) (energy-outcome (c .before .before .before .before .before .before .args .t .now) (c .before .before .before .before .before .before .args .nums .now)) (c .before .before .before .get .result) (c .before .before .before .before .if1 .left) (c .before .before .before .get .ensures .0) (c .before .get2 .result) (c .before .before .if2 .left) (c .before .get2 .ensures .0) (c .if3 .taken))
-
-slice-aggregate-energy-on : tie.Need-slice-aggregate-energy-on
-slice-aggregate-energy-on c = search needs
-
-slice-aggregate-energy-on-2 : tie.Need-slice-aggregate-energy-on-2
-slice-aggregate-energy-on-2 c = search needs
-
-energy-on-requires : tie.Need-energy-on-requires
-energy-on-requires c κs = search needs
-
-same-length : tie.Need-same-length
-same-length c = search needs
-
-same-length-2 : tie.Need-same-length-2
-same-length-2 c = search needs
 
 returns-4 : tie.Need-returns-4
 unfolding energyLine
@@ -52,13 +31,13 @@ energy-spec =
     tie.close
     (tie.spec
     returns
-    get-requires
+    (λ c κs. search needs)
     returns-2
-    get-requires-2
+    (λ c κs. search needs)
     returns-3
-    slice-aggregate-energy-on
-    slice-aggregate-energy-on-2
-    energy-on-requires
-    same-length
-    same-length-2
+    (λ c. search needs)
+    (λ c. search needs)
+    (λ c κs. search needs)
+    (λ c. search needs)
+    (λ c. search needs)
     returns-4)

@@ -9,72 +9,6 @@ use borrow.Author.Needs.{needs}
 use Rattle.hublines.proofs.energy_on.Statement.{statement}
 use Rattle.hublines.proofs.energy_on.Tie as tie
 
-get-requires : tie.Need-get-requires
-get-requires c κs = search needs
-
-get-requires-2 : tie.Need-get-requires-2
-get-requires-2 c κs = search needs
-
-encode-requires : tie.Need-encode-requires
-encode-requires c κs = search needs
-
-sub-call-energy : tie.Need-sub-call-energy
-sub-call-energy c = search needs
-
-part-call-energy-start : tie.Need-part-call-energy-start
-part-call-energy-start c = search needs
-
-part-call-energy-end : tie.Need-part-call-energy-end
-part-call-energy-end c = search needs
-
-sub-call-energy-2 : tie.Need-sub-call-energy-2
-sub-call-energy-2 c = search needs
-
-part-call-energy-start-2 : tie.Need-part-call-energy-start-2
-part-call-energy-start-2 c = search needs
-
-part-call-energy-end-2 : tie.Need-part-call-energy-end-2
-part-call-energy-end-2 c = search needs
-
-sub-call-energy-3 : tie.Need-sub-call-energy-3
-sub-call-energy-3 c = search needs
-
-part-call-energy-start-3 : tie.Need-part-call-energy-start-3
-part-call-energy-start-3 c = search needs
-
-part-call-energy-end-3 : tie.Need-part-call-energy-end-3
-part-call-energy-end-3 c = search needs
-
-call-energy-requires : tie.Need-call-energy-requires
-call-energy-requires c κs = search needs
-
-decode-requires : tie.Need-decode-requires
-decode-requires c κs = search needs
-
-sub-print : tie.Need-sub-print
-sub-print c = search needs
-
-part-print-start : tie.Need-part-print-start
-part-print-start c = search needs
-
-part-print-end : tie.Need-part-print-end
-part-print-end c = search needs
-
-print-requires : tie.Need-print-requires
-print-requires c κs = search needs
-
-same-length : tie.Need-same-length
-same-length c = search needs
-
-same-length-2 : tie.Need-same-length-2
-same-length-2 c = search needs
-
-same-length-3 : tie.Need-same-length-3
-same-length-3 c = search needs
-
-same-length-4 : tie.Need-same-length-4
-same-length-4 c = search needs
-
 returns : tie.Need-returns
 returns c =
     let s = c .before .before .before .before .before .before .before .before .before .before .before .before .before .before .before .before .before .before .before .before .before .before .before .before .before .before .before .before in
@@ -92,26 +26,26 @@ pub energy-on-spec : {M : Type 1} → statement M
 energy-on-spec =
     tie.close
     (tie.spec
-    get-requires
-    get-requires-2
-    encode-requires
-    sub-call-energy
-    part-call-energy-start
-    part-call-energy-end
-    sub-call-energy-2
-    part-call-energy-start-2
-    part-call-energy-end-2
-    sub-call-energy-3
-    part-call-energy-start-3
-    part-call-energy-end-3
-    call-energy-requires
-    decode-requires
-    sub-print
-    part-print-start
-    part-print-end
-    print-requires
-    same-length
-    same-length-2
-    same-length-3
-    same-length-4
+    (λ c κs. search needs)
+    (λ c κs. search needs)
+    (λ c κs. search needs)
+    (λ c. search needs)
+    (λ c. search needs)
+    (λ c. search needs)
+    (λ c. search needs)
+    (λ c. search needs)
+    (λ c. search needs)
+    (λ c. search needs)
+    (λ c. search needs)
+    (λ c. search needs)
+    (λ c κs. search needs)
+    (λ c κs. search needs)
+    (λ c. search needs)
+    (λ c. search needs)
+    (λ c. search needs)
+    (λ c κs. search needs)
+    (λ c. search needs)
+    (λ c. search needs)
+    (λ c. search needs)
+    (λ c. search needs)
     returns)

@@ -10,15 +10,6 @@ use borrow.Author.Needs.{needs}
 use Rattle.hublines.proofs.print.Statement.{statement}
 use Rattle.hublines.proofs.print.Tie as tie
 
-put-signed-requires : tie.Need-put-signed-requires
-put-signed-requires c κs = search needs
-
-put-bytes-requires : tie.Need-put-bytes-requires
-put-bytes-requires c κs = search needs
-
-same-length : tie.Need-same-length
-same-length c = search needs
-
 returns : tie.Need-returns
 unfolding shown
 returns c =
@@ -29,4 +20,4 @@ returns c =
     (omega (arith, p .ensures .0, q .ensures .0), joined (textOf (a .result)) (hexOf (a .answer .now) ++ (10 ∷ [])) 32 (rw back at (p .ensures .1)) (q .ensures .1))
 
 pub print-spec : {M : Type 1} → statement M
-print-spec = tie.close (tie.spec put-signed-requires put-bytes-requires same-length returns)
+print-spec = tie.close (tie.spec (λ c κs. search needs) (λ c κs. search needs) (λ c. search needs) returns)

@@ -10,18 +10,6 @@ use borrow.Author.Needs.{needs}
 use Rattle.hublines.proofs.print_both.Statement.{statement}
 use Rattle.hublines.proofs.print_both.Tie as tie
 
-put-signed-requires : tie.Need-put-signed-requires
-put-signed-requires c κs = search needs
-
-put-bytes-requires : tie.Need-put-bytes-requires
-put-bytes-requires c κs = search needs
-
-put-bytes-requires-2 : tie.Need-put-bytes-requires-2
-put-bytes-requires-2 c κs = search needs
-
-same-length : tie.Need-same-length
-same-length c = search needs
-
 returns : tie.Need-returns
 unfolding shownBoth
 returns c =
@@ -36,4 +24,4 @@ returns c =
 pub print-both-spec : {M : Type 1} → statement M
 print-both-spec =
     tie.close
-    (tie.spec put-signed-requires put-bytes-requires put-bytes-requires-2 same-length returns)
+    (tie.spec (λ c κs. search needs) (λ c κs. search needs) (λ c κs. search needs) (λ c. search needs) returns)

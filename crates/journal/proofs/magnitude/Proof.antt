@@ -22,15 +22,6 @@ returns c = sym (digits-missing (c .before .before .args .s .now) (c .before .be
 loop-holds : tie.Need-loop-holds Inv-loop μ-loop
 loop-holds c = (search needs, search needs, digits-start (c .before .before .args .s .now) (c .before .before .args .at) (omega arith))
 
-shared-slice-read-wide : tie.Need-shared-slice-read-wide Inv-loop μ-loop
-shared-slice-read-wide c = search needs
-
-wide-requires : tie.Need-wide-requires Inv-loop μ-loop
-wide-requires c κs = search needs
-
-is-digit-requires : tie.Need-is-digit-requires Inv-loop μ-loop
-is-digit-requires c κs = search needs
-
 returns-2 : tie.Need-returns-2 Inv-loop μ-loop
 returns-2 c =
     let l = c .before .before .before .before .before .loop in
@@ -43,9 +34,6 @@ returns-3 c =
     let s = c .before .before .before .before .before .before .before .before .before in
     digits-large (s .args .s .now) (s .args .at) (l .i) (l .n) (l .inv .2) (c .before .before .before .wide .result) (c .before .before .before .before .before .loop-test .taken) (c .before .before .before .wide .ensures .0) (sym (c .before .before .is-digit .ensures) ∙ not-false _ (c .before .if2 .left)) (c .if3 .taken)
 
-mul-n : tie.Need-mul-n Inv-loop μ-loop
-mul-n c = search needs
-
 sub-n : tie.Need-sub-n Inv-loop μ-loop
 sub-n c =
     let d = digit-bounds (c .before .before .before .wide .result) (sym (c .before .before .is-digit .ensures) ∙ not-false _ (c .before .if2 .left)) in
@@ -55,12 +43,6 @@ add-n : tie.Need-add-n Inv-loop μ-loop
 add-n c =
     let d = digit-bounds (c .before .before .before .wide .result) (sym (c .before .before .is-digit .ensures) ∙ not-false _ (c .before .if2 .left)) in
     omega arith
-
-add-i : tie.Need-add-i Inv-loop μ-loop
-add-i c = search needs
-
-loop-less : tie.Need-loop-less Inv-loop μ-loop
-loop-less c = search needs
 
 loop-again : tie.Need-loop-again Inv-loop μ-loop
 loop-again c =
@@ -84,15 +66,15 @@ magnitude-spec =
     μ-loop
     returns
     loop-holds
-    shared-slice-read-wide
-    wide-requires
-    is-digit-requires
+    (λ c. search needs)
+    (λ c κs. search needs)
+    (λ c κs. search needs)
     returns-2
     returns-3
-    mul-n
+    (λ c. search needs)
     sub-n
     add-n
-    add-i
-    loop-less
+    (λ c. search needs)
+    (λ c. search needs)
     loop-again
     returns-4)

@@ -8,9 +8,6 @@ use Rattle.journal.proofs.Text.{negative-fits, negative-large}
 use Rattle.journal.proofs.negative.Statement.{statement}
 use Rattle.journal.proofs.negative.Tie as tie
 
-difference-requires : tie.Need-difference-requires
-difference-requires c κs = search needs
-
 returns : tie.Need-returns
 returns c = ap some (toZ-ofZ (search needs) ∙ c .difference .ensures) ∙ negative-fits (c .before .before .args .m) (search needs)
 
@@ -21,4 +18,4 @@ returns-3 : tie.Need-returns-3
 returns-3 c = negative-large (c .before .before .args .m) (omega arith)
 
 pub negative-spec : {M : Type 1} → statement M
-negative-spec = tie.close (tie.spec difference-requires returns returns-2 returns-3)
+negative-spec = tie.close (tie.spec (λ c κs. search needs) returns returns-2 returns-3)

@@ -10,11 +10,8 @@ use Rattle.journal.proofs.non_negative.Tie as tie
 returns : tie.Need-returns
 returns c = non-negative-large (c .before .args .m) (omega arith)
 
-integer-requires : tie.Need-integer-requires
-integer-requires c κs = search needs
-
 returns-2 : tie.Need-returns-2
 returns-2 c = ap some (toZ-ofZ (search needs) ∙ c .integer .ensures) ∙ non-negative-fits (c .before .before .args .m) (search needs)
 
 pub non-negative-spec : {M : Type 1} → statement M
-non-negative-spec = tie.close (tie.spec returns integer-requires returns-2)
+non-negative-spec = tie.close (tie.spec returns (λ c κs. search needs) returns-2)

@@ -9,23 +9,8 @@ use Rattle.journal.proofs.number.Tie as tie
 returns : tie.Need-returns
 returns c = number-empty (c .before .before .args .s .now) (c .if1 .taken)
 
-shared-slice-read-if2 : tie.Need-shared-slice-read-if2
-shared-slice-read-if2 c = search needs
-
-magnitude-requires : tie.Need-magnitude-requires
-magnitude-requires c κs = search needs
-
-negative-requires : tie.Need-negative-requires
-negative-requires c κs = search needs
-
 returns-2 : tie.Need-returns-2
 returns-2 c = c .negative .ensures ∙ ap negative (c .before .magnitude .ensures) ∙ number-minus (c .before .before .before .before .before .before .args .s .now) (omega arith) (c .before .before .if2 .taken)
-
-magnitude-requires-2 : tie.Need-magnitude-requires-2
-magnitude-requires-2 c κs = search needs
-
-non-negative-requires : tie.Need-non-negative-requires
-non-negative-requires c κs = search needs
 
 returns-3 : tie.Need-returns-3
 returns-3 c = c .non-negative .ensures ∙ ap nonNegative (c .before .magnitude2 .ensures) ∙ number-plain (c .before .before .before .before .before .before .args .s .now) (omega arith) (c .before .before .if2 .left)
@@ -35,10 +20,10 @@ number-spec =
     tie.close
     (tie.spec
     returns
-    shared-slice-read-if2
-    magnitude-requires
-    negative-requires
+    (λ c. search needs)
+    (λ c κs. search needs)
+    (λ c κs. search needs)
     returns-2
-    magnitude-requires-2
-    non-negative-requires
+    (λ c κs. search needs)
+    (λ c κs. search needs)
     returns-3)

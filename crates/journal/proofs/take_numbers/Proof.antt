@@ -18,55 +18,16 @@ Inv-loop line at nums₀ n₀ i₀ nums n i =
 abbrev μ-loop : tie.MeasureT-loop
 μ-loop line at nums₀ n₀ i₀ nums n i = length line - i
 
-skip-requires : tie.Need-skip-requires Inv-loop μ-loop
-skip-requires c κs = search needs
-
 loop-holds : tie.Need-loop-holds Inv-loop μ-loop
 loop-holds c =
     let s = c .skip .ensures in
     (search needs, search needs, search needs, s .stops, behind-nothing _ ∙ ap numbersOf (s .same-words))
-
-word-end-requires : tie.Need-word-end-requires Inv-loop μ-loop
-word-end-requires c κs = search needs
-
-sub-number : tie.Need-sub-number Inv-loop μ-loop
-sub-number c = search needs
-
-part-number-start : tie.Need-part-number-start Inv-loop μ-loop
-part-number-start c = search needs
-
-part-number-end : tie.Need-part-number-end Inv-loop μ-loop
-part-number-end c = search needs
-
-number-requires : tie.Need-number-requires Inv-loop μ-loop
-number-requires c κs = search needs
-
-enum-known-x : tie.Need-enum-known-x Inv-loop μ-loop
-enum-known-x c = search needs
-
-enum-told : tie.Need-enum-told Inv-loop μ-loop
-enum-told c = search needs
-
-same-length : tie.Need-same-length Inv-loop μ-loop
-same-length c = search needs
 
 returns : tie.Need-returns Inv-loop μ-loop
 returns c =
     let l = c .before .before .before .before .before .before .loop in
     let q = sym (sym (ap valueOf (c .enum-told .given .1)) ∙ c .before .before .number .ensures) in
     (sym (numbers-none (c .before .before .before .before .before .before .before .before .before .args .line .now) (l .i) (c .before .before .before .before .word-end .result) (c .before .before .before .before .before .loop-test .taken) (l .inv .3 (c .before .before .before .before .before .loop-test .taken)) (c .before .before .before .before .word-end .ensures) (l .nums) (l .n) q) ∙ l .inv .4, search needs)
-
-mul-x : tie.Need-mul-x Inv-loop μ-loop
-mul-x c = search needs
-
-slice-set-from-x : tie.Need-slice-set-from-x Inv-loop μ-loop
-slice-set-from-x c = search needs
-
-add-n : tie.Need-add-n Inv-loop μ-loop
-add-n c = search needs
-
-same-length-2 : tie.Need-same-length-2 Inv-loop μ-loop
-same-length-2 c = search needs
 
 returns-2 : tie.Need-returns-2 Inv-loop μ-loop
 returns-2 c =
@@ -78,12 +39,6 @@ returns-2 c =
     let m = word-moves line (l .i) (e .result) h (l .inv .3 h) (e .ensures) in
     let more = numbers-more line (l .i) (e .result) h (l .inv .3 h) (e .ensures) (l .nums) (l .n) _ q (omega arith) in
     (numbers-end line (e .result) _ (omega arith) ∙ sym more ∙ l .inv .4, omega arith)
-
-add-skip : tie.Need-add-skip Inv-loop μ-loop
-add-skip c = search needs
-
-skip-requires-2 : tie.Need-skip-requires-2 Inv-loop μ-loop
-skip-requires-2 c κs = search needs
 
 loop-less : tie.Need-loop-less Inv-loop μ-loop
 loop-less c =
@@ -106,9 +61,6 @@ loop-again c =
     let rest = c .skip2 .ensures .same-words ∙ words-space line (e .result) k (e .ensures .stops k) in
     (search needs, omega arith, simp length-set (omega arith), c .skip2 .ensures .stops, rw rest (sym more ∙ l .inv .4))
 
-same-length-3 : tie.Need-same-length-3 Inv-loop μ-loop
-same-length-3 c = search needs
-
 returns-3 : tie.Need-returns-3 Inv-loop μ-loop
 returns-3 c =
     let l = c .before .loop in
@@ -120,25 +72,25 @@ take-numbers-spec =
     (tie.spec
     Inv-loop
     μ-loop
-    skip-requires
+    (λ c κs. search needs)
     loop-holds
-    word-end-requires
-    sub-number
-    part-number-start
-    part-number-end
-    number-requires
-    enum-known-x
-    enum-told
-    same-length
+    (λ c κs. search needs)
+    (λ c. search needs)
+    (λ c. search needs)
+    (λ c. search needs)
+    (λ c κs. search needs)
+    (λ c. search needs)
+    (λ c. search needs)
+    (λ c. search needs)
     returns
-    mul-x
-    slice-set-from-x
-    add-n
-    same-length-2
+    (λ c. search needs)
+    (λ c. search needs)
+    (λ c. search needs)
+    (λ c. search needs)
     returns-2
-    add-skip
-    skip-requires-2
+    (λ c. search needs)
+    (λ c κs. search needs)
     loop-less
     loop-again
-    same-length-3
+    (λ c. search needs)
     returns-3)

@@ -6,18 +6,6 @@ use Rattle.numbers.proofs.Shares.{raised-share}
 use Rattle.numbers.proofs.day_share.Statement.{statement}
 use Rattle.numbers.proofs.day_share.Tie as tie
 
-add-partial-energy : tie.Need-add-partial-energy
-add-partial-energy c = search needs
-
-partial-energy-requires : tie.Need-partial-energy-requires
-partial-energy-requires c κs = search needs
-
-partial-energy-requires-2 : tie.Need-partial-energy-requires-2
-partial-energy-requires-2 c κs = search needs
-
-difference-requires : tie.Need-difference-requires
-difference-requires c κs = search needs
-
 returns : tie.Need-returns
 returns c =
     toZ-ofZ w64 _ (sfits-of (c .difference .ok))
@@ -27,4 +15,4 @@ returns c =
 pub day-share-spec : {M : Type 1} → statement M
 day-share-spec =
     tie.close
-    (tie.spec add-partial-energy partial-energy-requires partial-energy-requires-2 difference-requires returns)
+    (tie.spec (λ c. search needs) (λ c κs. search needs) (λ c κs. search needs) (λ c κs. search needs) returns)

@@ -5,12 +5,6 @@ use Rattle.numbers.proofs.Integers.{pos-minus, sub-sfits}
 use Rattle.numbers.proofs.difference.Statement.{statement}
 use Rattle.numbers.proofs.difference.Tie as tie
 
-cast-result : tie.Need-cast-result
-cast-result c = search needs
-
-cast-result-2 : tie.Need-cast-result-2
-cast-result-2 c = search needs
-
 sub-result : tie.Need-sub-result
 sub-result c =
     rw (toZ-pos w64 _ (c .pre .0), toZ-pos w64 _ (c .pre .1), pos-minus) (sub-sfits _ _ (c .pre .0) (c .pre .1))
@@ -21,4 +15,4 @@ returns c =
     (toZ-ofZ w64 _ (sub-sfits _ _ (c .pre .0) (c .pre .1)))
 
 pub difference-spec : {M : Type 1} → statement M
-difference-spec = tie.close (tie.spec cast-result cast-result-2 sub-result returns)
+difference-spec = tie.close (tie.spec (λ c. search needs) (λ c. search needs) sub-result returns)

@@ -6,20 +6,10 @@ use Rattle.numbers.proofs.Naturals.{natural-read}
 use Rattle.numbers.proofs.get.Statement.{statement}
 use Rattle.numbers.proofs.get.Tie as tie
 
-mul-natural : tie.Need-mul-natural
-mul-natural c = search needs
-
-shared-slice-copy-out-natural : tie.Need-shared-slice-copy-out-natural
-shared-slice-copy-out-natural c = search needs
-
-natural-requires : tie.Need-natural-requires
-natural-requires c κs = search needs
-
 returns : tie.Need-returns
 returns c =
     let s = c .before .before in
     (c .natural .ensures .0 ∙ natural-read (getD (s .args .t .now) (s .args .i) (pos 0)) (sfits-of (c .before .natural-arg .given)), c .natural .ensures .1)
 
 pub get-spec : {M : Type 1} → statement M
-get-spec =
-    tie.close (tie.spec mul-natural shared-slice-copy-out-natural natural-requires returns)
+get-spec = tie.close (tie.spec (λ c. search needs) (λ c. search needs) (λ c κs. search needs) returns)

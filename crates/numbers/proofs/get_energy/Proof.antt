@@ -6,19 +6,10 @@ use Rattle.numbers.proofs.Naturals.{bias-read}
 use Rattle.numbers.proofs.get_energy.Statement.{statement}
 use Rattle.numbers.proofs.get_energy.Tie as tie
 
-mul-bias : tie.Need-mul-bias
-mul-bias c = search needs
-
-shared-slice-copy-out-bias : tie.Need-shared-slice-copy-out-bias
-shared-slice-copy-out-bias c = search needs
-
-bias-requires : tie.Need-bias-requires
-bias-requires c κs = search needs
-
 returns : tie.Need-returns
 returns c =
     let s = c .before .before in
     c .bias .ensures ∙ bias-read (getD (s .args .t .now) (s .args .i) (pos 0)) (sfits-of (c .before .bias-arg .given))
 
 pub get-energy-spec : {M : Type 1} → statement M
-get-energy-spec = tie.close (tie.spec mul-bias shared-slice-copy-out-bias bias-requires returns)
+get-energy-spec = tie.close (tie.spec (λ c. search needs) (λ c. search needs) (λ c κs. search needs) returns)

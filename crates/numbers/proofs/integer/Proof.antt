@@ -4,11 +4,8 @@ use mir.Syntax.{w64}
 use Rattle.numbers.proofs.integer.Statement.{statement}
 use Rattle.numbers.proofs.integer.Tie as tie
 
-cast-result : tie.Need-cast-result
-cast-result c = search needs
-
 returns : tie.Need-returns
 returns c = toZ-pos w64 _ (c .pre)
 
 pub integer-spec : {M : Type 1} → statement M
-integer-spec = tie.close (tie.spec cast-result returns)
+integer-spec = tie.close (tie.spec (λ c. search needs) returns)

@@ -8,18 +8,9 @@ mul-result : tie.Need-mul-result
 mul-result c =
     omega (arith, raised-fits (c .args .u) (c .args .n) (c .args .k) (c .pre .0) (c .pre .2) (c .pre .3))
 
-sub-result : tie.Need-sub-result
-sub-result c = search needs
-
-mul-result-2 : tie.Need-mul-result-2
-mul-result-2 c = search needs
-
 add-result : tie.Need-add-result
 add-result c =
     omega (arith, raised-fits (c .args .u) (c .args .n) (c .args .k) (c .pre .0) (c .pre .2) (c .pre .3))
-
-div-result : tie.Need-div-result
-div-result c = search needs
 
 returns : tie.Need-returns
 returns c =
@@ -27,4 +18,4 @@ returns c =
 
 pub partial-energy-spec : {M : Type 1} → statement M
 partial-energy-spec =
-    tie.close (tie.spec mul-result sub-result mul-result-2 add-result div-result returns)
+    tie.close (tie.spec mul-result (λ c. search needs) (λ c. search needs) add-result (λ c. search needs) returns)

@@ -20,18 +20,6 @@ use Rattle.opening.proofs.fresh.Tie as tie
 returns : tie.Need-returns
 returns c = gives (fresh-short (c .before .args .t .now) (c .before .args .n) (c .if1 .taken))
 
-bias-requires : tie.Need-bias-requires
-bias-requires c κs = search needs
-
-bias-requires-2 : tie.Need-bias-requires-2
-bias-requires-2 c κs = search needs
-
-is-range-requires : tie.Need-is-range-requires
-is-range-requires c κs = search needs
-
-is-range-requires-2 : tie.Need-is-range-requires-2
-is-range-requires-2 c κs = search needs
-
 nondaily-is : (c : tie.After-bias) → c .bias .result ≡ biasOf (c .before .before .before .before .args .n .nondaily)
 nondaily-is c =
     let s = c .before in
@@ -66,9 +54,6 @@ empty-requires c κs =
     let b = small (c .before .before) (not-false _ (c .before .if2 .left)) in
     (r .if1 .left, omega (arith, b .0), omega (arith, b .1))
 
-same-length : tie.Need-same-length
-same-length c = search needs
-
 returns-3 : tie.Need-returns-3
 returns-3 c =
     let i = c .before .before .before .before in
@@ -89,11 +74,11 @@ fresh-spec =
     tie.close
     (tie.spec
     returns
-    bias-requires
-    bias-requires-2
-    is-range-requires
-    is-range-requires-2
+    (λ c κs. search needs)
+    (λ c κs. search needs)
+    (λ c κs. search needs)
+    (λ c κs. search needs)
     returns-2
     empty-requires
-    same-length
+    (λ c. search needs)
     returns-3)

@@ -5,21 +5,6 @@ use Rattle.opening.proofs.CallNumbers.{in-range-is}
 use Rattle.opening.proofs.in_range.Statement.{statement}
 use Rattle.opening.proofs.in_range.Tie as tie
 
-natural-requires : tie.Need-natural-requires
-natural-requires c κs = search needs
-
-natural-requires-2 : tie.Need-natural-requires-2
-natural-requires-2 c κs = search needs
-
-natural-requires-3 : tie.Need-natural-requires-3
-natural-requires-3 c κs = search needs
-
-natural-requires-4 : tie.Need-natural-requires-4
-natural-requires-4 c κs = search needs
-
-bias-requires : tie.Need-bias-requires
-bias-requires c κs = search needs
-
 returns : tie.Need-returns
 returns c =
     let s = c .before .before .before .before in
@@ -36,9 +21,9 @@ pub in-range-spec : {M : Type 1} → statement M
 in-range-spec =
     tie.close
     (tie.spec
-    natural-requires
-    natural-requires-2
-    natural-requires-3
-    natural-requires-4
-    bias-requires
+    (λ c κs. search needs)
+    (λ c κs. search needs)
+    (λ c κs. search needs)
+    (λ c κs. search needs)
+    (λ c κs. search needs)
     returns)

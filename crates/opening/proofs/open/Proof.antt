@@ -18,22 +18,10 @@ use Rattle.opening.proofs.OpenCall.{ranged, open-unsound, open-out, ope
 use Rattle.opening.proofs.open.Statement.{statement}
 use Rattle.opening.proofs.open.Tie as tie
 
-sound-requires : tie.Need-sound-requires
-sound-requires c κs = search needs
-
-same-length : tie.Need-same-length
-same-length c = search needs
-
 returns : tie.Need-returns
 returns c =
     let s = c .before .before .before .args in
     gives (open-unsound (s .t .now) (s .n) (sym (c .before .sound .ensures) ∙ not-true _ (c .if1 .taken)))
-
-in-range-requires : tie.Need-in-range-requires
-in-range-requires c κs = search needs
-
-same-length-2 : tie.Need-same-length-2
-same-length-2 c = search needs
 
 -- ---- what is known after each test
 
@@ -44,9 +32,6 @@ returns-2 : tie.Need-returns-2
 returns-2 c =
     let s = c .before .before .before .before .before .args in
     gives (open-out (s .t .now) (s .n) (is-sound (c .before)) (sym (c .before .in-range .ensures) ∙ not-true _ (c .if2 .taken)))
-
-natural-requires : tie.Need-natural-requires
-natural-requires c κs = search needs
 
 is-ranged : (c : tie.After-natural) → ranged (c .before .before .before .before .before .before .before .args .n) ≡ true
 is-ranged c = sym (c .before .before .before .in-range .ensures) ∙ not-false _ (c .before .before .if2 .left)
@@ -64,9 +49,6 @@ index-is c =
     c .index-of .ensures .0
     ∙ ap (λ k. maybe 32 (λ i. i) (indexOf standard (s .t .now) k)) (m .natural .ensures .0 ∙ natural-read (s .n .mirn) (sfits-of (m .before .struct-told .given .0 .1)))
 
-same-length-3 : tie.Need-same-length-3
-same-length-3 c = search needs
-
 returns-3 : tie.Need-returns-3
 returns-3 c =
     let m = c .before .before .before in
@@ -78,9 +60,6 @@ get-requires : tie.Need-get-requires
 get-requires c κs =
     let r = c .before .before .before .before .before .before .before in
     omega (arith, sound-long (r .before .before .before .before .args .t .now) (is-sound r))
-
-same-length-4 : tie.Need-same-length-4
-same-length-4 c = search needs
 
 returns-4 : tie.Need-returns-4
 returns-4 c =
@@ -100,9 +79,6 @@ append-point-requires c κs =
     let k = clear (s .t .now) (s .n) (is-sound r) (is-ranged m) _ (index-is i) (g .before .before .if3 .left) (omega (arith, g .get .ensures .0)) in
     (omega arith, sound-long (s .t .now) (is-sound r) .0, omega (arith, k .mirnHigh), omega (arith, k .kindOk), omega (arith, k .userHigh), omega (arith, k .installOk), omega (arith, facts-ok k .baseOk))
 
-same-length-5 : tie.Need-same-length-5
-same-length-5 c = search needs
-
 returns-5 : tie.Need-returns-5
 returns-5 c =
     let g = c .before .before .before .before in
@@ -117,19 +93,19 @@ pub open-spec : {M : Type 1} → statement M
 open-spec =
     tie.close
     (tie.spec
-    sound-requires
-    same-length
+    (λ c κs. search needs)
+    (λ c. search needs)
     returns
-    in-range-requires
-    same-length-2
+    (λ c κs. search needs)
+    (λ c. search needs)
     returns-2
-    natural-requires
+    (λ c κs. search needs)
     index-of-requires
-    same-length-3
+    (λ c. search needs)
     returns-3
     get-requires
-    same-length-4
+    (λ c. search needs)
     returns-4
     append-point-requires
-    same-length-5
+    (λ c. search needs)
     returns-5)

@@ -17,30 +17,6 @@ loop-holds : tie.Need-loop-holds Inv-loop μ-loop
 unfolding firstOn
 loop-holds c = let z : c .args .m - 0 ≡ c .args .m = omega arith in (omega arith, rw z)
 
-mul-i : tie.Need-mul-i Inv-loop μ-loop
-mul-i c = search needs
-
-add-i : tie.Need-add-i Inv-loop μ-loop
-add-i c = search needs
-
-get-requires : tie.Need-get-requires Inv-loop μ-loop
-get-requires c κs = search needs
-
-add-get-until : tie.Need-add-get-until Inv-loop μ-loop
-add-get-until c = search needs
-
-get-until-requires : tie.Need-get-until-requires Inv-loop μ-loop
-get-until-requires c κs = search needs
-
-past-span-requires : tie.Need-past-span-requires Inv-loop μ-loop
-past-span-requires c κs = search needs
-
-add-k : tie.Need-add-k Inv-loop μ-loop
-add-k c = search needs
-
-loop-less : tie.Need-loop-less Inv-loop μ-loop
-loop-less c = search needs
-
 loop-again : tie.Need-loop-again Inv-loop μ-loop
 loop-again c =
     let l = c .before .before .before .before .loop in
@@ -56,13 +32,13 @@ first-on-spec =
     Inv-loop
     μ-loop
     loop-holds
-    mul-i
-    add-i
-    get-requires
-    add-get-until
-    get-until-requires
-    past-span-requires
-    add-k
-    loop-less
+    (λ c. search needs)
+    (λ c. search needs)
+    (λ c κs. search needs)
+    (λ c. search needs)
+    (λ c κs. search needs)
+    (λ c κs. search needs)
+    (λ c. search needs)
+    (λ c. search needs)
     loop-again
     returns)

@@ -19,32 +19,11 @@ abbrev μ-loop : tie.MeasureT-loop
 loop-holds : tie.Need-loop-holds Inv-loop μ-loop
 loop-holds c = (omega arith, all-none _)
 
-mul-i : tie.Need-mul-i Inv-loop μ-loop
-mul-i c = search needs
-
-add-i : tie.Need-add-i Inv-loop μ-loop
-add-i c = search needs
-
-get-requires : tie.Need-get-requires Inv-loop μ-loop
-get-requires c κs = search needs
-
-add-get-until : tie.Need-add-get-until Inv-loop μ-loop
-add-get-until c = search needs
-
-get-until-requires : tie.Need-get-until-requires Inv-loop μ-loop
-get-until-requires c κs = search needs
-
 returns : tie.Need-returns Inv-loop μ-loop
 unfolding noOff
 returns c =
     let s = c .before .before .before .before .before .args in
     sym (all-fails _ (c .before .before .before .before .loop .k) _ (omega arith) (rw (c .before .get-until .ensures .0, c .before .before .get .ensures .0) at (not-true (apart (s .a) (s .b) (c .before .before .get .result) (c .before .get-until .result)) (c .if1 .taken))))
-
-add-k : tie.Need-add-k Inv-loop μ-loop
-add-k c = search needs
-
-loop-less : tie.Need-loop-less Inv-loop μ-loop
-loop-less c = search needs
 
 loop-again : tie.Need-loop-again Inv-loop μ-loop
 loop-again c =
@@ -62,13 +41,13 @@ no-off-spec =
     Inv-loop
     μ-loop
     loop-holds
-    mul-i
-    add-i
-    get-requires
-    add-get-until
-    get-until-requires
+    (λ c. search needs)
+    (λ c. search needs)
+    (λ c κs. search needs)
+    (λ c. search needs)
+    (λ c κs. search needs)
     returns
-    add-k
-    loop-less
+    (λ c. search needs)
+    (λ c. search needs)
     loop-again
     returns-2)

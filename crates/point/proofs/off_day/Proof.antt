@@ -3,15 +3,6 @@ use borrow.Author.Tests.{lt-ltb, le-ltb}
 use Rattle.point.proofs.off_day.Statement.{statement}
 use Rattle.point.proofs.off_day.Tie as tie
 
-mul-get : tie.Need-mul-get
-mul-get c = search needs
-
-add-get : tie.Need-add-get
-add-get c = search needs
-
-get-requires : tie.Need-get-requires
-get-requires c κs = search needs
-
 returns : tie.Need-returns
 returns c = rw (lt-ltb _ _ (c .before .if1 .taken)) (c .get .ensures .0)
 
@@ -19,4 +10,4 @@ returns-2 : tie.Need-returns-2
 returns-2 c = rw (le-ltb _ _ (c .if1 .left))
 
 pub off-day-spec : {M : Type 1} → statement M
-off-day-spec = tie.close (tie.spec mul-get add-get get-requires returns returns-2)
+off-day-spec = tie.close (tie.spec (λ c. search needs) (λ c. search needs) (λ c κs. search needs) returns returns-2)

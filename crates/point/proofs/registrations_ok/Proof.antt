@@ -18,12 +18,6 @@ Inv-loop p n install lo₀ latest₀ k₀ lo latest k = (k ≤ n) × (rows (regA
 abbrev μ-loop : tie.MeasureT-loop
 μ-loop p n install lo₀ latest₀ k₀ lo latest k = n - k
 
-get-requires : tie.Need-get-requires Inv-loop μ-loop
-get-requires c κs = search needs
-
-get-requires-2 : tie.Need-get-requires-2 Inv-loop μ-loop
-get-requires-2 c κs = search needs
-
 returns : tie.Need-returns Inv-loop μ-loop
 unfolding regsOk
 returns c =
@@ -34,21 +28,6 @@ unfolding regsOk
 loop-holds c =
     let z : c .before .before .before .args .n - 0 ≡ c .before .before .before .args .n = omega arith in
     (omega arith, rw (z, c .before .before .get .ensures .0, rw (c .before .get2 .ensures .0, c .before .before .get .ensures .0) at (eq-eqb (c .before .get2 .result) (c .before .before .get .result) (c .if1 .left))))
-
-mul-i : tie.Need-mul-i Inv-loop μ-loop
-mul-i c = search needs
-
-add-i : tie.Need-add-i Inv-loop μ-loop
-add-i c = search needs
-
-bits-at-requires : tie.Need-bits-at-requires Inv-loop μ-loop
-bits-at-requires c κs = search needs
-
-add-bits-at : tie.Need-add-bits-at Inv-loop μ-loop
-add-bits-at c = search needs
-
-bits-at-requires-2 : tie.Need-bits-at-requires-2 Inv-loop μ-loop
-bits-at-requires-2 c κs = search needs
 
 -- the row is tested as if by its numbers
 tested : (c : tie.After-bits-at2 Inv-loop μ-loop)
@@ -80,12 +59,6 @@ add-lo c =
     let l = c .before .before .before .before .loop in
     let h = small-start (l .latest) (l .lo) (c .before .before .bits-at .result) (c .before .bits-at2 .result) (passed c) in search needs
 
-add-k : tie.Need-add-k Inv-loop μ-loop
-add-k c = search needs
-
-loop-less : tie.Need-loop-less Inv-loop μ-loop
-loop-less c = search needs
-
 loop-again : tie.Need-loop-again Inv-loop μ-loop
 loop-again c =
     let l = c .before .before .before .before .loop in
@@ -101,18 +74,18 @@ registrations-ok-spec =
     (tie.spec
     Inv-loop
     μ-loop
-    get-requires
-    get-requires-2
+    (λ c κs. search needs)
+    (λ c κs. search needs)
     returns
     loop-holds
-    mul-i
-    add-i
-    bits-at-requires
-    add-bits-at
-    bits-at-requires-2
+    (λ c. search needs)
+    (λ c. search needs)
+    (λ c κs. search needs)
+    (λ c. search needs)
+    (λ c κs. search needs)
     returns-2
     add-lo
-    add-k
-    loop-less
+    (λ c. search needs)
+    (λ c. search needs)
     loop-again
     returns-3)

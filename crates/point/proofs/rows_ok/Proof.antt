@@ -6,34 +6,16 @@ use borrow.Author.Needs.{needs}
 use Rattle.point.proofs.rows_ok.Statement.{statement}
 use Rattle.point.proofs.rows_ok.Tie as tie
 
-get-requires : tie.Need-get-requires
-get-requires c κs = search needs
-
-get-requires-2 : tie.Need-get-requires-2
-get-requires-2 c κs = search needs
-
-get-requires-3 : tie.Need-get-requires-3
-get-requires-3 c κs = search needs
-
-spans-ok-requires : tie.Need-spans-ok-requires
-spans-ok-requires c κs = search needs
-
 returns : tie.Need-returns
 unfolding rowsOk
 returns c =
     let q = c .before in
     rw (rw (q .before .before .get2 .ensures .0) at (sym (q .spans-ok .ensures) ∙ not-true _ (c .if1 .taken)), and-false _)
 
-registrations-ok-requires : tie.Need-registrations-ok-requires
-registrations-ok-requires c κs = search needs
-
 records-ok-requires : tie.Need-records-ok-requires
 records-ok-requires c κs =
     let q = c .before .before in
     (search needs, search needs, search needs, sym (q .spans-ok .ensures) ∙ not-false _ (c .before .if1 .left))
-
-pending-ok-requires : tie.Need-pending-ok-requires
-pending-ok-requires c κs = search needs
 
 returns-2 : tie.Need-returns-2
 unfolding rowsOk
@@ -46,12 +28,12 @@ pub rows-ok-spec : {M : Type 1} → statement M
 rows-ok-spec =
     tie.close
     (tie.spec
-    get-requires
-    get-requires-2
-    get-requires-3
-    spans-ok-requires
+    (λ c κs. search needs)
+    (λ c κs. search needs)
+    (λ c κs. search needs)
+    (λ c κs. search needs)
     returns
-    registrations-ok-requires
+    (λ c κs. search needs)
     records-ok-requires
-    pending-ok-requires
+    (λ c κs. search needs)
     returns-2)

@@ -15,43 +15,16 @@ Inv-loop p n lo₀ k₀ lo k = (k ≤ n) × (rows (spanAt p) (spanLeaves p) lo k
 abbrev μ-loop : tie.MeasureT-loop
 μ-loop p n lo₀ k₀ lo k = n - k
 
-get-requires : tie.Need-get-requires Inv-loop μ-loop
-get-requires c κs = search needs
-
 loop-holds : tie.Need-loop-holds Inv-loop μ-loop
 unfolding spansOk
 loop-holds c =
     let z : c .before .args .n - 0 ≡ c .before .args .n = omega arith in
     (omega arith, rw (z, c .get .ensures .0))
 
-mul-i : tie.Need-mul-i Inv-loop μ-loop
-mul-i c = search needs
-
-add-i : tie.Need-add-i Inv-loop μ-loop
-add-i c = search needs
-
-get-requires-2 : tie.Need-get-requires-2 Inv-loop μ-loop
-get-requires-2 c κs = search needs
-
-add-get-until : tie.Need-add-get-until Inv-loop μ-loop
-add-get-until c = search needs
-
-get-until-requires : tie.Need-get-until-requires Inv-loop μ-loop
-get-until-requires c κs = search needs
-
 returns : tie.Need-returns Inv-loop μ-loop
 returns c =
     let l = c .before .before .before .before .loop in
     sym (rows-fail _ _ _ (l .k) _ (omega arith) (rw (c .before .get-until .ensures .0, c .before .before .get2 .ensures .0) at (not-true (spanOk (l .lo) (c .before .before .get2 .result) (c .before .get-until .result)) (c .if1 .taken)))) ∙ l .inv .1
-
-add-lo : tie.Need-add-lo Inv-loop μ-loop
-add-lo c = search needs
-
-add-k : tie.Need-add-k Inv-loop μ-loop
-add-k c = search needs
-
-loop-less : tie.Need-loop-less Inv-loop μ-loop
-loop-less c = search needs
 
 loop-again : tie.Need-loop-again Inv-loop μ-loop
 loop-again c =
@@ -68,16 +41,16 @@ spans-ok-spec =
     (tie.spec
     Inv-loop
     μ-loop
-    get-requires
+    (λ c κs. search needs)
     loop-holds
-    mul-i
-    add-i
-    get-requires-2
-    add-get-until
-    get-until-requires
+    (λ c. search needs)
+    (λ c. search needs)
+    (λ c κs. search needs)
+    (λ c. search needs)
+    (λ c κs. search needs)
     returns
-    add-lo
-    add-k
-    loop-less
+    (λ c. search needs)
+    (λ c. search needs)
+    (λ c. search needs)
     loop-again
     returns-2)

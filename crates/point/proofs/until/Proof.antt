@@ -12,9 +12,6 @@ use Rattle.point.proofs.until.Tie as tie
 returns : tie.Need-returns
 returns c = (until-open (c .before .args .x) (c .before .fits .x) (c .if1 .taken), omega arith)
 
-natural-requires : tie.Need-natural-requires
-natural-requires c κs = search needs
-
 returns-2 : tie.Need-returns-2
 returns-2 c =
     let e : c .before .natural .result ≡ natOf (c .before .before .before .args .x) = c .before .natural .ensures .0 ∙ natural-read _ (c .before .before .before .fits .x) in
@@ -26,4 +23,4 @@ returns-3 c =
     (until-none (c .before .before .before .args .x) (λ q. c .before .before .if1 .left (ap (ofZ w64) q)) (omega arith), omega arith)
 
 pub until-spec : {M : Type 1} → statement M
-until-spec = tie.close (tie.spec returns natural-requires returns-2 returns-3)
+until-spec = tie.close (tie.spec returns (λ c κs. search needs) returns-2 returns-3)

@@ -6,15 +6,6 @@ use borrow.Author.Needs.{needs}
 use Rattle.printing.proofs.put.Statement.{statement}
 use Rattle.printing.proofs.put.Tie as tie
 
-decimal-requires : tie.Need-decimal-requires
-decimal-requires c κs = search needs
-
-array-share-prefix-text : tie.Need-array-share-prefix-text
-array-share-prefix-text c = search needs
-
-slice-aggregate-copy : tie.Need-slice-aggregate-copy
-slice-aggregate-copy c = search needs
-
 copy-requires : tie.Need-copy-requires
 copy-requires c κs =
     let k = twenty (c .before .before .before .before .before .args .n) (c .before .before .decimal .result) (search needs) (c .before .before .decimal .ensures .1 .0) in
@@ -35,9 +26,6 @@ add-result c =
     let k = twenty (c .before .before .before .before .before .before .before .before .args .n) (c .before .before .before .before .before .decimal .result) (search needs) (c .before .before .before .before .before .decimal .ensures .1 .0) in
     omega arith
 
-same-length : tie.Need-same-length
-same-length c = search needs
-
 returns : tie.Need-returns
 returns c =
     let s = c .before .before .before .before .before .before .before .before in
@@ -50,12 +38,12 @@ pub put-spec : {M : Type 1} → statement M
 put-spec =
     tie.close
     (tie.spec
-    decimal-requires
-    array-share-prefix-text
-    slice-aggregate-copy
+    (λ c κs. search needs)
+    (λ c. search needs)
+    (λ c. search needs)
     copy-requires
     add-end
     slice-write-out
     add-result
-    same-length
+    (λ c. search needs)
     returns)

@@ -17,42 +17,12 @@ Inv-loop out₀ at xs end₀ i₀ out end i =
 abbrev μ-loop : tie.MeasureT-loop
 μ-loop out₀ at xs end₀ i₀ out end i = length xs - i
 
-loop-holds : tie.Need-loop-holds Inv-loop μ-loop
-loop-holds c = search needs
-
-sub-separator : tie.Need-sub-separator Inv-loop μ-loop
-sub-separator c = search needs
-
-sub-separator-2 : tie.Need-sub-separator-2 Inv-loop μ-loop
-sub-separator-2 c = search needs
-
-separator-requires : tie.Need-separator-requires Inv-loop μ-loop
-separator-requires c κs = search needs
-
-mul-put : tie.Need-mul-put Inv-loop μ-loop
-mul-put c = search needs
-
-shared-slice-read-put : tie.Need-shared-slice-read-put Inv-loop μ-loop
-shared-slice-read-put c = search needs
-
-put-requires : tie.Need-put-requires Inv-loop μ-loop
-put-requires c κs = search needs
-
-add-i : tie.Need-add-i Inv-loop μ-loop
-add-i c = search needs
-
-loop-less : tie.Need-loop-less Inv-loop μ-loop
-loop-less c = search needs
-
 loop-again : tie.Need-loop-again Inv-loop μ-loop
 loop-again c =
     let s = c .before .before .before .before .before .before .before .before .before .before in
     let l = c .before .before .before .before .before .before .before .loop in
     let p = c .before .before .put in
     (search needs, omega (arith, p .ensures .1 .from), search needs, search needs, natural-more (s .args .xs .now) (l .i) (take (l .end) (l .out)) _ (c .before .before .before .before .before .separator .result) (omega arith) (c .before .before .before .before .before .separator .ensures) (p .ensures .1 .written) ∙ l .inv .4)
-
-same-length : tie.Need-same-length Inv-loop μ-loop
-same-length c = search needs
 
 returns : tie.Need-returns Inv-loop μ-loop
 returns c =
@@ -66,15 +36,15 @@ row-spec =
     (tie.spec
     Inv-loop
     μ-loop
-    loop-holds
-    sub-separator
-    sub-separator-2
-    separator-requires
-    mul-put
-    shared-slice-read-put
-    put-requires
-    add-i
-    loop-less
+    (λ c. search needs)
+    (λ c. search needs)
+    (λ c. search needs)
+    (λ c κs. search needs)
+    (λ c. search needs)
+    (λ c. search needs)
+    (λ c κs. search needs)
+    (λ c. search needs)
+    (λ c. search needs)
     loop-again
-    same-length
+    (λ c. search needs)
     returns)

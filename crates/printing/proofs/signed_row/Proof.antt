@@ -19,42 +19,12 @@ Inv-loop out₀ at xs end₀ i₀ out end i =
 abbrev μ-loop : tie.MeasureT-loop
 μ-loop out₀ at xs end₀ i₀ out end i = length xs - i
 
-loop-holds : tie.Need-loop-holds Inv-loop μ-loop
-loop-holds c = search needs
-
-sub-separator : tie.Need-sub-separator Inv-loop μ-loop
-sub-separator c = search needs
-
-sub-separator-2 : tie.Need-sub-separator-2 Inv-loop μ-loop
-sub-separator-2 c = search needs
-
-separator-requires : tie.Need-separator-requires Inv-loop μ-loop
-separator-requires c κs = search needs
-
-mul-put-signed : tie.Need-mul-put-signed Inv-loop μ-loop
-mul-put-signed c = search needs
-
-shared-slice-copy-out-put-signed : tie.Need-shared-slice-copy-out-put-signed Inv-loop μ-loop
-shared-slice-copy-out-put-signed c = search needs
-
-put-signed-requires : tie.Need-put-signed-requires Inv-loop μ-loop
-put-signed-requires c κs = search needs
-
-add-i : tie.Need-add-i Inv-loop μ-loop
-add-i c = search needs
-
-loop-less : tie.Need-loop-less Inv-loop μ-loop
-loop-less c = search needs
-
 loop-again : tie.Need-loop-again Inv-loop μ-loop
 loop-again c =
     let s = c .before .before .before .before .before .before .before .before .before in
     let l = c .before .before .before .before .before .before .before .loop in
     let p = c .before .before .put-signed in
     (search needs, omega (arith, p .ensures .1 .from), search needs, search needs, row-more (s .args .xs .now) (l .i) (take (l .end) (l .out)) _ (c .before .before .before .before .before .separator .result) (omega arith) (c .before .before .before .before .before .separator .ensures) (rw (toZ-ofZ w64 (getD (s .args .xs .now) (l .i) (pos 0)) (sfits-of (c .before .before .before .put-signed-arg2 .given))) at (p .ensures .1 .written)) ∙ l .inv .4)
-
-same-length : tie.Need-same-length Inv-loop μ-loop
-same-length c = search needs
 
 returns : tie.Need-returns Inv-loop μ-loop
 returns c =
@@ -68,15 +38,15 @@ signed-row-spec =
     (tie.spec
     Inv-loop
     μ-loop
-    loop-holds
-    sub-separator
-    sub-separator-2
-    separator-requires
-    mul-put-signed
-    shared-slice-copy-out-put-signed
-    put-signed-requires
-    add-i
-    loop-less
+    (λ c. search needs)
+    (λ c. search needs)
+    (λ c. search needs)
+    (λ c κs. search needs)
+    (λ c. search needs)
+    (λ c. search needs)
+    (λ c κs. search needs)
+    (λ c. search needs)
+    (λ c. search needs)
     loop-again
-    same-length
+    (λ c. search needs)
     returns)

@@ -16,33 +16,6 @@ returns : tie.Need-returns
 unfolding accountLine
 returns c = nothing _ _ _ (rw (ne-eqb _ _ (c .if1 .taken)))
 
-to-account-requires : tie.Need-to-account-requires
-to-account-requires c κs = search needs
-
-account-requires : tie.Need-account-requires
-account-requires c κs = search needs
-
-enum-known-sum : tie.Need-enum-known-sum
-enum-known-sum c = search needs
-
-slice-aggregate-signed-row : tie.Need-slice-aggregate-signed-row
-slice-aggregate-signed-row c = search needs
-
-signed-row-requires : tie.Need-signed-row-requires
-signed-row-requires c κs = search needs
-
-enum-known-r : tie.Need-enum-known-r
-enum-known-r c = search needs
-
-slice-aggregate-row : tie.Need-slice-aggregate-row
-slice-aggregate-row c = search needs
-
-row-requires : tie.Need-row-requires
-row-requires c κs = search needs
-
-same-length : tie.Need-same-length
-same-length c = search needs
-
 returns-2 : tie.Need-returns-2
 unfolding accountLine
 returns-2 c =
@@ -51,9 +24,6 @@ returns-2 c =
     let x = c .before .before .before .before .before .before .sum .given .0 .0 in
     let back : toZ w64 (ofZ w64 x) ≡ x = search needs in
     called (λ (n : AccountQuery). (accountCall (s .args .t .now) n, s .args .t .now)) 3 (s .args .nums .now) _ (c .before .before .before .before .before .before .before .before .before .before .if1 .left) (c .before .before .before .before .before .before .before .before .before .to-account .ensures) refl (sym (ap accountNumbers (c .before .before .before .before .before .before .sum .given .1)) ∙ c .before .before .before .before .before .before .before .before .account .ensures) (omega (arith, p .ensures .0)) (rw back at (p .ensures .1))
-
-same-length-2 : tie.Need-same-length-2
-same-length-2 c = search needs
 
 returns-3 : tie.Need-returns-3
 unfolding accountLine
@@ -67,15 +37,15 @@ account-spec =
     tie.close
     (tie.spec
     returns
-    to-account-requires
-    account-requires
-    enum-known-sum
-    slice-aggregate-signed-row
-    signed-row-requires
-    enum-known-r
-    slice-aggregate-row
-    row-requires
-    same-length
+    (λ c κs. search needs)
+    (λ c κs. search needs)
+    (λ c. search needs)
+    (λ c. search needs)
+    (λ c κs. search needs)
+    (λ c. search needs)
+    (λ c. search needs)
+    (λ c κs. search needs)
+    (λ c. search needs)
     returns-2
-    same-length-2
+    (λ c. search needs)
     returns-3)

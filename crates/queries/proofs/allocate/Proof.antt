@@ -14,18 +14,6 @@ returns : tie.Need-returns
 unfolding allocateLine
 returns c = nothing _ _ _ (rw (ne-eqb _ _ (c .if1 .taken)))
 
-to-allocation-requires : tie.Need-to-allocation-requires
-to-allocation-requires c κs = search needs
-
-slice-aggregate-print-allocation : tie.Need-slice-aggregate-print-allocation
-slice-aggregate-print-allocation c = search needs
-
-print-allocation-requires : tie.Need-print-allocation-requires
-print-allocation-requires c κs = search needs
-
-same-length : tie.Need-same-length
-same-length c = search needs
-
 returns-2 : tie.Need-returns-2
 unfolding allocateLine
 returns-2 c =
@@ -36,10 +24,4 @@ returns-2 c =
 pub allocate-spec : {M : Type 1} → statement M
 allocate-spec =
     tie.close
-    (tie.spec
-    returns
-    to-allocation-requires
-    slice-aggregate-print-allocation
-    print-allocation-requires
-    same-length
-    returns-2)
+    (tie.spec returns (λ c κs. search needs) (λ c. search needs) (λ c κs. search needs) (λ c. search needs) returns-2)

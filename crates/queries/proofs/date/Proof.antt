@@ -13,42 +13,12 @@ returns : tie.Need-returns
 unfolding dateLine
 returns c = nothing _ _ _ (rw (ne-eqb _ _ (c .if1 .taken)))
 
-to-date-requires : tie.Need-to-date-requires
-to-date-requires c κs = search needs
-
-date-requires : tie.Need-date-requires
-date-requires c κs = search needs
-
-enum-known-day : tie.Need-enum-known-day
-enum-known-day c = search needs
-
-slice-aggregate-row : tie.Need-slice-aggregate-row
-slice-aggregate-row c = search needs
-
-row-requires : tie.Need-row-requires
-row-requires c κs = search needs
-
-enum-known-r : tie.Need-enum-known-r
-enum-known-r c = search needs
-
-slice-aggregate-row-2 : tie.Need-slice-aggregate-row-2
-slice-aggregate-row-2 c = search needs
-
-row-requires-2 : tie.Need-row-requires-2
-row-requires-2 c κs = search needs
-
-same-length : tie.Need-same-length
-same-length c = search needs
-
 returns-2 : tie.Need-returns-2
 unfolding dateLine
 returns-2 c =
     let s = c .before .before .before .before .before .before .before .before .before .before .before .before in
     let p = c .before .before .row in
     called (λ (d : YearMonthDay). (dateCall (d .year) (d .month) (d .day), s .args .t .now)) 3 (s .args .nums .now) _ (c .before .before .before .before .before .before .before .before .before .before .if1 .left) (c .before .before .before .before .before .before .before .before .before .to-date .ensures) refl (sym (ap dateNumbers (c .before .before .before .before .before .before .day .given .1)) ∙ c .before .before .before .before .before .before .before .before .date .ensures) (omega (arith, p .ensures .0)) (p .ensures .1)
-
-same-length-2 : tie.Need-same-length-2
-same-length-2 c = search needs
 
 returns-3 : tie.Need-returns-3
 unfolding dateLine
@@ -62,15 +32,15 @@ date-spec =
     tie.close
     (tie.spec
     returns
-    to-date-requires
-    date-requires
-    enum-known-day
-    slice-aggregate-row
-    row-requires
-    enum-known-r
-    slice-aggregate-row-2
-    row-requires-2
-    same-length
+    (λ c κs. search needs)
+    (λ c κs. search needs)
+    (λ c. search needs)
+    (λ c. search needs)
+    (λ c κs. search needs)
+    (λ c. search needs)
+    (λ c. search needs)
+    (λ c κs. search needs)
+    (λ c. search needs)
     returns-2
-    same-length-2
+    (λ c. search needs)
     returns-3)

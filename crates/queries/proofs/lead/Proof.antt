@@ -9,15 +9,6 @@ use borrow.Author.Needs.{needs}
 use Rattle.queries.proofs.lead.Statement.{statement}
 use Rattle.queries.proofs.lead.Tie as tie
 
-put-requires : tie.Need-put-requires
-put-requires c κs = search needs
-
-slice-set-from-nsl : tie.Need-slice-set-from-nsl
-slice-set-from-nsl c = search needs
-
-slice-aggregate-copy : tie.Need-slice-aggregate-copy
-slice-aggregate-copy c = search needs
-
 copy-requires : tie.Need-copy-requires
 copy-requires c κs =
     let sixteen : length (c .before .before .before .before .before .before .before .args .a .totals) ≡ 16 = search needs in
@@ -36,10 +27,4 @@ returns c =
 pub lead-spec : {M : Type 1} → statement M
 lead-spec =
     tie.close
-    (tie.spec
-    put-requires
-    slice-set-from-nsl
-    slice-aggregate-copy
-    copy-requires
-    same-length
-    returns)
+    (tie.spec (λ c κs. search needs) (λ c. search needs) (λ c. search needs) copy-requires same-length returns)

@@ -15,24 +15,6 @@ returns : tie.Need-returns
 unfolding lookLine
 returns c = nothing _ _ _ (rw (ne-eqb _ _ (c .if1 .taken)))
 
-shared-slice-copy-out-look-up : tie.Need-shared-slice-copy-out-look-up
-shared-slice-copy-out-look-up c = search needs
-
-look-up-requires : tie.Need-look-up-requires
-look-up-requires c κs = search needs
-
-sums-requires : tie.Need-sums-requires
-sums-requires c κs = search needs
-
-slice-aggregate-row : tie.Need-slice-aggregate-row
-slice-aggregate-row c = search needs
-
-row-requires : tie.Need-row-requires
-row-requires c κs = search needs
-
-same-length : tie.Need-same-length
-same-length c = search needs
-
 returns-2 : tie.Need-returns-2
 returns-2 c =
     let s = c .before .before .before .before .before .before .before .before .before .before in
@@ -46,10 +28,10 @@ look-spec =
     tie.close
     (tie.spec
     returns
-    shared-slice-copy-out-look-up
-    look-up-requires
-    sums-requires
-    slice-aggregate-row
-    row-requires
-    same-length
+    (λ c. search needs)
+    (λ c κs. search needs)
+    (λ c κs. search needs)
+    (λ c. search needs)
+    (λ c κs. search needs)
+    (λ c. search needs)
     returns-2)

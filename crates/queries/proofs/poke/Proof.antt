@@ -9,26 +9,8 @@ use Rattle.queries.proofs.poke.Tie as tie
 returns : tie.Need-returns
 returns c = nothing _ _ _ (poke-miscounted _ _ (c .if1 .taken))
 
-get-requires : tie.Need-get-requires
-get-requires c κs = search needs
-
 returns-2 : tie.Need-returns-2
 returns-2 c = nothing _ _ _ (poke-outside _ _ (c .before .get .result) (c .before .before .if1 .left) (c .before .get .ensures .0) (c .if2 .taken))
-
-put-requires : tie.Need-put-requires
-put-requires c κs = search needs
-
-slice-aggregate-row : tie.Need-slice-aggregate-row
-slice-aggregate-row c = search needs
-
-row-requires : tie.Need-row-requires
-row-requires c κs = search needs
-
-same-length : tie.Need-same-length
-same-length c = search needs
-
-same-length-2 : tie.Need-same-length-2
-same-length-2 c = search needs
 
 returns-3 : tie.Need-returns-3
 returns-3 c =
@@ -40,11 +22,11 @@ poke-spec =
     tie.close
     (tie.spec
     returns
-    get-requires
+    (λ c κs. search needs)
     returns-2
-    put-requires
-    slice-aggregate-row
-    row-requires
-    same-length
-    same-length-2
+    (λ c κs. search needs)
+    (λ c. search needs)
+    (λ c κs. search needs)
+    (λ c. search needs)
+    (λ c. search needs)
     returns-3)

@@ -12,39 +12,6 @@ returns : tie.Need-returns
 unfolding tableLine
 returns c = nothing _ _ _ (rw (ne-eqb _ _ (c .if1 .taken)))
 
-sub-sums : tie.Need-sub-sums
-sub-sums c = search needs
-
-part-sums-start : tie.Need-part-sums-start
-part-sums-start c = search needs
-
-part-sums-end : tie.Need-part-sums-end
-part-sums-end c = search needs
-
-sums-requires : tie.Need-sums-requires
-sums-requires c κs = search needs
-
-sub-sums-2 : tie.Need-sub-sums-2
-sub-sums-2 c = search needs
-
-part-sums-start-2 : tie.Need-part-sums-start-2
-part-sums-start-2 c = search needs
-
-part-sums-end-2 : tie.Need-part-sums-end-2
-part-sums-end-2 c = search needs
-
-sums-requires-2 : tie.Need-sums-requires-2
-sums-requires-2 c κs = search needs
-
-slice-aggregate-row : tie.Need-slice-aggregate-row
-slice-aggregate-row c = search needs
-
-row-requires : tie.Need-row-requires
-row-requires c κs = search needs
-
-same-length : tie.Need-same-length
-same-length c = search needs
-
 returns-2 : tie.Need-returns-2
 returns-2 c =
     let s = c .before .before .before .before .before .before .before .before .before .before .before in
@@ -58,15 +25,15 @@ table-spec =
     tie.close
     (tie.spec
     returns
-    sub-sums
-    part-sums-start
-    part-sums-end
-    sums-requires
-    sub-sums-2
-    part-sums-start-2
-    part-sums-end-2
-    sums-requires-2
-    slice-aggregate-row
-    row-requires
-    same-length
+    (λ c. search needs)
+    (λ c. search needs)
+    (λ c. search needs)
+    (λ c κs. search needs)
+    (λ c. search needs)
+    (λ c. search needs)
+    (λ c. search needs)
+    (λ c κs. search needs)
+    (λ c. search needs)
+    (λ c κs. search needs)
+    (λ c. search needs)
     returns-2)

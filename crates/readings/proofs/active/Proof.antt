@@ -6,16 +6,10 @@ use borrow.Author.Needs.{needs}
 use Rattle.readings.proofs.active.Statement.{statement}
 use Rattle.readings.proofs.active.Tie as tie
 
-get-requires : tie.Need-get-requires
-get-requires c κs = search needs
-
-off-on-requires : tie.Need-off-on-requires
-off-on-requires c κs = search needs
-
 returns : tie.Need-returns
 returns c =
     let s = c .before .before in
     ap₂ (λ n off. leb n (s .args .g) && not off) (c .before .get .ensures .0) (c .off-on .ensures) ∙ active-is (s .args .p .now) (s .args .g)
 
 pub active-spec : {M : Type 1} → statement M
-active-spec = tie.close (tie.spec get-requires off-on-requires returns)
+active-spec = tie.close (tie.spec (λ c κs. search needs) (λ c κs. search needs) returns)

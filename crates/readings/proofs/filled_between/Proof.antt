@@ -19,23 +19,11 @@ Inv-loop p x y n sum₀ k₀ sum k =
 abbrev μ-loop : tie.MeasureT-loop
 μ-loop p x y n sum₀ k₀ sum k = n - k
 
-get-requires : tie.Need-get-requires Inv-loop μ-loop
-get-requires c κs = search needs
-
 loop-holds : tie.Need-loop-holds Inv-loop μ-loop
 loop-holds c = (omega arith, omega arith, sum-none _ 0)
 
-record-days-requires : tie.Need-record-days-requires Inv-loop μ-loop
-record-days-requires c κs = search needs
-
 add-sum : tie.Need-add-sum Inv-loop μ-loop
 add-sum c = let h = part-counted (c .before .before .before .before .pre .0) in search needs
-
-add-k : tie.Need-add-k Inv-loop μ-loop
-add-k c = search needs
-
-loop-less : tie.Need-loop-less Inv-loop μ-loop
-loop-less c = search needs
 
 loop-again : tie.Need-loop-again Inv-loop μ-loop
 loop-again c =
@@ -58,11 +46,11 @@ filled-between-spec =
     (tie.spec
     Inv-loop
     μ-loop
-    get-requires
+    (λ c κs. search needs)
     loop-holds
-    record-days-requires
+    (λ c κs. search needs)
     add-sum
-    add-k
-    loop-less
+    (λ c. search needs)
+    (λ c. search needs)
     loop-again
     returns)

@@ -13,20 +13,11 @@ Inv-loop p g n user₀ j₀ user j = (j ≤ n) × (userLeft p g n j user ≡ use
 abbrev μ-loop : tie.MeasureT-loop
 μ-loop p g n user₀ j₀ user j = n - j
 
-get-requires : tie.Need-get-requires Inv-loop μ-loop
-get-requires c κs = search needs
-
 loop-holds : tie.Need-loop-holds Inv-loop μ-loop
 loop-holds c = (omega arith, refl)
 
 user-since-requires : tie.Need-user-since-requires Inv-loop μ-loop
 user-since-requires c κs = let h = part-counted (c .before .before .before .pre) in search needs
-
-add-j : tie.Need-add-j Inv-loop μ-loop
-add-j c = search needs
-
-loop-less : tie.Need-loop-less Inv-loop μ-loop
-loop-less c = search needs
 
 loop-again : tie.Need-loop-again Inv-loop μ-loop
 loop-again c =
@@ -47,10 +38,10 @@ fro-on-spec =
     (tie.spec
     Inv-loop
     μ-loop
-    get-requires
+    (λ c κs. search needs)
     loop-holds
     user-since-requires
-    add-j
-    loop-less
+    (λ c. search needs)
+    (λ c. search needs)
     loop-again
     returns)

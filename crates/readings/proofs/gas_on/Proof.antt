@@ -20,19 +20,10 @@ week c = sym (c .before .week-filled .ensures) ∙ c .if2 .taken
 not-week : (c : tie.Else2) → Week (point (c .before .before .before .before)) (c .before .before .before .before .args .g) false
 not-week c = sym (c .before .week-filled .ensures) ∙ c .if2 .left
 
-filled-on-requires : tie.Need-filled-on-requires
-filled-on-requires c κs = search needs
-
-share-on-requires : tie.Need-share-on-requires
-share-on-requires c κs = search needs
-
 returns : tie.Need-returns
 returns c =
     let s = c .before .before .before in
     (c .share-on .ensures .0 ∙ gas-day (point s) (s .args .g) (sym (c .before .before .filled-on .ensures) ∙ c .before .if1 .taken), c .share-on .ensures .1)
-
-week-filled-requires : tie.Need-week-filled-requires
-week-filled-requires c κs = search needs
 
 sub-share-on : tie.Need-sub-share-on
 sub-share-on c =
@@ -40,26 +31,11 @@ sub-share-on c =
     let l = week-long (point s) (s .args .g) (week c) in
     search needs
 
-share-on-requires-2 : tie.Need-share-on-requires-2
-share-on-requires-2 c κs = search needs
-
 returns-2 : tie.Need-returns-2
 returns-2 c =
     let f = c .before .before .before in
     let s = f .before .before in
     (c .share-on2 .ensures .0 ∙ gas-week (point s) (s .args .g) (not-day f) (week (c .before)), c .share-on2 .ensures .1)
-
-sub-filled-on : tie.Need-sub-filled-on
-sub-filled-on c = search needs
-
-filled-on-requires-2 : tie.Need-filled-on-requires-2
-filled-on-requires-2 c κs = search needs
-
-sub-share-on-2 : tie.Need-sub-share-on-2
-sub-share-on-2 c = search needs
-
-share-on-requires-3 : tie.Need-share-on-requires-3
-share-on-requires-3 c κs = search needs
 
 returns-3 : tie.Need-returns-3
 returns-3 c =
@@ -82,16 +58,16 @@ pub gas-on-spec : {M : Type 1} → statement M
 gas-on-spec =
     tie.close
     (tie.spec
-    filled-on-requires
-    share-on-requires
+    (λ c κs. search needs)
+    (λ c κs. search needs)
     returns
-    week-filled-requires
+    (λ c κs. search needs)
     sub-share-on
-    share-on-requires-2
+    (λ c κs. search needs)
     returns-2
-    sub-filled-on
-    filled-on-requires-2
-    sub-share-on-2
-    share-on-requires-3
+    (λ c. search needs)
+    (λ c κs. search needs)
+    (λ c. search needs)
+    (λ c κs. search needs)
     returns-3
     returns-4)

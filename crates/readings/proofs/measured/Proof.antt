@@ -5,12 +5,6 @@ use borrow.Author.Needs.{needs}
 use Rattle.readings.proofs.measured.Statement.{statement}
 use Rattle.readings.proofs.measured.Tie as tie
 
-add-energy-between : tie.Need-add-energy-between
-add-energy-between c = search needs
-
-energy-between-requires : tie.Need-energy-between-requires
-energy-between-requires c κs = search needs
-
 returns : tie.Need-returns
 returns c =
     let e = c .before .energy-between in
@@ -22,4 +16,4 @@ returns-2 c =
     (sym (measured-is _ (c .before .before .args .a) (c .before .before .args .b) (e .result) (e .ensures .0)), omega arith)
 
 pub measured-spec : {M : Type 1} → statement M
-measured-spec = tie.close (tie.spec add-energy-between energy-between-requires returns returns-2)
+measured-spec = tie.close (tie.spec (λ c. search needs) (λ c κs. search needs) returns returns-2)

@@ -19,15 +19,6 @@ test-is : (c : tie.After-get)
     (c .before .active .result && eqb (c .get .result) 1) ≡ (active (s .args .g) (point s) && eqb (point s .facts .kind) 1)
 test-is c = ap₂ (λ a k. a && eqb k 1) (c .before .active .ensures) (c .get .ensures .0 ∙ kind-is (c .before .before .args .p .now))
 
-active-requires : tie.Need-active-requires
-active-requires c κs = search needs
-
-get-requires : tie.Need-get-requires
-get-requires c κs = search needs
-
-gas-on-requires : tie.Need-gas-on-requires
-gas-on-requires c κs = search needs
-
 returns : tie.Need-returns
 returns c =
     let t = c .before .before in
@@ -39,4 +30,5 @@ returns-2 c =
     (metered-none (point (t .before .before)) (t .before .before .args .g) (sym (test-is t) ∙ c .if1 .left), search needs)
 
 pub metered-spec : {M : Type 1} → statement M
-metered-spec = tie.close (tie.spec active-requires get-requires gas-on-requires returns returns-2)
+metered-spec =
+    tie.close (tie.spec (λ c κs. search needs) (λ c κs. search needs) (λ c κs. search needs) returns returns-2)

@@ -7,9 +7,6 @@ use borrow.Author.Needs.{needs}
 use Rattle.readings.proofs.off_on.Statement.{statement}
 use Rattle.readings.proofs.off_on.Tie as tie
 
-get-requires : tie.Need-get-requires
-get-requires c κs = search needs
-
 no-off-requires : tie.Need-no-off-requires
 no-off-requires c κs = let h = part-counted (c .before .pre .0) in search needs
 
@@ -20,4 +17,4 @@ returns c =
     ∙ off-is (s .pre .0) (s .args .g) (s .pre .1)
 
 pub off-on-spec : {M : Type 1} → statement M
-off-on-spec = tie.close (tie.spec get-requires no-off-requires returns)
+off-on-spec = tie.close (tie.spec (λ c κs. search needs) no-off-requires returns)

@@ -88,17 +88,11 @@ add-n c =
     let g = c .before .before .before .before in
     let h = row (g .before .before) in let e = ends g in search needs
 
-sub-n : tie.Need-sub-n
-sub-n c = search needs
-
 partial-energy-requires : tie.Need-partial-energy-requires
 unfolding recordOf
 partial-energy-requires c κs =
     let g = c .before .before .before .before in
     let h = row (g .before .before) in omega (arith, starts (g .before), ends g)
-
-add-result : tie.Need-add-result
-add-result c = search needs
 
 partial-energy-requires-2 : tie.Need-partial-energy-requires-2
 unfolding recordOf
@@ -148,9 +142,9 @@ record-energy-spec =
     add-get-energy
     get-energy-requires
     add-n
-    sub-n
+    (λ c. search needs)
     partial-energy-requires
-    add-result
+    (λ c. search needs)
     partial-energy-requires-2
     sub-result
     returns-2)

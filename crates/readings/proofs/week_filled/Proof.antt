@@ -9,11 +9,8 @@ use Rattle.readings.proofs.week_filled.Tie as tie
 returns : tie.Need-returns
 returns c = no-week (pointAt (c .before .args .p .now)) (c .before .args .g) (c .if1 .taken)
 
-filled-between-requires : tie.Need-filled-between-requires
-filled-between-requires c κs = search needs
-
 returns-2 : tie.Need-returns-2
 returns-2 c = ap (λ n. eqb n 7) (c .filled-between .ensures) ∙ week-is (pointAt (c .before .before .args .p .now)) (c .before .before .args .g) (c .before .if1 .left)
 
 pub week-filled-spec : {M : Type 1} → statement M
-week-filled-spec = tie.close (tie.spec returns filled-between-requires returns-2)
+week-filled-spec = tie.close (tie.spec returns (λ c κs. search needs) returns-2)

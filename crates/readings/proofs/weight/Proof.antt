@@ -22,20 +22,11 @@ test-is : (c : tie.After-get)
     (c .before .active .result && eqb (c .get .result) 0) ≡ (active (s .args .g) (point s) && eqb (point s .facts .kind) 0)
 test-is c = ap₂ (λ a k. a && eqb k 0) (c .before .active .ensures) (c .get .ensures .0 ∙ kind-is (c .before .before .args .p .now))
 
-active-requires : tie.Need-active-requires
-active-requires c κs = search needs
-
-get-requires : tie.Need-get-requires
-get-requires c κs = search needs
-
 returns : tie.Need-returns
 returns c =
     let t = c .before in
     let s = t .before .before in
     (weight-none (point s) (s .args .g) (s .args .a) (s .args .b) (sym (test-is t) ∙ not-true _ (c .if1 .taken)), search needs)
-
-measured-requires : tie.Need-measured-requires
-measured-requires c κs = search needs
 
 returns-2 : tie.Need-returns-2
 returns-2 c =
@@ -48,15 +39,6 @@ returns-2 c =
           (λ z. c .if2 .taken (m .measured .ensures .0 ∙ z)),
       omega arith,
     )
-
-add-filled-between : tie.Need-add-filled-between
-add-filled-between c = search needs
-
-filled-between-requires : tie.Need-filled-between-requires
-filled-between-requires c κs = search needs
-
-get-requires-2 : tie.Need-get-requires-2
-get-requires-2 c κs = search needs
 
 returns-3 : tie.Need-returns-3
 returns-3 c =
@@ -84,13 +66,13 @@ pub weight-spec : {M : Type 1} → statement M
 weight-spec =
     tie.close
     (tie.spec
-    active-requires
-    get-requires
+    (λ c κs. search needs)
+    (λ c κs. search needs)
     returns
-    measured-requires
+    (λ c κs. search needs)
     returns-2
-    add-filled-between
-    filled-between-requires
-    get-requires-2
+    (λ c. search needs)
+    (λ c κs. search needs)
+    (λ c κs. search needs)
     returns-3
     returns-4)

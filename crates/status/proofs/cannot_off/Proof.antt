@@ -4,20 +4,11 @@ use borrow.Author.Needs.{needs}
 use Rattle.status.proofs.cannot_off.Statement.{statement}
 use Rattle.status.proofs.cannot_off.Tie as tie
 
-get-requires : tie.Need-get-requires
-get-requires c κs = search needs
-
 returns : tie.Need-returns
 returns c =
     let s = c .before .before in
     let l = part-lays (s .args .p .now) 48 (s .pre .1) (s .pre .0) in
     off-unswitched (l .0) (l .1) (s .args .day) _ (c .before .get .ensures .0) (c .if1 .taken)
-
-sub-get-until : tie.Need-sub-get-until
-sub-get-until c = search needs
-
-mul-get-until : tie.Need-mul-get-until
-mul-get-until c = search needs
 
 add-get-until : tie.Need-add-get-until
 add-get-until c =
@@ -50,10 +41,10 @@ pub cannot-off-spec : {M : Type 1} → statement M
 cannot-off-spec =
     tie.close
     (tie.spec
-    get-requires
+    (λ c κs. search needs)
     returns
-    sub-get-until
-    mul-get-until
+    (λ c. search needs)
+    (λ c. search needs)
     add-get-until
     add-get-until-2
     get-until-requires

@@ -4,20 +4,11 @@ use borrow.Author.Needs.{needs}
 use Rattle.status.proofs.cannot_on.Statement.{statement}
 use Rattle.status.proofs.cannot_on.Tie as tie
 
-get-requires : tie.Need-get-requires
-get-requires c κs = search needs
-
 returns : tie.Need-returns
 returns c =
     let s = c .before .before in
     let l = part-lays (s .args .p .now) 48 (s .pre .1) (s .pre .0) in
     on-unswitched (l .0) (l .1) (s .args .day) _ (c .before .get .ensures .0) (c .if1 .taken)
-
-sub-at : tie.Need-sub-at
-sub-at c = search needs
-
-mul-at : tie.Need-mul-at
-mul-at c = search needs
 
 add-at : tie.Need-add-at
 add-at c =
@@ -57,10 +48,10 @@ pub cannot-on-spec : {M : Type 1} → statement M
 cannot-on-spec =
     tie.close
     (tie.spec
-    get-requires
+    (λ c κs. search needs)
     returns
-    sub-at
-    mul-at
+    (λ c. search needs)
+    (λ c. search needs)
     add-at
     add-get-until
     get-until-requires

@@ -6,20 +6,8 @@ use borrow.Author.Needs.{needs}
 use Rattle.status.proofs.cannot_switch.Statement.{statement}
 use Rattle.status.proofs.cannot_switch.Tie as tie
 
-cannot-on-requires : tie.Need-cannot-on-requires
-cannot-on-requires c κs = search needs
-
 returns : tie.Need-returns
 returns c = rw (eq-eqb _ 1 (c .before .if1 .taken)) (c .cannot-on .ensures)
-
-cannot-off-requires : tie.Need-cannot-off-requires
-cannot-off-requires c κs = search needs
-
-filled-from-requires : tie.Need-filled-from-requires
-filled-from-requires c κs = search needs
-
-get-requires : tie.Need-get-requires
-get-requires c κs = search needs
 
 returns-2 : tie.Need-returns-2
 returns-2 c =
@@ -31,9 +19,9 @@ pub cannot-switch-spec : {M : Type 1} → statement M
 cannot-switch-spec =
     tie.close
     (tie.spec
-    cannot-on-requires
+    (λ c κs. search needs)
     returns
-    cannot-off-requires
-    filled-from-requires
-    get-requires
+    (λ c κs. search needs)
+    (λ c κs. search needs)
+    (λ c κs. search needs)
     returns-2)

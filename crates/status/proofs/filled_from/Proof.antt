@@ -4,17 +4,11 @@ use borrow.Author.Needs.{needs}
 use Rattle.status.proofs.filled_from.Statement.{statement}
 use Rattle.status.proofs.filled_from.Tie as tie
 
-get-requires : tie.Need-get-requires
-get-requires c κs = search needs
-
 returns : tie.Need-returns
 returns c =
     let s = c .before .before in
     let l = part-lays (s .args .p .now) 48 (s .pre .1) (s .pre .0) in
     unfilled (l .0) (l .1) (s .args .day) _ (c .before .get .ensures .0) (c .if1 .taken)
-
-sub-get : tie.Need-sub-get
-sub-get c = search needs
 
 mul-get : tie.Need-mul-get
 mul-get c =
@@ -53,4 +47,4 @@ returns-2 c =
 pub filled-from-spec : {M : Type 1} → statement M
 filled-from-spec =
     tie.close
-    (tie.spec get-requires returns sub-get mul-get add-get add-get-2 get-requires-2 returns-2)
+    (tie.spec (λ c κs. search needs) returns (λ c. search needs) mul-get add-get add-get-2 get-requires-2 returns-2)

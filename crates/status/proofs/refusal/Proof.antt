@@ -9,16 +9,10 @@ use borrow.Author.Needs.{needs}
 use Rattle.status.proofs.refusal.Statement.{statement}
 use Rattle.status.proofs.refusal.Tie as tie
 
-cannot-switch-requires : tie.Need-cannot-switch-requires
-cannot-switch-requires c κs = search needs
-
 returns : tie.Need-returns
 returns c =
     let s = c .before .before in
     row-fourteen _ _ (pointFrom (s .args .p .now)) _ (c .before .cannot-switch .ensures) (c .if1 .taken)
-
-get-requires : tie.Need-get-requires
-get-requires c κs = search needs
 
 returns-2 : tie.Need-returns-2
 returns-2 c =
@@ -33,4 +27,4 @@ returns-3 c =
     row-none _ _ (pointFrom (s .args .p .now)) _ (c .before .before .before .cannot-switch .ensures) (c .before .before .if1 .left) (ap (λ n. eqb (s .args .on) 0 && leb 8 n) (sym (c .before .get .ensures .0 ∙ place-offs (l .0) (l .1))) ∙ c .if2 .left)
 
 pub refusal-spec : {M : Type 1} → statement M
-refusal-spec = tie.close (tie.spec cannot-switch-requires returns get-requires returns-2 returns-3)
+refusal-spec = tie.close (tie.spec (λ c κs. search needs) returns (λ c κs. search needs) returns-2 returns-3)

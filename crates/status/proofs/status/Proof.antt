@@ -73,22 +73,10 @@ point-is c =
 
 -- ---- the needs
 
-sound-requires : tie.Need-sound-requires
-sound-requires c κs = search needs
-
-same-length : tie.Need-same-length
-same-length c = search needs
-
 returns : tie.Need-returns
 returns c =
     let s = c .before .before .before in
     gives (status-unsound (s .args .t .now) (s .args .n) (sym (c .before .sound .ensures) ∙ not-true _ (c .if1 .taken)))
-
-in-range-requires : tie.Need-in-range-requires
-in-range-requires c κs = search needs
-
-same-length-2 : tie.Need-same-length-2
-same-length-2 c = search needs
 
 returns-2 : tie.Need-returns-2
 returns-2 c =
@@ -96,16 +84,10 @@ returns-2 c =
     let s = sounds e in
     gives (status-range (s .args .t .now) (s .args .n) (sound-is e) (sym (c .before .in-range .ensures) ∙ not-true _ (c .if2 .taken)))
 
-natural-requires : tie.Need-natural-requires
-natural-requires c κs = search needs
-
 index-of-requires : tie.Need-index-of-requires
 index-of-requires c κs =
     let e = c .before .before .before .before .before .before .before in
     sound-long (sounds e .args .t .now) (sound-is e)
-
-same-length-3 : tie.Need-same-length-3
-same-length-3 c = search needs
 
 returns-3 : tie.Need-returns-3
 returns-3 c =
@@ -113,35 +95,11 @@ returns-3 c =
     let s = ranges r in
     gives (status-missing (s .args .t .now) (s .args .n) (sound-is (r .before .before)) (range-is r) _ (index-is (c .before)) (c .if3 .taken))
 
-mul-a : tie.Need-mul-a
-mul-a c = search needs
-
-add-a : tie.Need-add-a
-add-a c = search needs
-
-add-b : tie.Need-add-b
-add-b c = search needs
-
-mul-enter : tie.Need-mul-enter
-mul-enter c = search needs
-
-sub-enter : tie.Need-sub-enter
-sub-enter c = search needs
-
-part-enter-start : tie.Need-part-enter-start
-part-enter-start c = search needs
-
 part-enter-end : tie.Need-part-enter-end
 part-enter-end c =
     let e = tests (c .before) .before .before in
     let l = sound-long (sounds e .args .t .now) (sound-is e) in
     search needs
-
-natural-requires-2 : tie.Need-natural-requires-2
-natural-requires-2 c κs = search needs
-
-natural-requires-3 : tie.Need-natural-requires-3
-natural-requires-3 c κs = search needs
 
 enter-requires : tie.Need-enter-requires
 enter-requires c κs =
@@ -151,9 +109,6 @@ enter-requires c κs =
     let l = lent-sound (s .args .t .now) (sound-is (r .before .before)) (natOf (s .args .n .mirn)) _ (index-is i) (c .before .before .before .if3 .left) in
     let b = range-bounds (s .args .n) (range-is r) in
     (l .0, l .1, omega (arith, day-is (c .before), b .0), omega (arith, on-is c, b .1))
-
-same-length-4 : tie.Need-same-length-4
-same-length-4 c = search needs
 
 returns-4 : tie.Need-returns-4
 returns-4 c =
@@ -166,9 +121,6 @@ returns-4 c =
     let w = answered-at (s .args .t .now) (i .index-of .result) (statusCall (s .args .t .now) (s .args .n)) (statusPart d o) (point-is u) _ _
     (part-done d o (lent (s .args .t .now) (i .index-of .result)) (e .enter .result) (e .enter .ensures .0) (e .enter .ensures .1)) in
     (ap (λ r. pos r ∷ []) (sym (c .if4 .taken)) ∙ w .0, w .1)
-
-same-length-5 : tie.Need-same-length-5
-same-length-5 c = search needs
 
 returns-5 : tie.Need-returns-5
 returns-5 c =
@@ -185,27 +137,27 @@ pub status-spec : {M : Type 1} → statement M
 status-spec =
     tie.close
     (tie.spec
-    sound-requires
-    same-length
+    (λ c κs. search needs)
+    (λ c. search needs)
     returns
-    in-range-requires
-    same-length-2
+    (λ c κs. search needs)
+    (λ c. search needs)
     returns-2
-    natural-requires
+    (λ c κs. search needs)
     index-of-requires
-    same-length-3
+    (λ c. search needs)
     returns-3
-    mul-a
-    add-a
-    add-b
-    mul-enter
-    sub-enter
-    part-enter-start
+    (λ c. search needs)
+    (λ c. search needs)
+    (λ c. search needs)
+    (λ c. search needs)
+    (λ c. search needs)
+    (λ c. search needs)
     part-enter-end
-    natural-requires-2
-    natural-requires-3
+    (λ c κs. search needs)
+    (λ c κs. search needs)
     enter-requires
-    same-length-4
+    (λ c. search needs)
     returns-4
-    same-length-5
+    (λ c. search needs)
     returns-5)

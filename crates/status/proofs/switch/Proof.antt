@@ -8,9 +8,6 @@ use borrow.Author.Needs.{needs}
 use Rattle.status.proofs.switch.Statement.{statement}
 use Rattle.status.proofs.switch.Tie as tie
 
-get-requires : tie.Need-get-requires
-get-requires c κs = search needs
-
 open-span-requires : tie.Need-open-span-requires
 open-span-requires c κs =
     let s = c .before .before .before .before in
@@ -34,9 +31,6 @@ close-span-requires c κs =
     let e = spans-few (l .0) (l .1) in
     search needs
 
-same-length : tie.Need-same-length
-same-length c = search needs
-
 returns : tie.Need-returns
 returns c =
     let s = c .before .before .before .before .before .before in
@@ -45,9 +39,6 @@ returns c =
     let e = place-offs (l .0) (l .1) in
     let h = room-to-open _ _ (pointFrom (s .args .p .now)) (s .pre .4) (c .before .before .before .if1 .taken) in
     c .before .open-span .ensures ∙ open-is (l .0) (l .1) (s .args .day) _ (s .args .on) g (omega arith) (c .before .before .before .if1 .taken)
-
-same-length-2 : tie.Need-same-length-2
-same-length-2 c = search needs
 
 returns-2 : tie.Need-returns-2
 returns-2 c =
@@ -62,11 +53,11 @@ pub switch-spec : {M : Type 1} → statement M
 switch-spec =
     tie.close
     (tie.spec
-    get-requires
+    (λ c κs. search needs)
     open-span-requires
     sub-close-span
     close-span-requires
-    same-length
+    (λ c. search needs)
     returns
-    same-length-2
+    (λ c. search needs)
     returns-2)

@@ -14,27 +14,11 @@ Inv-loop t mirn n i₀ i = (i ≤ n) × (n ≡ numAt t 0) × (n ≤ 32) × (firs
 abbrev μ-loop : tie.MeasureT-loop
 μ-loop t mirn n i₀ i = n - i
 
--- src/lib.rt:83:13
-get-requires : tie.Need-get-requires Inv-loop μ-loop
-get-requires c κs = search needs
-
 -- src/lib.rt:85:5
 loop-holds : tie.Need-loop-holds Inv-loop μ-loop
 loop-holds c =
     let e = c .get .ensures .0 in
     (search needs, search needs, search needs, index-start (c .before .args .t .now) (c .before .args .mirn) (c .get .result) e)
-
--- src/lib.rt:86:32
-mul-get : tie.Need-mul-get Inv-loop μ-loop
-mul-get c = search needs
-
--- src/lib.rt:86:28
-add-get : tie.Need-add-get Inv-loop μ-loop
-add-get c = search needs
-
--- src/lib.rt:86:12
-get-requires-2 : tie.Need-get-requires-2 Inv-loop μ-loop
-get-requires-2 c κs = search needs
 
 -- src/lib.rt:87:13
 returns : tie.Need-returns Inv-loop μ-loop
@@ -42,14 +26,6 @@ returns c =
     let l = c .before .before .before .loop in
     let s = c .before .before .before .before .before in
     (index-hit (s .args .t .now) (s .args .mirn) _ (l .i) _ (l .inv .3) (search needs) (sym (c .before .get2 .ensures .0) ∙ c .if1 .taken), search needs)
-
--- src/lib.rt:89:9
-add-i : tie.Need-add-i Inv-loop μ-loop
-add-i c = search needs
-
--- src/lib.rt:85:5
-loop-less : tie.Need-loop-less Inv-loop μ-loop
-loop-less c = search needs
 
 -- src/lib.rt:85:5
 loop-again : tie.Need-loop-again Inv-loop μ-loop
@@ -71,13 +47,13 @@ index-of-spec =
     (tie.spec
     Inv-loop
     μ-loop
-    get-requires
+    (λ c κs. search needs)
     loop-holds
-    mul-get
-    add-get
-    get-requires-2
+    (λ c. search needs)
+    (λ c. search needs)
+    (λ c κs. search needs)
     returns
-    add-i
-    loop-less
+    (λ c. search needs)
+    (λ c. search needs)
     loop-again
     returns-2)

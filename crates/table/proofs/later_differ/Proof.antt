@@ -15,49 +15,9 @@ Inv-loop t i n mirn m j₀ j = (j ≤ m) × (m ≡ n - suc i) × (mirn ≡ numAt
 abbrev μ-loop : tie.MeasureT-loop
 μ-loop t i n mirn m j₀ j = m - j
 
--- src/lib.rt:52:36
-mul-get : tie.Need-mul-get Inv-loop μ-loop
-mul-get c = search needs
-
--- src/lib.rt:52:32
-add-get : tie.Need-add-get Inv-loop μ-loop
-add-get c = search needs
-
--- src/lib.rt:52:9
-get-requires : tie.Need-get-requires Inv-loop μ-loop
-get-requires c κs = search needs
-
--- src/lib.rt:53:18
-add-m : tie.Need-add-m Inv-loop μ-loop
-add-m c = search needs
-
--- src/lib.rt:53:13
-sub-m : tie.Need-sub-m Inv-loop μ-loop
-sub-m c = search needs
-
 -- src/lib.rt:55:5
 loop-holds : tie.Need-loop-holds Inv-loop μ-loop
 loop-holds c = (search needs, search needs, search needs, all-none _)
-
--- src/lib.rt:56:39
-add-get-2 : tie.Need-add-get-2 Inv-loop μ-loop
-add-get-2 c = search needs
-
--- src/lib.rt:56:39
-add-get-3 : tie.Need-add-get-3 Inv-loop μ-loop
-add-get-3 c = search needs
-
--- src/lib.rt:56:32
-mul-get-2 : tie.Need-mul-get-2 Inv-loop μ-loop
-mul-get-2 c = search needs
-
--- src/lib.rt:56:28
-add-get-4 : tie.Need-add-get-4 Inv-loop μ-loop
-add-get-4 c = search needs
-
--- src/lib.rt:56:12
-get-requires-2 : tie.Need-get-requires-2 Inv-loop μ-loop
-get-requires-2 c κs = search needs
 
 -- src/lib.rt:57:13
 returns : tie.Need-returns Inv-loop μ-loop
@@ -65,14 +25,6 @@ returns c =
     let l = c .before .before .before .loop in
     let s = c .before .before .before .before .before in
     later-fails (s .args .t .now) (s .args .i) (s .args .n) (l .j) (c .before .get2 .result) (search needs) (c .before .get2 .ensures .0) (c .if1 .taken ∙ l .inv .2)
-
--- src/lib.rt:59:9
-add-j : tie.Need-add-j Inv-loop μ-loop
-add-j c = search needs
-
--- src/lib.rt:55:5
-loop-less : tie.Need-loop-less Inv-loop μ-loop
-loop-less c = search needs
 
 -- src/lib.rt:55:5
 loop-again : tie.Need-loop-again Inv-loop μ-loop
@@ -94,19 +46,19 @@ later-differ-spec =
     (tie.spec
     Inv-loop
     μ-loop
-    mul-get
-    add-get
-    get-requires
-    add-m
-    sub-m
+    (λ c. search needs)
+    (λ c. search needs)
+    (λ c κs. search needs)
+    (λ c. search needs)
+    (λ c. search needs)
     loop-holds
-    add-get-2
-    add-get-3
-    mul-get-2
-    add-get-4
-    get-requires-2
+    (λ c. search needs)
+    (λ c. search needs)
+    (λ c. search needs)
+    (λ c. search needs)
+    (λ c κs. search needs)
     returns
-    add-j
-    loop-less
+    (λ c. search needs)
+    (λ c. search needs)
     loop-again
     returns-2)

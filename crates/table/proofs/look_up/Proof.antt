@@ -23,48 +23,16 @@ index-is c =
     c .index-of .ensures .0
     ∙ ap (λ m. maybe 32 (λ k. k) (indexOf standard (s .args .t .now) m)) (c .before .natural .ensures .0 ∙ natural-read (s .args .mirn) (s .fits .mirn))
 
--- src/lib.rt:141:9
-sound-requires : tie.Need-sound-requires
-sound-requires c κs = search needs
-
--- src/lib.rt:142:16
-sub-result : tie.Need-sub-result
-sub-result c = search needs
-
--- src/lib.rt:142:16
-part-result-start : tie.Need-part-result-start
-part-result-start c = search needs
-
--- src/lib.rt:142:16
-part-result-end : tie.Need-part-result-end
-part-result-end c = search needs
-
 -- src/lib.rt:142:9
 returns : tie.Need-returns
 returns c =
     let s = c .before .before .before in
     look-unsound (s .args .t .now) (s .args .mirn) (sym (c .before .before .sound .ensures) ∙ not-true _ (c .before .if1 .taken))
 
--- src/lib.rt:144:9
-natural-requires : tie.Need-natural-requires
-natural-requires c κs = search needs
-
 -- src/lib.rt:145:9
 index-of-requires : tie.Need-index-of-requires
 index-of-requires c κs =
     sound-long (c .before .before .before .args .t .now) (sound-is (c .before))
-
--- src/lib.rt:147:16
-sub-result-2 : tie.Need-sub-result-2
-sub-result-2 c = search needs
-
--- src/lib.rt:147:16
-part-result-start-2 : tie.Need-part-result-start-2
-part-result-start-2 c = search needs
-
--- src/lib.rt:147:16
-part-result-end-2 : tie.Need-part-result-end-2
-part-result-end-2 c = search needs
 
 -- src/lib.rt:147:9
 returns-2 : tie.Need-returns-2
@@ -90,16 +58,16 @@ pub look-up-spec : {M : Type 1} → statement M
 look-up-spec =
     tie.close
     (tie.spec
-    sound-requires
-    sub-result
-    part-result-start
-    part-result-end
+    (λ c κs. search needs)
+    (λ c. search needs)
+    (λ c. search needs)
+    (λ c. search needs)
     returns
-    natural-requires
+    (λ c κs. search needs)
     index-of-requires
-    sub-result-2
-    part-result-start-2
-    part-result-end-2
+    (λ c. search needs)
+    (λ c. search needs)
+    (λ c. search needs)
     returns-2
     part-requires
     returns-3)

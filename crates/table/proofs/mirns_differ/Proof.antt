@@ -20,24 +20,12 @@ abbrev μ-loop : tie.MeasureT-loop
 loop-holds : tie.Need-loop-holds Inv-loop μ-loop
 loop-holds c = (search needs, all-none _)
 
--- src/lib.rt:70:13
-later-differ-requires : tie.Need-later-differ-requires Inv-loop μ-loop
-later-differ-requires c κs = search needs
-
 -- src/lib.rt:71:13
 returns : tie.Need-returns Inv-loop μ-loop
 returns c =
     let s = c .before .before .before .before in
     sym (all-fails _ (c .before .before .before .loop .i) _ (search needs) (sym (c .before .later-differ .ensures) ∙ not-true _ (c .if1 .taken)))
     ∙ sym (differ-is standard (s .args .t .now) (s .args .n))
-
--- src/lib.rt:73:9
-add-i : tie.Need-add-i Inv-loop μ-loop
-add-i c = search needs
-
--- src/lib.rt:69:5
-loop-less : tie.Need-loop-less Inv-loop μ-loop
-loop-less c = search needs
 
 -- src/lib.rt:69:5
 loop-again : tie.Need-loop-again Inv-loop μ-loop
@@ -57,9 +45,9 @@ mirns-differ-spec =
     Inv-loop
     μ-loop
     loop-holds
-    later-differ-requires
+    (λ c κs. search needs)
     returns
-    add-i
-    loop-less
+    (λ c. search needs)
+    (λ c. search needs)
     loop-again
     returns-2)

@@ -21,10 +21,6 @@ abbrev μ-loop : tie.MeasureT-loop
 loop-holds : tie.Need-loop-holds Inv-loop μ-loop
 loop-holds c = (search needs, all-none _)
 
--- src/lib.rt:84:31
-part-requires : tie.Need-part-requires Inv-loop μ-loop
-part-requires c κs = search needs
-
 -- src/lib.rt:84:13
 part-sound-requires : tie.Need-part-sound-requires Inv-loop μ-loop
 part-sound-requires c κs = let e = c .part .ensures .1 in (omega arith, ap (λ n. n % 4) e)
@@ -33,14 +29,6 @@ part-sound-requires c κs = let e = c .part .ensures .1 in (omega arith, ap (λ 
 returns : tie.Need-returns Inv-loop μ-loop
 returns c =
     sym (all-fails _ (c .before .before .before .before .loop .i) _ (search needs) (sym (c .before .part-sound .ensures ∙ ap partSound (c .before .before .part .ensures .0)) ∙ not-true _ (c .if1 .taken)))
-
--- src/lib.rt:87:9
-add-i : tie.Need-add-i Inv-loop μ-loop
-add-i c = search needs
-
--- src/lib.rt:83:5
-loop-less : tie.Need-loop-less Inv-loop μ-loop
-loop-less c = search needs
 
 -- src/lib.rt:83:5
 loop-again : tie.Need-loop-again Inv-loop μ-loop
@@ -58,10 +46,10 @@ parts-sound-spec =
     Inv-loop
     μ-loop
     loop-holds
-    part-requires
+    (λ c κs. search needs)
     part-sound-requires
     returns
-    add-i
-    loop-less
+    (λ c. search needs)
+    (λ c. search needs)
     loop-again
     returns-2)

@@ -9,19 +9,11 @@ use Rattle.table.proofs.sound.Tie as tie
 returns : tie.Need-returns
 returns c = short-unsound (c .before .args .t .now) (c .if1 .taken)
 
--- src/lib.rt:113:9
-get-requires : tie.Need-get-requires
-get-requires c κs = search needs
-
 -- src/lib.rt:115:9
 returns-2 : tie.Need-returns-2
 returns-2 c =
     let s = c .before .before .before in
     many-unsound (s .args .t .now) (c .before .before .if1 .left) (omega (arith, c .before .get .ensures .0))
-
--- src/lib.rt:117:5
-body-sound-requires : tie.Need-body-sound-requires
-body-sound-requires c κs = search needs
 
 -- src/lib.rt:107:1
 returns-3 : tie.Need-returns-3
@@ -30,4 +22,4 @@ returns-3 c =
     c .body-sound .ensures ∙ body-sound (s .args .t .now) (c .before .before .before .if1 .left) (omega (arith, c .before .before .get .ensures .0))
 
 pub sound-spec : {M : Type 1} → statement M
-sound-spec = tie.close (tie.spec returns get-requires returns-2 body-sound-requires returns-3)
+sound-spec = tie.close (tie.spec returns (λ c κs. search needs) returns-2 (λ c κs. search needs) returns-3)

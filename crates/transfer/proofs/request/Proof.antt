@@ -70,24 +70,12 @@ nochange-is c =
 
 -- ---- the needs
 
-sound-requires : tie.Need-sound-requires
-sound-requires c κs = search needs
-
-same-length : tie.Need-same-length
-same-length c = search needs
-
 returns : tie.Need-returns
 returns c =
     let s = c .before .before .before in
     let t = s .args .t .now in
     let d = s .args .holidays .now in
     gives (request-unsound t (s .args .n) d (sym (c .before .sound .ensures) ∙ not-true _ (c .if1 .taken)))
-
-request-in-range-requires : tie.Need-request-in-range-requires
-request-in-range-requires c κs = search needs
-
-same-length-2 : tie.Need-same-length-2
-same-length-2 c = search needs
 
 returns-2 : tie.Need-returns-2
 returns-2 c =
@@ -97,12 +85,6 @@ returns-2 c =
     let d = s .args .holidays .now in
     gives (request-range t (s .args .n) d (sound-is e) (sym (c .before .request-in-range .ensures) ∙ not-true _ (c .if2 .taken)))
 
-holiday-list-requires : tie.Need-holiday-list-requires
-holiday-list-requires c κs = search needs
-
-same-length-3 : tie.Need-same-length-3
-same-length-3 c = search needs
-
 returns-3 : tie.Need-returns-3
 returns-3 c =
     let r = c .before .before in
@@ -111,16 +93,10 @@ returns-3 c =
     let d = s .args .holidays .now in
     gives (request-holidays t (s .args .n) d (sound-is (r .before .before)) (range-is r) (sym (c .before .holiday-list .ensures) ∙ not-true _ (c .if3 .taken)))
 
-natural-requires : tie.Need-natural-requires
-natural-requires c κs = search needs
-
 index-of-requires : tie.Need-index-of-requires
 index-of-requires c κs =
     let e = c .before .before .before .before .before .before .before in
     sound-long (sounds e .args .t .now) (sound-is e)
-
-same-length-4 : tie.Need-same-length-4
-same-length-4 c = search needs
 
 returns-4 : tie.Need-returns-4
 returns-4 c =
@@ -130,33 +106,6 @@ returns-4 c =
     let t = s .args .t .now in
     let d = s .args .holidays .now in
     gives (request-missing t (s .args .n) d (sound-is (r .before .before)) (range-is r) (holidays-is h) _ (index-is (c .before)) (c .if4 .taken))
-
-natural-requires-2 : tie.Need-natural-requires-2
-natural-requires-2 c κs = search needs
-
-natural-requires-3 : tie.Need-natural-requires-3
-natural-requires-3 c κs = search needs
-
-natural-requires-4 : tie.Need-natural-requires-4
-natural-requires-4 c κs = search needs
-
-mul-a : tie.Need-mul-a
-mul-a c = search needs
-
-add-a : tie.Need-add-a
-add-a c = search needs
-
-add-b : tie.Need-add-b
-add-b c = search needs
-
-mul-request-at : tie.Need-mul-request-at
-mul-request-at c = search needs
-
-sub-request-at : tie.Need-sub-request-at
-sub-request-at c = search needs
-
-part-request-at-start : tie.Need-part-request-at-start
-part-request-at-start c = search needs
 
 part-request-at-end : tie.Need-part-request-at-end
 part-request-at-end c =
@@ -175,9 +124,6 @@ request-at-requires c κs =
     let l = lent-sound (s .args .t .now) (sound-is (r .before .before)) (natOf (s .args .n .mirn)) _ (index-is i) (k .before .before .before .if4 .left) in
     let b = request-bounds (s .args .n) (range-is r) in
     (l .0, l .1, omega (arith, user-is (d .before)), omega (arith, proposed-is d))
-
-same-length-5 : tie.Need-same-length-5
-same-length-5 c = search needs
 
 returns-5 : tie.Need-returns-5
 returns-5 c =
@@ -198,29 +144,29 @@ pub request-spec : {M : Type 1} → statement M
 request-spec =
     tie.close
     (tie.spec
-    sound-requires
-    same-length
+    (λ c κs. search needs)
+    (λ c. search needs)
     returns
-    request-in-range-requires
-    same-length-2
+    (λ c κs. search needs)
+    (λ c. search needs)
     returns-2
-    holiday-list-requires
-    same-length-3
+    (λ c κs. search needs)
+    (λ c. search needs)
     returns-3
-    natural-requires
+    (λ c κs. search needs)
     index-of-requires
-    same-length-4
+    (λ c. search needs)
     returns-4
-    natural-requires-2
-    natural-requires-3
-    natural-requires-4
-    mul-a
-    add-a
-    add-b
-    mul-request-at
-    sub-request-at
-    part-request-at-start
+    (λ c κs. search needs)
+    (λ c κs. search needs)
+    (λ c κs. search needs)
+    (λ c. search needs)
+    (λ c. search needs)
+    (λ c. search needs)
+    (λ c. search needs)
+    (λ c. search needs)
+    (λ c. search needs)
     part-request-at-end
     request-at-requires
-    same-length-5
+    (λ c. search needs)
     returns-5)

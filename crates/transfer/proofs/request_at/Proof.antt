@@ -22,21 +22,12 @@ latest-is c =
     let n = c .before .before in
     c .get3 .ensures .0 ∙ ap (λ k. numAt (n .before .before .before .before .before .args .p .now) (15 + 2 * k)) (count-is n)
 
-get-requires : tie.Need-get-requires
-get-requires c κs = search needs
-
-same-length : tie.Need-same-length
-same-length c = search needs
-
 returns : tie.Need-returns
 returns c =
     let s = c .before .before .before in
     let p = s .args .p .now in
     let d = allowablePeriod (s .args .holidays .now) (s .args .proposed .0) (s .args .nochange) in
     gives (request-waiting p (s .pre .0) (s .pre .1) (s .args .user) d (λ e. c .if1 .taken (c .before .get .ensures .0 ∙ e)))
-
-get-requires-2 : tie.Need-get-requires-2
-get-requires-2 c κs = search needs
 
 mul-get : tie.Need-mul-get
 mul-get c =
@@ -53,9 +44,6 @@ get-requires-3 c κs =
     let s = c .before .before .before .before .before .before in
     omega (arith, count-is (c .before), registrations-count (s .args .p .now) (s .pre .0) (s .pre .1) .1)
 
-same-length-2 : tie.Need-same-length-2
-same-length-2 c = search needs
-
 returns-2 : tie.Need-returns-2
 returns-2 c =
     let e = c .before .before .before .before .before in
@@ -63,18 +51,6 @@ returns-2 c =
     let p = s .args .p .now in
     let d = allowablePeriod (s .args .holidays .now) (s .args .proposed .0) (s .args .nochange) in
     gives (request-same p (s .pre .0) (s .pre .1) (s .args .user) d (idle-is e) (sym (latest-is (c .before)) ∙ c .if2 .taken))
-
-allowable-period-requires : tie.Need-allowable-period-requires
-allowable-period-requires c κs = search needs
-
-enum-known-period : tie.Need-enum-known-period
-enum-known-period c = search needs
-
-enum-told : tie.Need-enum-told
-enum-told c = search needs
-
-same-length-3 : tie.Need-same-length-3
-same-length-3 c = search needs
 
 returns-3 : tie.Need-returns-3
 returns-3 c =
@@ -86,9 +62,6 @@ returns-3 c =
     let d = allowablePeriod (s .args .holidays .now) (s .args .proposed .0) (s .args .nochange) in
     gives (request-outside p (s .pre .0) (s .pre .1) (s .args .user) d (idle-is e) (λ h. a .before .if2 .left (latest-is g ∙ h))
     (sym (a .allowable-period .ensures) ∙ ap periodDays (c .enum-told .given .1)))
-
-same-length-4 : tie.Need-same-length-4
-same-length-4 c = search needs
 
 returns-4 : tie.Need-returns-4
 returns-4 c =
@@ -110,9 +83,6 @@ set-pending-requires c κs =
     let b = period-bound (s .args .holidays .now) (s .args .proposed .0) (s .args .nochange) _ _ (sym (a .allowable-period .ensures) ∙ ap periodDays (f .period .given .1)) (s .pre .3) in
     (omega arith, omega arith, omega arith, omega arith)
 
-same-length-5 : tie.Need-same-length-5
-same-length-5 c = search needs
-
 returns-5 : tie.Need-returns-5
 returns-5 c =
     let k = c .before .before .before in
@@ -131,22 +101,22 @@ pub request-at-spec : {M : Type 1} → statement M
 request-at-spec =
     tie.close
     (tie.spec
-    get-requires
-    same-length
+    (λ c κs. search needs)
+    (λ c. search needs)
     returns
-    get-requires-2
+    (λ c κs. search needs)
     mul-get
     add-get
     get-requires-3
-    same-length-2
+    (λ c. search needs)
     returns-2
-    allowable-period-requires
-    enum-known-period
-    enum-told
-    same-length-3
+    (λ c κs. search needs)
+    (λ c. search needs)
+    (λ c. search needs)
+    (λ c. search needs)
     returns-3
-    same-length-4
+    (λ c. search needs)
     returns-4
     set-pending-requires
-    same-length-5
+    (λ c. search needs)
     returns-5)

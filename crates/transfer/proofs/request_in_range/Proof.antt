@@ -5,18 +5,6 @@ use Rattle.transfer.proofs.Requests.{request-numbers}
 use Rattle.transfer.proofs.request_in_range.Statement.{statement}
 use Rattle.transfer.proofs.request_in_range.Tie as tie
 
-natural-requires : tie.Need-natural-requires
-natural-requires c κs = search needs
-
-natural-requires-2 : tie.Need-natural-requires-2
-natural-requires-2 c κs = search needs
-
-natural-requires-3 : tie.Need-natural-requires-3
-natural-requires-3 c κs = search needs
-
-natural-requires-4 : tie.Need-natural-requires-4
-natural-requires-4 c κs = search needs
-
 returns : tie.Need-returns
 returns c =
     let k = c .before .before .before .before in
@@ -31,4 +19,4 @@ returns c =
 pub request-in-range-spec : {M : Type 1} → statement M
 request-in-range-spec =
     tie.close
-    (tie.spec natural-requires natural-requires-2 natural-requires-3 natural-requires-4 returns)
+    (tie.spec (λ c κs. search needs) (λ c κs. search needs) (λ c κs. search needs) (λ c κs. search needs) returns)

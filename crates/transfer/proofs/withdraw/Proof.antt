@@ -52,23 +52,11 @@ user-is c =
 
 -- ---- the needs
 
-sound-requires : tie.Need-sound-requires
-sound-requires c κs = search needs
-
-same-length : tie.Need-same-length
-same-length c = search needs
-
 returns : tie.Need-returns
 returns c =
     let s = c .before .before .before in
     let t = s .args .t .now in
     gives (withdraw-unsound t (s .args .n) (sym (c .before .sound .ensures) ∙ not-true _ (c .if1 .taken)))
-
-withdrawal-in-range-requires : tie.Need-withdrawal-in-range-requires
-withdrawal-in-range-requires c κs = search needs
-
-same-length-2 : tie.Need-same-length-2
-same-length-2 c = search needs
 
 returns-2 : tie.Need-returns-2
 returns-2 c =
@@ -77,16 +65,10 @@ returns-2 c =
     let t = s .args .t .now in
     gives (withdraw-range t (s .args .n) (sound-is e) (sym (c .before .withdrawal-in-range .ensures) ∙ not-true _ (c .if2 .taken)))
 
-natural-requires : tie.Need-natural-requires
-natural-requires c κs = search needs
-
 index-of-requires : tie.Need-index-of-requires
 index-of-requires c κs =
     let e = c .before .before .before .before .before .before in
     sound-long (sounds e .args .t .now) (sound-is e)
-
-same-length-3 : tie.Need-same-length-3
-same-length-3 c = search needs
 
 returns-3 : tie.Need-returns-3
 returns-3 c =
@@ -94,27 +76,6 @@ returns-3 c =
     let s = ranges r in
     let t = s .args .t .now in
     gives (withdraw-missing t (s .args .n) (sound-is (r .before .before)) (range-is r) _ (index-is (c .before)) (c .if3 .taken))
-
-natural-requires-2 : tie.Need-natural-requires-2
-natural-requires-2 c κs = search needs
-
-mul-a : tie.Need-mul-a
-mul-a c = search needs
-
-add-a : tie.Need-add-a
-add-a c = search needs
-
-add-b : tie.Need-add-b
-add-b c = search needs
-
-mul-withdraw-at : tie.Need-mul-withdraw-at
-mul-withdraw-at c = search needs
-
-sub-withdraw-at : tie.Need-sub-withdraw-at
-sub-withdraw-at c = search needs
-
-part-withdraw-at-start : tie.Need-part-withdraw-at-start
-part-withdraw-at-start c = search needs
 
 part-withdraw-at-end : tie.Need-part-withdraw-at-end
 part-withdraw-at-end c =
@@ -130,9 +91,6 @@ withdraw-at-requires c κs =
     let s = ranges r in
     let l = lent-sound (s .args .t .now) (sound-is (r .before .before)) (natOf (s .args .n .mirn)) _ (index-is i) (u .before .if3 .left) in
     (l .0, l .1, omega (arith, user-is u, withdrawal-user (s .args .n) (range-is r)))
-
-same-length-4 : tie.Need-same-length-4
-same-length-4 c = search needs
 
 returns-4 : tie.Need-returns-4
 returns-4 c =
@@ -150,24 +108,24 @@ pub withdraw-spec : {M : Type 1} → statement M
 withdraw-spec =
     tie.close
     (tie.spec
-    sound-requires
-    same-length
+    (λ c κs. search needs)
+    (λ c. search needs)
     returns
-    withdrawal-in-range-requires
-    same-length-2
+    (λ c κs. search needs)
+    (λ c. search needs)
     returns-2
-    natural-requires
+    (λ c κs. search needs)
     index-of-requires
-    same-length-3
+    (λ c. search needs)
     returns-3
-    natural-requires-2
-    mul-a
-    add-a
-    add-b
-    mul-withdraw-at
-    sub-withdraw-at
-    part-withdraw-at-start
+    (λ c κs. search needs)
+    (λ c. search needs)
+    (λ c. search needs)
+    (λ c. search needs)
+    (λ c. search needs)
+    (λ c. search needs)
+    (λ c. search needs)
     part-withdraw-at-end
     withdraw-at-requires
-    same-length-4
+    (λ c. search needs)
     returns-4)

@@ -5,24 +5,12 @@ use Rattle.transfer.proofs.Points.{withdraw-other, withdraw-own}
 use Rattle.transfer.proofs.withdraw_at.Statement.{statement}
 use Rattle.transfer.proofs.withdraw_at.Tie as tie
 
-get-requires : tie.Need-get-requires
-get-requires c κs = search needs
-
-same-length : tie.Need-same-length
-same-length c = search needs
-
 returns : tie.Need-returns
 returns c =
     let s = c .before .before .before in
     let p = s .args .p .now in
     let u = s .args .user in
     gives (withdraw-other p u (s .pre .2) (λ e. c .if1 .taken (c .before .get .ensures .0 ∙ e)))
-
-clear-pending-requires : tie.Need-clear-pending-requires
-clear-pending-requires c κs = search needs
-
-same-length-2 : tie.Need-same-length-2
-same-length-2 c = search needs
 
 returns-2 : tie.Need-returns-2
 returns-2 c =
@@ -36,4 +24,4 @@ returns-2 c =
 pub withdraw-at-spec : {M : Type 1} → statement M
 withdraw-at-spec =
     tie.close
-    (tie.spec get-requires same-length returns clear-pending-requires same-length-2 returns-2)
+    (tie.spec (λ c κs. search needs) (λ c. search needs) returns (λ c κs. search needs) (λ c. search needs) returns-2)

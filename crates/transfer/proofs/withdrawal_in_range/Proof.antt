@@ -5,12 +5,6 @@ use Rattle.transfer.proofs.Withdrawals.{withdrawal-numbers}
 use Rattle.transfer.proofs.withdrawal_in_range.Statement.{statement}
 use Rattle.transfer.proofs.withdrawal_in_range.Tie as tie
 
-natural-requires : tie.Need-natural-requires
-natural-requires c κs = search needs
-
-natural-requires-2 : tie.Need-natural-requires-2
-natural-requires-2 c κs = search needs
-
 returns : tie.Need-returns
 returns c =
     let s = c .before .before .before .before in
@@ -20,4 +14,4 @@ returns c =
     (c .natural2 .ensures .0 ∙ natural-read (s .args .n .user) (sfits-of (told .1 .0 .1)))
 
 pub withdrawal-in-range-spec : {M : Type 1} → statement M
-withdrawal-in-range-spec = tie.close (tie.spec natural-requires natural-requires-2 returns)
+withdrawal-in-range-spec = tie.close (tie.spec (λ c κs. search needs) (λ c κs. search needs) returns)

@@ -8,15 +8,6 @@ use Rattle.words.specs.Words.{withNumber, withWord}
 use Rattle.words.proofs.put_word.Statement.{statement}
 use Rattle.words.proofs.put_word.Tie as tie
 
-bits-requires : tie.Need-bits-requires
-bits-requires c κs = search needs
-
-put-number8-requires : tie.Need-put-number8-requires
-put-number8-requires c κs = search needs
-
-same-length : tie.Need-same-length
-same-length c = search needs
-
 returns : tie.Need-returns
 unfolding withWord
 returns c =
@@ -24,4 +15,4 @@ returns c =
     c .before .before .put-number8 .ensures ∙ ap (withNumber _ _ 8) (c .before .before .before .bits .ensures ∙ ap (ofZ w64) (toZ-ofZ (s .fits .x)))
 
 pub put-word-spec : {M : Type 1} → statement M
-put-word-spec = tie.close (tie.spec bits-requires put-number8-requires same-length returns)
+put-word-spec = tie.close (tie.spec (λ c κs. search needs) (λ c κs. search needs) (λ c. search needs) returns)
