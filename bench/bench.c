@@ -153,7 +153,7 @@ static void enter_others(struct compared *c) {
         petlumas_status(c->chance.reg, BYTES, answer, sizeof answer, a[0], a[1], a[2]);
     } else {
         choose_request(&c->chance, a);
-        petlumas_request(c->chance.reg, BYTES, none, 0, answer, sizeof answer, a[0], a[1], a[2],
+        petlumas_request(c->chance.reg, BYTES, answer, sizeof answer, none, 0, a[0], a[1], a[2],
                          a[3]);
     }
 }
@@ -194,7 +194,7 @@ static void fill_point(uint8_t *reg, int64_t mirn, int64_t kind, int64_t days, b
         int64_t end = day + days - 1;
         int64_t row = k / 6 + 1;
         if (k % 6 == 0 && row < REGISTRATIONS)
-            must_enter(petlumas_request(reg, BYTES, none, 0, answer, sizeof answer, mirn,
+            must_enter(petlumas_request(reg, BYTES, answer, sizeof answer, none, 0, mirn,
                                         1 + (mirn + row) % 16, end < 14 ? 14 : end, 0),
                        "request");
         must_enter(petlumas_energy(reg, BYTES, answer, sizeof answer, mirn, day, end,

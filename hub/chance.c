@@ -200,7 +200,7 @@ static void feed(struct chance *c, uint64_t ways) {
                         a[3], a[4], 1);
     } else if (way < 15) {
         choose_request(c, a);
-        petlumas_request(c->reg, PETLUMAS_REGISTER_BYTES, none, 0, answer, sizeof answer, a[0],
+        petlumas_request(c->reg, PETLUMAS_REGISTER_BYTES, answer, sizeof answer, none, 0, a[0],
                          a[1], a[2], a[3]);
     } else {
         choose_status(c, a);

@@ -160,8 +160,8 @@ static int64_t call_status(struct test *t, const int64_t *a) {
 }
 
 static int64_t call_request(struct test *t, const int64_t *a) {
-    return petlumas_request(t->reg.at, t->reg.length, t->holidays.at, t->holidays.length,
-                            t->answer.at, t->answer.length, a[0], a[1], a[2], a[3]);
+    return petlumas_request(t->reg.at, t->reg.length, t->answer.at, t->answer.length,
+                            t->holidays.at, t->holidays.length, a[0], a[1], a[2], a[3]);
 }
 
 static int64_t call_withdraw(struct test *t, const int64_t *a) {

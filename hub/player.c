@@ -105,7 +105,7 @@ static bool play_request(struct player *p, struct numbers n) {
     size_t count = n.count - 5;
     for (size_t k = 0; k < count; k++)
         put_number(holidays, k, n.at[5 + k]);
-    petlumas_request(p->buffer, lent_bytes(p), holidays, 8 * count, answer, sizeof answer, n.at[0],
+    petlumas_request(p->buffer, lent_bytes(p), answer, sizeof answer, holidays, 8 * count, n.at[0],
                      n.at[1], n.at[2], n.at[3]);
     return print_answer(p, answer, sizeof answer / 8);
 }

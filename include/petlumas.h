@@ -95,7 +95,7 @@ int64_t petlumas_open(uint8_t *PETLUMAS_RESTRICT reg, size_t reg_len,
                       int64_t install, int64_t base);
 
 /* Enters an energy record, and settles a pending request by its end.
- * mirn, start, end, energy, quality: the record; quality is its type.
+ * mirn, start, end, energy, type: the record.
  * confirmed: yes lets an energy beyond the range pass.
  * Answer: which it was (1 append, 2 replacement, 3 recut), how many later
  *   records it removed, the User registered or 0, whether a request lapsed.
@@ -103,7 +103,7 @@ int64_t petlumas_open(uint8_t *PETLUMAS_RESTRICT reg, size_t reg_len,
 int64_t petlumas_energy(uint8_t *PETLUMAS_RESTRICT reg, size_t reg_len,
                         uint8_t *PETLUMAS_RESTRICT answer, size_t answer_len,
                         int64_t mirn, int64_t start, int64_t end,
-                        int64_t energy, int64_t quality, int64_t confirmed);
+                        int64_t energy, int64_t type, int64_t confirmed);
 
 /* Says from which day on a point is off (de-energised), or on again.
  * mirn, day: the point and that day.
@@ -122,9 +122,9 @@ int64_t petlumas_status(uint8_t *PETLUMAS_RESTRICT reg, size_t reg_len,
  * Answer: the first and the last day of the allowable period.
  * Refusals: 1, 2, 3, 4, 10, 12, 13, 16. */
 int64_t petlumas_request(uint8_t *PETLUMAS_RESTRICT reg, size_t reg_len,
+                         uint8_t *PETLUMAS_RESTRICT answer, size_t answer_len,
                          const uint8_t *PETLUMAS_RESTRICT holidays,
                          size_t holidays_len,
-                         uint8_t *PETLUMAS_RESTRICT answer, size_t answer_len,
                          int64_t mirn, int64_t user, int64_t proposed,
                          int64_t nochange);
 

@@ -12,15 +12,15 @@ use Rattle.numbers.specs.Sums.{sumFrom}
 use Rattle.numbers.proofs.Sums.{sum-same, sum-if, sum-split}
 use Rattle.daybook.specs.Book.{dayShare}
 use Rattle.daybook.specs.Queries.{ownShare}
-use Rattle.daybook.proofs.Lists.{userOn, pointOf}
-use Rattle.daybook.proofs.Registrations.{user-before, user-since}
-use Rattle.daybook.proofs.Well.{Regs, reg}
+use Rattle.lists.specs.Lists.{userOn, pointOf}
+use Rattle.lists.proofs.Registrations.{user-before, user-since}
+use Rattle.lists.specs.InnerWell.{Regs, reg}
 use Rattle.layout.specs.Layout.{numAt, pointFrom}
-use Rattle.point.specs.Tests.{regStart, regUser}
-use Rattle.point.proofs.Rows.{rowsAt, regRow}
-use Rattle.readings.specs.Readings.{pointAt, Readable}
+use Rattle.point.specs.InnerTests.{regStart, regUser, regRow}
+use Rattle.point.proofs.Rows.{rowsAt}
+use Rattle.readings.specs.InnerReadings.{pointAt, Readable}
 use Rattle.readings.proofs.Part.{part-well, regs-of}
-use Rattle.account.specs.Registrations.{movedInto, startIn, ownIn}
+use Rattle.account.specs.InnerRegistrations.{movedInto, startIn, ownIn}
 
 -- ---- days moved into x to y
 

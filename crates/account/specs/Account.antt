@@ -4,7 +4,7 @@ use lib.IntN.{ℤ, pos}
 use Rattle.daybook.specs.declared.AccountQuery.{AccountQuery}
 use Rattle.daybook.specs.Notices.{Numbers}
 use Rattle.daybook.specs.Queries.{account}
-use Rattle.layout.specs.Layout.{standard}
+use Rattle.daybook.specs.Book.{standard}
 use Rattle.layout.specs.Calls.{ofTable}
 
 -- One field: the sum.

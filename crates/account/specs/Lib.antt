@@ -1,3 +1,3 @@
 -- What a User's account is told.
 pub mod Account
-pub mod Registrations
+pub mod InnerRegistrations

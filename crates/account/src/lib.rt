@@ -9,15 +9,15 @@ ghost use lib.IntN.{subℕ};
 ghost use lib.Signed.{leZ};
 ghost use Rattle.numbers.specs.Sums.{sumFrom};
 ghost use Rattle.calendar.specs.Calendar.{isDay};
-ghost use Rattle.daybook.specs.Book.{dayShare};
+ghost use Rattle.daybook.specs.Book.{dayShare, standard};
 ghost use Rattle.daybook.specs.Calls.{accountNumbers};
 ghost use Rattle.daybook.specs.Notices.{isUser};
 ghost use Rattle.daybook.specs.Queries.{ownShare, accountOf};
-ghost use Rattle.layout.specs.Layout.{standard, numAt, tableBook};
+ghost use Rattle.layout.specs.Layout.{numAt, tableBook};
 ghost use Rattle.layout.specs.Sound.{sound};
-ghost use Rattle.readings.specs.Readings.{pointAt, Readable};
+ghost use Rattle.readings.specs.InnerReadings.{pointAt, Readable};
 ghost use Rattle.account.specs.Account.{accountCall};
-ghost use Rattle.account.specs.Registrations.{movedInto, startIn, ownIn};
+ghost use Rattle.account.specs.InnerRegistrations.{movedInto, startIn, ownIn};
 
 // Row 2.
 fn in_range(n: AccountQuery) -> bool

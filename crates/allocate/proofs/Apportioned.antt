@@ -14,16 +14,16 @@ use Rattle.numbers.proofs.Bools.{both}
 use Rattle.calendar.specs.Calendar.{within, isDay}
 use Rattle.calendar.proofs.Dates.{days-order}
 use Rattle.daybook.specs.declared.AllocationQuery.{AllocationQuery}
-use Rattle.daybook.specs.Book.{Point, Book}
+use Rattle.daybook.specs.Book.{Point, Book, standard}
 use Rattle.daybook.specs.Queries.{allocationInRange, atLeast0, tdmOf, nslOf, weight, weights, total, split, pointShares, totalOf, users}
-use Rattle.daybook.proofs.Bounds.{within-bounds}
-use Rattle.daybook.proofs.Splits.{split-length}
-use Rattle.layout.specs.Layout.{standard, numAt, tableBook}
+use Rattle.lists.proofs.Bounds.{within-bounds}
+use Rattle.lists.proofs.Splits.{split-length}
+use Rattle.layout.specs.Layout.{numAt, tableBook}
 use Rattle.point.proofs.Rows.{length-rows}
 use Rattle.table.proofs.Laws.{sound-long}
 use Rattle.readings.proofs.Points.{partPoint, points-are}
 use Rattle.allocate.specs.Allocate.{placed}
-use Rattle.allocate.specs.Parts.{pointsOf, padded, SharesBelow, totalTo, loadOf, Given, givenOf}
+use Rattle.allocate.specs.InnerParts.{pointsOf, padded, SharesBelow, totalTo, loadOf, MaySplit, givenOf}
 use Rattle.allocate.proofs.Loads.{isLoad}
 use Rattle.allocate.proofs.Given.{total-padded, split-padded, split-small, user-total}
 
@@ -75,7 +75,7 @@ placed-long xs out e = simp length-append (omega arith)
 
 -- ---- what is given
 
-module _ {t : List ℤ} {q : AllocationQuery} {ws : List ℕ} {s room : ℕ} (given : Given t q ws s room) where
+module _ {t : List ℤ} {q : AllocationQuery} {ws : List ℕ} {s room : ℕ} (given : MaySplit t q ws s room) where
   abbrev B : Book
   B = tableBook standard t
 

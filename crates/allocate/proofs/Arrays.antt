@@ -10,7 +10,7 @@ use Rattle.daybook.specs.Book.{Point}
 use Rattle.layout.specs.Layout.{numAt}
 use Rattle.point.proofs.Rows.{rowsAt, length-rows, rows-join}
 use Rattle.readings.proofs.Points.{partPoint, points-are}
-use Rattle.allocate.specs.Parts.{pointsOf, padded, Below}
+use Rattle.allocate.specs.InnerParts.{pointsOf, padded, Below}
 
 map-rows : {A B : Type 0} (f : A → B) (p : ℕ → A) (i n : ℕ) → map f (rowsAt p i n) ≡ rowsAt (λ k. f (p k)) i n
 unfolding rowsAt

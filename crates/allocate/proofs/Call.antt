@@ -10,12 +10,13 @@ use borrow.Author.Tests.{eq-eqb, ne-eqb}
 use Rattle.daybook.specs.declared.AllocationQuery.{AllocationQuery}
 use Rattle.daybook.specs.Notices.{Numbers, least, decide}
 use Rattle.daybook.specs.Queries.{allocationInRange, weights, total, allocateRows, allocate}
-use Rattle.daybook.proofs.Rows.{above, least-first, least-skip, decide-taken, decide-refused}
-use Rattle.layout.specs.Layout.{standard, tableBook}
+use Rattle.lists.proofs.Rows.{above, least-first, least-skip, decide-taken, decide-refused}
+use Rattle.daybook.specs.Book.{standard}
+use Rattle.layout.specs.Layout.{tableBook}
 use Rattle.layout.specs.Sound.{sound}
 use Rattle.table.proofs.Calls.{query-unsound, query-sound}
 use Rattle.allocate.specs.Allocate.{allocateCall, placed}
-use Rattle.allocate.specs.Parts.{givenOf}
+use Rattle.allocate.specs.InnerParts.{givenOf}
 
 -- a refusal gives the answer table nothing
 abbrev pub refusal : ℕ → Numbers × List ℤ

@@ -15,9 +15,9 @@ use Rattle.numbers.specs.Shares.{floorPart}
 use Rattle.numbers.proofs.Bools.{cond-same}
 use Rattle.daybook.specs.Book.{Point}
 use Rattle.daybook.specs.Queries.{total, split, totalOf}
-use Rattle.daybook.proofs.Splits.{total-append, split-append, split-length}
+use Rattle.lists.proofs.Splits.{total-append, split-append, split-length}
 use Rattle.layout.specs.Layout.{numAt}
-use Rattle.allocate.specs.Parts.{padded, totalTo}
+use Rattle.allocate.specs.InnerParts.{padded, totalTo}
 use Rattle.allocate.proofs.Splits.{part-small, share-is}
 
 -- ---- weights of 0

@@ -14,7 +14,7 @@ use Rattle.calendar.specs.Calendar.{within, isDay}
 use Rattle.calendar.proofs.Dates.{day-natural, up-to-natural, days-order}
 use Rattle.daybook.specs.declared.AllocationQuery.{AllocationQuery}
 use Rattle.daybook.specs.Queries.{allocationInRange, atLeast0}
-use Rattle.allocate.specs.Parts.{loadOf}
+use Rattle.allocate.specs.InnerParts.{loadOf}
 
 -- ---- an amount of at most 1,000,000,000 either way
 

@@ -11,7 +11,7 @@ use lib.IntN.{ℤ, pos, _-ℤ_}
 use Rattle.numbers.specs.Shares.{floorPart}
 use Rattle.numbers.proofs.Integers.{eqZ, minus-fact}
 use Rattle.daybook.specs.Queries.{total, split}
-use Rattle.daybook.proofs.Splits.{total-append, split-append, split-length}
+use Rattle.lists.proofs.Splits.{total-append, split-append, split-length}
 
 -- ---- the sum of the first k weights
 

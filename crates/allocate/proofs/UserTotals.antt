@@ -14,7 +14,7 @@ use Rattle.numbers.specs.Rows.{all}
 use Rattle.numbers.proofs.Rows.{all-at}
 use Rattle.daybook.specs.Queries.{users}
 use Rattle.layout.specs.Layout.{numAt}
-use Rattle.allocate.specs.Parts.{totalTo}
+use Rattle.allocate.specs.InnerParts.{totalTo}
 
 pub total-none : (us : List ℕ) (xs : List ℤ) (u : ℕ) → totalTo us xs u 0 ≡ 0
 unfolding totalTo

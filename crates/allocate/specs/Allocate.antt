@@ -6,7 +6,7 @@ use lib.ListN.{length, drop, replicate}
 use Rattle.daybook.specs.declared.AllocationQuery.{AllocationQuery}
 use Rattle.daybook.specs.Notices.{Numbers}
 use Rattle.daybook.specs.Queries.{allocate}
-use Rattle.layout.specs.Layout.{standard}
+use Rattle.daybook.specs.Book.{standard}
 use Rattle.layout.specs.Calls.{ofTable}
 
 -- Seventeen fields, the net section load and the sixteen totals, and numbers for the first places of an answer table of

@@ -12,10 +12,11 @@ ghost use lib.IntN.{pos, negsuc, subℕ};
 ghost use Rattle.calendar.specs.Calendar.{within};
 ghost use Rattle.daybook.specs.Queries.{allocationInRange, atLeast0, tdmOf, weight, total as totalOfWeights, split, users};
 ghost use Rattle.daybook.specs.Calls.{allocationNumbers};
-ghost use Rattle.layout.specs.Layout.{standard, numAt, tableBook};
+ghost use Rattle.daybook.specs.Book.{standard};
+ghost use Rattle.layout.specs.Layout.{numAt, tableBook};
 ghost use Rattle.layout.specs.Sound.{sound};
 ghost use Rattle.allocate.specs.Allocate.{allocateCall, placed};
-ghost use Rattle.allocate.specs.Parts.{pointsOf, padded, Below, SharesBelow, totalTo, loadOf, Given, givenOf};
+ghost use Rattle.allocate.specs.InnerParts.{pointsOf, padded, Below, SharesBelow, totalTo, loadOf, MaySplit, givenOf};
 
 // Is this an amount of unaccounted gas or of a linepack change?
 fn load_ok(x: i64) -> bool
@@ -200,7 +201,7 @@ fn refused(row: u64) -> AllocationAnswer
 
 // The load apportioned to the points by their weights, and counted for their FROs.
 fn apportion(t: &[i64], q: AllocationQuery, ws: &[u64], s: u64, out: &mut [i64]) -> AllocationAnswer
-    requires { ⌜ Given (now t) q (now ws) s (length (now out)) ⌝ }
+    requires { ⌜ MaySplit (now t) q (now ws) s (length (now out)) ⌝ }
     ensures { λ r. ⌜ (allocationNumbers r ≡ pos 0 ∷ givenOf q (tableBook standard (now (t .entry))) .0) × (now (out .exit) ≡ placed (givenOf q (tableBook standard (now (t .entry))) .1) (now (out .entry))) ⌝ }
 {
     let gasday = q.gasday;

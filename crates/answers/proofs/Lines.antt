@@ -12,15 +12,15 @@ use Rattle.numbers.specs.Naturals.{natOf}
 use Rattle.daybook.specs.declared.TransferRequest.{TransferRequest}
 use Rattle.transfer.specs.Transfer.{requestCall}
 use Rattle.printing.specs.Rows.{rowOf, Printed}
-use Rattle.answers.specs.Lines.{Outcome, num, requestOf, taking, requestLine, Played}
+use Rattle.answers.specs.Lines.{LineResult, num, requestOf, taking, requestLine, Played}
 
 -- a line that is no call
-pub nothing : {o : Outcome} (t : List ℤ) (out : List ℕ) (at : ℕ) → o ≡ none → Played o t out at t out at
+pub nothing : {o : LineResult} (t : List ℤ) (out : List ℕ) (at : ℕ) → o ≡ none → Played o t out at t out at
 nothing t out at e =
     record { room = omega arith; left = rw e; row = record { from = omega arith; written = rw (e, append-nil) } }
 
 -- a call whose row is xs
-pub something : {o : Outcome} {p : List ℤ × List ℤ} {t t' : List ℤ} {out out' : List ℕ} {at r : ℕ} (xs : List ℤ) → o ≡ some p → r ≤ at + 2048 → t' ≡ p .1 → xs ≡ p .0 → Printed out at (rowOf xs) out' r → Played o t out at t' out' r
+pub something : {o : LineResult} {p : List ℤ × List ℤ} {t t' : List ℤ} {out out' : List ℕ} {at r : ℕ} (xs : List ℤ) → o ≡ some p → r ≤ at + 2048 → t' ≡ p .1 → xs ≡ p .0 → Printed out at (rowOf xs) out' r → Played o t out at t' out' r
 something xs e h l x w =
     record { room = h; left = rw e l; row = rw e (record { from = w .from; written = rw (← x) (w .written) }) }
 

@@ -6,7 +6,7 @@ ghost use Prim.Native.Nat.{_+_, _≤_};
 ghost use lib.ListN.{length};
 ghost use Rattle.daybook.specs.Calls.{noticeNumbers};
 ghost use Rattle.printing.specs.Rows.{rowOf, Printed};
-ghost use Rattle.answers.specs.Lines.{rangesOf, openingOf, energyOf, statusOf, requestOf, withdrawalOf, freshLine, openLine, energyLine, statusLine, requestLine, withdrawLine, Played};
+ghost use Rattle.answers.specs.Lines.{rangesOf, openingOf, energyNoticeOf, statusOf, requestOf, withdrawalOf, freshLine, openLine, energyLine, statusLine, requestLine, withdrawLine, Played};
 use daybook::EnergyAnswer;
 use daybook::EnergyNotice;
 use daybook::NoticeAnswer;
@@ -77,14 +77,14 @@ pub fn open(t: &mut [i64], nums: &[i64], out: &mut [u8], at: usize) -> usize
 
 fn to_energy(nums: &[i64]) -> EnergyNotice
     requires { ⌜ 6 ≤ length (now nums) ⌝ }
-    ensures { λ r. ⌜ r ≡ energyOf (now (nums .entry)) ⌝ }
+    ensures { λ r. ⌜ r ≡ energyNoticeOf (now (nums .entry)) ⌝ }
 {
     EnergyNotice {
         mirn: nums[0],
         start: nums[1],
         end: nums[2],
         energy: nums[3],
-        quality: nums[4],
+        type_: nums[4],
         confirmed: nums[5],
     }
 }

@@ -13,7 +13,8 @@ use Rattle.numbers.proofs.Naturals.{natOf-is}
 use Rattle.words.specs.Words.{withNumber, withWord}
 use Rattle.words.specs.Tables.{encodedInto}
 use Rattle.daybook.specs.Notices.{Numbers}
-use Rattle.buffers.specs.Buffers.{bitsOf, withNumbers, replied, written}
+use Rattle.buffers.specs.InnerBuffers.{bitsOf}
+use Rattle.buffers.specs.Buffers.{withNumbers, replied, written}
 
 abbrev pub refusalOf : Numbers → ℕ
 refusalOf ns = natOf (getD ns 0 (pos 0))

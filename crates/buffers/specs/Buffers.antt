@@ -20,10 +20,6 @@ numbersIn b n = decodedInto (replicate n (pos 0)) 0 b 0 n
 unfoldable pub withNumbers : List ℤ → List ℕ → List ℕ
 withNumbers xs b = encodedInto b 0 xs 0 (length xs)
 
--- The 64 bits of each number, in two's complement.
-abbrev pub bitsOf : List ℤ → List ℕ
-bitsOf xs = map (ofZ w64) xs
-
 -- A register's table: none of its numbers, so that it gets 1, where its bytes are too few.
 unfoldable pub tableIn : List ℕ → List ℤ
 tableIn register = numbersIn register (cond (leb (8 * tableLength) (length register)) tableLength 0)

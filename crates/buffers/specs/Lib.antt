@@ -1,2 +1,3 @@
 -- What a call reads from byte buffers and leaves of them.
 pub mod Buffers
+pub mod InnerBuffers

@@ -10,8 +10,9 @@ use lib.ListN.{length}
 use borrow.Author.Tests.{leb-true, leb-false}
 use Rattle.daybook.specs.declared.Ranges.{Ranges}
 use Rattle.daybook.specs.Notices.{Numbers, least, decide, freshRows, fresh}
-use Rattle.layout.specs.Layout.{tableLength, standard, tableBook, written}
-use Rattle.layout.specs.Calls.{leaves}
+use Rattle.layout.specs.Layout.{tableLength, tableBook, withBook}
+use Rattle.daybook.specs.Book.{standard}
+use Rattle.layout.specs.Calls.{answerAndTable}
 use Rattle.opening.specs.Opening.{freshCall}
 use Rattle.buffers.specs.Buffers.{withNumbers, tableIn}
 use Rattle.history.specs.Lists.{freshState}
@@ -24,7 +25,7 @@ use Rattle.bytelists.proofs.Steps.{Holds}
 -- An accepted fresh found a table that is long enough, and wrote the empty book over it.
 record Accepted (t v : List ℤ) (n : Ranges) : Type 0 where
   long : tableLength ≤ length t
-  is : v ≡ written standard t (freshState n .book)
+  is : v ≡ withBook standard t (freshState n .book)
 
 accepted-is : (t : List ℤ) (n : Ranges) → freshCall t n .0 ≡ pos 0 ∷ [] → Accepted t (freshCall t n .1) n
 unfolding freshCall fresh decide
@@ -32,7 +33,7 @@ accepted-is t n = go (leb tableLength (length t)) refl (least (freshRows n))
   where
     given : Bool → ℕ → Numbers × List ℤ
     given long row =
-        cond long (leaves standard t (decide row 0 (tableBook standard t) ([], freshState n .book))) (pos 1 ∷ [], t)
+        cond long (answerAndTable standard t (decide row 0 (tableBook standard t) ([], freshState n .book))) (pos 1 ∷ [], t)
 
     go : (long : Bool) → leb tableLength (length t) ≡ long → (row : ℕ) → given long row .0 ≡ pos 0 ∷ [] → Accepted t (given long row .1) n
     go true h zero e = record { long = leb-true tableLength (length t) h; is = refl }

@@ -13,11 +13,11 @@ use mir.Syntax.{w64}
 use mir.Val.{SFits}
 use Rattle.numbers.proofs.Bools.{both}
 use Rattle.calendar.specs.Calendar.{within}
-use Rattle.daybook.specs.Book.{Entry, Pending}
-use Rattle.daybook.proofs.Lists.{Lists, Register}
-use Rattle.daybook.proofs.Well.{Regs, noreg, reg, Spans, nospan, still, ended, Recs, norec, rec, PendingOk, nopending, pending, FactsOk, Well, Points, nopoint, point, WellFormed}
-use Rattle.daybook.proofs.Apart.{fits-le}
-use Rattle.layout.specs.Layout.{tableLength, standard, pad, regNumbers, offNumbers, recNumbers, asked, headNumbers, pointNumbers, pointsNumbers, layout}
+use Rattle.daybook.specs.Book.{Entry, Pending, standard}
+use Rattle.lists.specs.Lists.{Lists, Register}
+use Rattle.lists.specs.InnerWell.{Regs, noreg, reg, Spans, nospan, still, ended, Recs, norec, rec, PendingOk, nopending, pending, FactsOk, Well, Points, nopoint, point, WellFormed}
+use Rattle.lists.proofs.Apart.{fits-le}
+use Rattle.layout.specs.Layout.{tableLength, pad, regNumbers, offNumbers, recNumbers, pendingOrZeros, headNumbers, pointNumbers, pointsNumbers, layout}
 use Rattle.layout.specs.Sound.{sound}
 use Rattle.layout.proofs.TableSound.{sound-lays, standard-fits}
 
@@ -80,7 +80,7 @@ fit-recs {kind} (rec {x = x} s k e w t o r) =
 
 -- The three numbers of a pending request, with others behind them.
 fit-pending : {regs : List (ℕ × ℕ)} {o : Option Pending} → PendingOk regs o → {l : List ℤ} → AllFit l
-    → AllFit (pos (asked o .user) ∷ pos (asked o .first) ∷ pos (asked o .last) ∷ l)
+    → AllFit (pos (pendingOrZeros o .user) ∷ pos (pendingOrZeros o .first) ∷ pos (pendingOrZeros o .last) ∷ l)
 fit-pending nopending f = natural 0 (omega arith) (natural 0 (omega arith) (natural 0 (omega arith) f))
 fit-pending (pending {q = q} a b c d e g) f =
     natural (q .user) (omega arith) (natural (q .first) (omega arith) (natural (q .last) (omega arith) f))

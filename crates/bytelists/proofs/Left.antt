@@ -6,25 +6,25 @@ use Prim.Native.Nat.{ℕ, _+_, _-_}
 use native.Mathlib.Omega.{arith}
 use lib.IntN.{ℤ}
 use lib.ListN.{length, drop, length-append, length-drop}
-use Rattle.daybook.specs.Book.{Book}
+use Rattle.daybook.specs.Book.{Book, standard}
 use Rattle.daybook.specs.Notices.{Numbers}
 use Rattle.daybook.specs.Calls.{State, Answer}
-use Rattle.daybook.proofs.Lists.{Register}
-use Rattle.daybook.proofs.Well.{WellFormed}
-use Rattle.layout.specs.Layout.{tableLength, standard, layout, registerOf, tableBook, written}
+use Rattle.lists.specs.Lists.{Register}
+use Rattle.lists.specs.InnerWell.{WellFormed}
+use Rattle.layout.specs.Layout.{tableLength, layout, registerOf, tableBook, withBook}
 use Rattle.layout.specs.Sound.{sound}
-use Rattle.layout.specs.Calls.{refused, leaves}
+use Rattle.layout.specs.Calls.{refused, answerAndTable}
 use Rattle.layout.proofs.Tables.{written-is}
 use Rattle.layout.proofs.TableSound.{sound-lays, standard-fits}
 use Rattle.layout.proofs.PointParts.{all-few-of, layout-length}
 use Rattle.history.proofs.Steps.{Follows}
 
 -- a book that a sound table stands for, written over a table of a register's length, leaves it that long
-pub written-length : (t v : List ℤ) (B : Book) → sound standard v ≡ true → tableBook standard v ≡ B → v ≡ written standard t B
+pub written-length : (t v : List ℤ) (B : Book) → sound standard v ≡ true → tableBook standard v ≡ B → v ≡ withBook standard t B
     → length t ≡ tableLength → length v ≡ tableLength
 unfolding tableBook
 written-length t v B s e w h =
-    ap length (w ∙ ap (written standard t) (sym e) ∙ written-is standard ok t) ∙ length-append (layout standard R) (drop tableLength t)
+    ap length (w ∙ ap (withBook standard t) (sym e) ∙ written-is standard ok t) ∙ length-append (layout standard R) (drop tableLength t)
     ∙ sum (length (layout standard R)) (length (drop tableLength t)) (length t) laid (length-drop tableLength t) h
   where
     R : Register
@@ -49,7 +49,7 @@ pub record Left (t : List ℤ) (w : Numbers × List ℤ) : Type 0 where
   pub long : length (w .1) ≡ tableLength
   pub sentBack : refused (w .0) ≡ true → w .1 ≡ t
 
-pub notice-leaves : (t : List ℤ) → length t ≡ tableLength → (w : Numbers × List ℤ) (x : Numbers × Book) → w ≡ leaves standard t x
+pub notice-leaves : (t : List ℤ) → length t ≡ tableLength → (w : Numbers × List ℤ) (x : Numbers × Book) → w ≡ answerAndTable standard t x
     → Follows ((w .0, []), w .1) (noted x) → Left t w
 notice-leaves t h w x e f =
     record {
@@ -58,9 +58,9 @@ notice-leaves t h w x e f =
       sentBack = λ k. ap (λ (v : Numbers × List ℤ). v .1) e ∙ back (ap (λ (v : Numbers × List ℤ). refused (v .0)) (sym e) ∙ k);
     }
   where
-    go : (b : Bool) → w .1 ≡ cond b t (written standard t (x .1)) → length (w .1) ≡ tableLength
+    go : (b : Bool) → w .1 ≡ cond b t (withBook standard t (x .1)) → length (w .1) ≡ tableLength
     go true k = ap length k ∙ h
     go false k = written-length t (w .1) (x .1) (f .isSound) (ap (λ (v : Answer × State). v .1 .book) (f .same)) k h
 
-    back : refused (x .0) ≡ true → cond (refused (x .0)) t (written standard t (x .1)) ≡ t
-    back k = ap (λ b. cond b t (written standard t (x .1))) k
+    back : refused (x .0) ≡ true → cond (refused (x .0)) t (withBook standard t (x .1)) ≡ t
+    back k = ap (λ b. cond b t (withBook standard t (x .1))) k

@@ -8,7 +8,7 @@ use lib.IntN.{ℤ, pos}
 use lib.ListN.{length}
 use Rattle.daybook.specs.declared.Ranges.{Ranges}
 use Rattle.daybook.specs.Calls.{Call, State, Answer, step}
-use Rattle.layout.specs.Layout.{standard}
+use Rattle.daybook.specs.Book.{standard}
 use Rattle.opening.specs.Opening.{freshCall}
 use Rattle.buffers.specs.Buffers.{withNumbers, tableIn, replied}
 use Rattle.history.specs.Lists.{tableStep, freshState}

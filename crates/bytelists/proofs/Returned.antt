@@ -11,8 +11,9 @@ use Rattle.numbers.specs.Naturals.{sameZ}
 use Rattle.daybook.specs.declared.Ranges.{Ranges}
 use Rattle.daybook.specs.Notices.{Numbers, least, decide, freshRows, fresh}
 use Rattle.daybook.specs.Calls.{fresh!, run}
-use Rattle.layout.specs.Layout.{tableLength, standard, tableBook}
-use Rattle.layout.specs.Calls.{leaves}
+use Rattle.layout.specs.Layout.{tableLength, tableBook}
+use Rattle.daybook.specs.Book.{standard}
+use Rattle.layout.specs.Calls.{answerAndTable}
 use Rattle.opening.specs.Opening.{freshCall}
 use Rattle.buffers.specs.Buffers.{withNumbers, tableIn, replied, written}
 use Rattle.history.specs.Lists.{tableRun, freshState}
@@ -48,7 +49,7 @@ fresh-zero t n = go (leb tableLength (length t)) (least (freshRows n))
   where
     given : Bool → ℕ → Numbers × List ℤ
     given long row =
-        cond long (leaves standard t (decide row 0 (tableBook standard t) ([], freshState n .book))) (pos 1 ∷ [], t)
+        cond long (answerAndTable standard t (decide row 0 (tableBook standard t) ([], freshState n .book))) (pos 1 ∷ [], t)
 
     go : (long : Bool) (row : ℕ) → getD (given long row .0) 0 (pos 0) ≡ pos 0 → given long row .0 ≡ pos 0 ∷ []
     go true zero e = refl

@@ -12,12 +12,12 @@ use borrow.Author.Tests.{le-leb}
 use Rattle.numbers.specs.Naturals.{sameZ}
 use Rattle.numbers.proofs.Bools.{cond-same}
 use Rattle.daybook.specs.declared.Ranges.{Ranges}
-use Rattle.daybook.specs.Book.{Book}
+use Rattle.daybook.specs.Book.{Book, standard}
 use Rattle.daybook.specs.Notices.{Numbers, fresh, opening, energy, status, request, withdraw}
 use Rattle.daybook.specs.Calls.{Call, fresh!, open!, energy!, status!, request!, withdraw!, account!, allocate!, step}
-use Rattle.layout.specs.Layout.{tableLength, standard, tableBook}
+use Rattle.layout.specs.Layout.{tableLength, tableBook}
 use Rattle.layout.specs.Sound.{sound}
-use Rattle.layout.specs.Calls.{refused, leaves, onTable}
+use Rattle.layout.specs.Calls.{refused, answerAndTable, onTable}
 use Rattle.opening.specs.Opening.{freshCall, openCall}
 use Rattle.energy.specs.Energy.{energyCall}
 use Rattle.status.specs.Status.{statusCall}
@@ -77,15 +77,15 @@ module _ (b : List ℕ) (r : Holds b) (answer : List ℕ) where
 
   -- ---- a call
 
-  notice : (w : Numbers × List ℤ) (x : Numbers × Book) → w ≡ leaves standard t x → Follows ((w .0, []), w .1) (noted x)
+  notice : (w : Numbers × List ℤ) (x : Numbers × Book) → w ≡ answerAndTable standard t x → Follows ((w .0, []), w .1) (noted x)
       → Leaves b (written w b answer .1 .0) (leb (8 * length (w .0)) (length answer)) (w .1)
   notice w x e f = written-leaves w (notice-leaves t (table-whole b (r .long)) w x e f)
 
-  on-sound : (k : ℕ) (step : Book → Numbers × Book) → onTable k step standard t ≡ leaves standard t (step B)
+  on-sound : (k : ℕ) (step : Book → Numbers × Book) → onTable k step standard t ≡ answerAndTable standard t (step B)
   unfolding onTable
   on-sound k step = rw (r .isSound)
 
-  fresh-sound : (n : Ranges) → freshCall t n ≡ leaves standard t (fresh n B)
+  fresh-sound : (n : Ranges) → freshCall t n ≡ answerAndTable standard t (fresh n B)
   unfolding freshCall
   fresh-sound n = rw (le-leb tableLength (length t) (omega (arith, table-whole b (r .long))))
 

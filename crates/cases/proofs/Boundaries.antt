@@ -10,7 +10,7 @@ use lib.ListN.{replicate}
 use Rattle.daybook.specs.Book.{Entry, Pending, Point, Edition}
 use Rattle.daybook.specs.Notices.{least, append, replacement, recut, registers, lapses, stays, outcomeOf, statusRows, requestRows}
 use Rattle.daybook.specs.Calls.{Call, State}
-use Rattle.cases.proofs.Journal.{Fresh, Open, Energy, Status, Request, Withdraw, Account, Allocate, toldFrom, told, these}
+use Rattle.cases.specs.Journal.{Fresh, Open, Energy, Status, Request, Withdraw, Account, Allocate, answersFrom, answersOf, naturals}
 
 -- 1 point of 1 record, where only the bounds of the edition count
 abbrev small : Edition
@@ -29,9 +29,9 @@ full =
     ∷ Open 1 0 1 0 (pos 7)
     ∷ []
 
-full-told :
-    told small full
-    ≡ these
+full-answers :
+    answersOf small full
+    ≡ naturals
     ((0 ∷ [])
     ∷ (0 ∷ [])
     ∷ (0 ∷ 1 ∷ 0 ∷ 0 ∷ 0 ∷ [])
@@ -41,8 +41,8 @@ full-told :
     ∷ (16 ∷ [])
     ∷ (5 ∷ [])
     ∷ [])
-unfolding toldFrom full
-full-told = refl
+unfolding answersFrom full
+full-answers = refl
 
 -- off while off, at or before the last on day or the last filled day, before install; on while on, not after the off day
 switched : List Call
@@ -61,9 +61,9 @@ switched =
     ∷ Status 1 7 0
     ∷ []
 
-switched-told :
-    told small switched
-    ≡ these
+switched-answers :
+    answersOf small switched
+    ≡ naturals
     ((0 ∷ [])
     ∷ (0 ∷ [])
     ∷ (14 ∷ [])
@@ -77,8 +77,8 @@ switched-told :
     ∷ (0 ∷ 1 ∷ 0 ∷ 0 ∷ 0 ∷ [])
     ∷ (0 ∷ [])
     ∷ [])
-unfolding toldFrom switched
-switched-told = refl
+unfolding answersFrom switched
+switched-answers = refl
 
 -- with eight closed spans an off notice would be the ninth; an on notice is refused by 14
 eight : List (ℕ × Option ℕ)
@@ -87,7 +87,7 @@ eight =
 
 ninth-span :
     (least (statusRows 16 0 0 none eight) ≡ 16) × (least (statusRows 15 0 0 none eight) ≡ 14) × (least (statusRows 16 1 0 none eight) ≡ 14)
-unfolding toldFrom eight
+unfolding answersFrom eight
 ninth-span = (refl, refl, refl)
 
 -- with eight registrations no request is taken; of two rows that apply the lower is returned
@@ -95,7 +95,7 @@ ninth-registration :
     (least (requestRows 2 (some (0, 28)) none (replicate 8 (0, 1)) 1) ≡ 16)
     × (least (requestRows 2 (some (0, 28)) none (replicate 7 (0, 1)) 1) ≡ 0)
     × (least (requestRows 1 none none (replicate 8 (0, 1)) 1) ≡ 12)
-unfolding toldFrom
+unfolding answersFrom
 ninth-registration = (refl, refl, refl)
 
 -- a record that ends before the window leaves the request, on its first and on its last day it registers, unless a later
@@ -126,12 +126,12 @@ lapsed =
     ∷ Withdraw 5 2
     ∷ []
 
-lapsed-told :
-    told small lapsed
-    ≡ these
+lapsed-answers :
+    answersOf small lapsed
+    ≡ naturals
     ((0 ∷ []) ∷ (0 ∷ []) ∷ (0 ∷ 0 ∷ 28 ∷ []) ∷ (10 ∷ 0 ∷ 0 ∷ []) ∷ (0 ∷ 1 ∷ 0 ∷ 0 ∷ 1 ∷ []) ∷ (11 ∷ []) ∷ [])
-unfolding toldFrom lapsed
-lapsed-told = refl
+unfolding answersFrom lapsed
+lapsed-answers = refl
 
 -- the last days: a window that would end on day 40,000, a registration from day 40,000, and no day left to append
 last-days : List Call
@@ -148,9 +148,9 @@ last-days =
     ∷ Account 1 39990 39999
     ∷ []
 
-last-days-told :
-    told small last-days
-    ≡ these
+last-days-answers :
+    answersOf small last-days
+    ≡ naturals
     ((0 ∷ [])
     ∷ (0 ∷ [])
     ∷ (3 ∷ 0 ∷ 0 ∷ [])
@@ -162,8 +162,8 @@ last-days-told :
     ∷ (7 ∷ 0 ∷ 0 ∷ 0 ∷ 0 ∷ [])
     ∷ (0 ∷ 5 ∷ [])
     ∷ [])
-unfolding toldFrom last-days
-last-days-told = refl
+unfolding answersFrom last-days
+last-days-answers = refl
 
 -- TDM: day g; else g - 7 where all seven days are filled; else g - 1; else 0. Here day d of a daily point has 10 + d,
 -- for the days before n, and a non-daily point of User 2 takes the rest.
@@ -190,9 +190,9 @@ metered n =
 load : ℕ → List ℕ
 load nsl = 0 ∷ nsl ∷ 0 ∷ nsl ∷ replicate 14 0
 
-metered-told :
-    (toldFrom (metered 6) (Allocate 6 0 1 50 ∷ Allocate 7 0 1 50 ∷ []) ≡ these (load 35 ∷ load 50 ∷ []))
-    × (toldFrom (metered 7) (Allocate 6 0 1 50 ∷ Allocate 7 0 1 50 ∷ Allocate 7 0 1 5 ∷ Allocate 8 0 1 50 ∷ []) ≡ these (load 34 ∷ load 40 ∷ load 0 ∷ load 50 ∷ []))
-    × (toldFrom (metered 7) (Allocate 9 0 1 50 ∷ Allocate 8 8 8 50 ∷ []) ≡ these ((15 ∷ replicate 17 0) ∷ (2 ∷ replicate 17 0) ∷ []))
-unfolding toldFrom metered load
-metered-told = (refl, refl, refl)
+metered-answers :
+    (answersFrom (metered 6) (Allocate 6 0 1 50 ∷ Allocate 7 0 1 50 ∷ []) ≡ naturals (load 35 ∷ load 50 ∷ []))
+    × (answersFrom (metered 7) (Allocate 6 0 1 50 ∷ Allocate 7 0 1 50 ∷ Allocate 7 0 1 5 ∷ Allocate 8 0 1 50 ∷ []) ≡ naturals (load 34 ∷ load 40 ∷ load 0 ∷ load 50 ∷ []))
+    × (answersFrom (metered 7) (Allocate 9 0 1 50 ∷ Allocate 8 8 8 50 ∷ []) ≡ naturals ((15 ∷ replicate 17 0) ∷ (2 ∷ replicate 17 0) ∷ []))
+unfolding answersFrom metered load
+metered-answers = (refl, refl, refl)

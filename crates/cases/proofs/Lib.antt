@@ -1,4 +1,3 @@
 -- Document 01's marked cases, and answers at the boundaries, computed from the definitions.
-pub mod Journal
 pub mod Marked
 pub mod Boundaries

@@ -48,6 +48,9 @@ pub record Edition : Type 0 where
   pub points : ℕ
   pub records : ℕ
 
+abbrev pub standard : Edition
+standard = record { points = 32; records = 48 }
+
 -- How many days the book has: 0 to 40,000.
 abbrev pub days : ℕ
 days = 40001

@@ -66,16 +66,16 @@ pub record State : Type 0 where
 abbrev pub Answer : Type 0
 Answer = Numbers × List ℤ
 
-abbrev leaves : State → Numbers × Book → Answer × State
-leaves S w = ((w .0, []), record { edition = S .edition; book = w .1 })
+abbrev answerAndState : State → Numbers × Book → Answer × State
+answerAndState S w = ((w .0, []), record { edition = S .edition; book = w .1 })
 
 unfoldable pub step : Call → State → Answer × State
-step (fresh! n) S = leaves S (fresh n (S .book))
-step (open! n) S = leaves S (opening (S .edition) n (S .book))
-step (energy! n) S = leaves S (energy (S .edition) n (S .book))
-step (status! n) S = leaves S (status n (S .book))
-step (request! n holidays) S = leaves S (request n holidays (S .book))
-step (withdraw! n) S = leaves S (withdraw n (S .book))
+step (fresh! n) S = answerAndState S (fresh n (S .book))
+step (open! n) S = answerAndState S (opening (S .edition) n (S .book))
+step (energy! n) S = answerAndState S (energy (S .edition) n (S .book))
+step (status! n) S = answerAndState S (status n (S .book))
+step (request! n holidays) S = answerAndState S (request n holidays (S .book))
+step (withdraw! n) S = answerAndState S (withdraw n (S .book))
 step (account! n) S = ((account n (S .book), []), S)
 step (allocate! n room) S = (allocate n room (S .book), S)
 

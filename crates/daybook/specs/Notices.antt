@@ -124,11 +124,11 @@ unfoldable pub which : Point → Entry → Which
 which p x = whichOf (x .end) (recordAt (p .entry) (x .start))
 
 unfoldable pub entryOf : EnergyNotice → Entry
-entryOf n = record { start = natOf (n .start); end = natOf (n .end); energy = n .energy; type = natOf (n .quality) }
+entryOf n = record { start = natOf (n .start); end = natOf (n .end); energy = n .energy; type = natOf (n .«type_») }
 
 unfoldable pub energyEarly : EnergyNotice → List Row
 energyEarly n =
-    (2, not (isMirn (n .mirn) && isDay (n .start) && isDay (n .end) && within (negsuc 999999) (pos 1000000) (n .energy) && within (pos 0) (pos 2) (n .quality) && isFlag (n .confirmed)))
+    (2, not (isMirn (n .mirn) && isDay (n .start) && isDay (n .end) && within (negsuc 999999) (pos 1000000) (n .energy) && within (pos 0) (pos 2) (n .«type_») && isFlag (n .confirmed)))
     ∷ []
 
 -- A non-daily record has start < end, a daily one start = end.

@@ -20,7 +20,7 @@ pub struct EnergyNotice {
     pub start: i64,
     pub end: i64,
     pub energy: i64,
-    pub quality: i64,
+    pub type_: i64,
     pub confirmed: i64,
 }
 

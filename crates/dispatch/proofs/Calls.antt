@@ -7,17 +7,17 @@ use lib.IntN.{ℤ}
 use lib.ListN.{take, drop, take-append-drop}
 use types.Run.{OneOf, miss}
 use denote.Enum.Declared.{tagOf}
-use Rattle.journal.specs.declared.Call.{Call}
-use Rattle.journal.specs.declared.Call.the-variants.{Fresh, Open, Energy, Status, Request, Withdraw, Account, Allocate, Date, Look, Table, Poke, Lend, Room, Hub, Unknown}
-use Rattle.journal.proofs.Call.{the-type}
-use Rattle.answers.specs.Lines.{Outcome, Played}
+use Rattle.journal.specs.declared.Command.{Command}
+use Rattle.journal.specs.declared.Command.the-variants.{Fresh, Open, Energy, Status, Request, Withdraw, Account, Allocate, Date, Look, Table, Poke, Lend, Room, Hub, Unknown}
+use Rattle.journal.proofs.Command.{the-type}
+use Rattle.answers.specs.Lines.{LineResult, Played}
 use Rattle.dispatch.specs.Calls.{noticeLine, onLent, callLine}
 
 -- the numbers of the calls that are no notices
 abbrev others : List ℕ
 others = 6 ∷ 7 ∷ 8 ∷ 9 ∷ 10 ∷ 11 ∷ 12 ∷ 13 ∷ 14 ∷ 15 ∷ []
 
-pub no-notice : (call : Call) (t xs : List ℤ) → OneOf others (tagOf the-type call) → noticeLine call t xs ≡ none
+pub no-notice : (call : Command) (t xs : List ℤ) → OneOf others (tagOf the-type call) → noticeLine call t xs ≡ none
 no-notice Fresh t xs k = absurd (miss others 0 tt k)
 no-notice Open t xs k = absurd (miss others 1 tt k)
 no-notice Energy t xs k = absurd (miss others 2 tt k)
@@ -36,13 +36,13 @@ no-notice Hub t xs k = refl
 no-notice Unknown t xs k = refl
 
 -- an outcome on the first numbers of a buffer is one on the buffer
-pub on-lent : {out out' : List ℕ} {at r : ℕ} (t u : List ℤ) (lent : ℕ) (o : Outcome) → Played o (take lent t) out at u out' r → Played (onLent t lent o) t out at (u ++ drop lent t) out' r
+pub on-lent : {out out' : List ℕ} {at r : ℕ} (t u : List ℤ) (lent : ℕ) (o : LineResult) → Played o (take lent t) out at u out' r → Played (onLent t lent o) t out at (u ++ drop lent t) out' r
 on-lent t u lent none p =
     record { room = p .room; left = ap (λ (v : List ℤ). v ++ drop lent t) (p .left) ∙ take-append-drop lent t; row = p .row }
 on-lent t u lent (some o) p =
     record { room = p .room; left = ap (λ (v : List ℤ). v ++ drop lent t) (p .left); row = p .row }
 
-pub on-lent-kept : {out out' : List ℕ} {at r : ℕ} (t : List ℤ) (lent : ℕ) (o : Outcome) → Played o (take lent t) out at (take lent t) out' r → Played (onLent t lent o) t out at t out' r
+pub on-lent-kept : {out out' : List ℕ} {at r : ℕ} (t : List ℤ) (lent : ℕ) (o : LineResult) → Played o (take lent t) out at (take lent t) out' r → Played (onLent t lent o) t out at t out' r
 on-lent-kept t lent o p =
     let q = on-lent t (take lent t) lent o p in
     record { room = q .room; left = sym (take-append-drop lent t) ∙ q .left; row = q .row }
@@ -51,7 +51,7 @@ on-lent-kept t lent o p =
 abbrev lent-on : List ℕ
 lent-on = 0 ∷ 1 ∷ 2 ∷ 3 ∷ 4 ∷ 5 ∷ 12 ∷ 13 ∷ 14 ∷ 15 ∷ []
 
-pub goes-on : (call : Call) (t : List ℤ) (lent room : ℕ) (xs : List ℤ) → OneOf lent-on (tagOf the-type call) → callLine call t lent room xs ≡ onLent t lent (noticeLine call (take lent t) xs)
+pub goes-on : (call : Command) (t : List ℤ) (lent room : ℕ) (xs : List ℤ) → OneOf lent-on (tagOf the-type call) → callLine call t lent room xs ≡ onLent t lent (noticeLine call (take lent t) xs)
 goes-on Fresh t lent room xs k = refl
 goes-on Open t lent room xs k = refl
 goes-on Energy t lent room xs k = refl

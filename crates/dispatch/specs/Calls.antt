@@ -5,13 +5,13 @@ use Prim.Native.Nat.{ℕ}
 use lib.IntN.{ℤ}
 use lib.ListN.{take, drop}
 use Rattle.numbers.specs.Search.{maybe}
-use Rattle.journal.specs.declared.Call.{Call}
-use Rattle.journal.specs.declared.Call.the-variants.{Fresh, Open, Energy, Status, Request, Withdraw, Account, Allocate, Date, Look, Table, Poke, Lend, Room, Hub, Unknown}
-use Rattle.answers.specs.Lines.{Outcome, freshLine, openLine, energyLine, statusLine, requestLine, withdrawLine}
+use Rattle.journal.specs.declared.Command.{Command}
+use Rattle.journal.specs.declared.Command.the-variants.{Fresh, Open, Energy, Status, Request, Withdraw, Account, Allocate, Date, Look, Table, Poke, Lend, Room, Hub, Unknown}
+use Rattle.answers.specs.Lines.{LineResult, freshLine, openLine, energyLine, statusLine, requestLine, withdrawLine}
 use Rattle.queries.specs.Lines.{accountLine, allocateLine, dateLine, lookLine, pokeLine, tableLine}
 
 -- The notices, on the numbers that they are lent.
-abbrev pub noticeLine : Call → List ℤ → List ℤ → Outcome
+abbrev pub noticeLine : Command → List ℤ → List ℤ → LineResult
 noticeLine Fresh t xs = freshLine t xs
 noticeLine Open t xs = openLine t xs
 noticeLine Energy t xs = energyLine t xs
@@ -30,11 +30,11 @@ noticeLine Hub t xs = none
 noticeLine Unknown t xs = none
 
 -- The outcome on the first numbers of a buffer is one on the buffer: the others stay.
-abbrev pub onLent : List ℤ → ℕ → Outcome → Outcome
+abbrev pub onLent : List ℤ → ℕ → LineResult → LineResult
 onLent t lent o = maybe none (λ p. some (p .0, p .1 ++ drop lent t)) o
 
 -- Any call but tlen, alen and those on bytes, on a buffer of which the first numbers are lent, with an answer table of `room` numbers.
-abbrev pub callLine : Call → List ℤ → ℕ → ℕ → List ℤ → Outcome
+abbrev pub callLine : Command → List ℤ → ℕ → ℕ → List ℤ → LineResult
 callLine Fresh t lent room xs = onLent t lent (freshLine (take lent t) xs)
 callLine Open t lent room xs = onLent t lent (openLine (take lent t) xs)
 callLine Energy t lent room xs = onLent t lent (energyLine (take lent t) xs)

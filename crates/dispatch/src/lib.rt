@@ -3,27 +3,27 @@ ghost use Prim.Native.Nat.{_+_, _≤_};
 ghost use lib.ListN.{length};
 ghost use Rattle.answers.specs.Lines.{Played};
 ghost use Rattle.dispatch.specs.Calls.{noticeLine, callLine};
-use journal::Call;
+use journal::Command;
 
 // A notice, on the numbers that it is lent.
-fn notice(call: Call, t: &mut [i64], nums: &[i64], out: &mut [u8], at: usize) -> usize
+fn notice(call: Command, t: &mut [i64], nums: &[i64], out: &mut [u8], at: usize) -> usize
     requires { ⌜ at + 2048 ≤ length (now out) ⌝ }
     ensures { λ r. ⌜ Played (noticeLine call (now (t .entry)) (now (nums .entry))) (now (t .entry)) (now (out .entry)) at (now (t .exit)) (now (out .exit)) r ⌝ }
 {
     match call {
-        Call::Fresh => answers::fresh(t, nums, out, at),
-        Call::Open => answers::open(t, nums, out, at),
-        Call::Energy => answers::energy(t, nums, out, at),
-        Call::Status => answers::status(t, nums, out, at),
-        Call::Request => answers::request(t, nums, out, at),
-        Call::Withdraw => answers::withdraw(t, nums, out, at),
+        Command::Fresh => answers::fresh(t, nums, out, at),
+        Command::Open => answers::open(t, nums, out, at),
+        Command::Energy => answers::energy(t, nums, out, at),
+        Command::Status => answers::status(t, nums, out, at),
+        Command::Request => answers::request(t, nums, out, at),
+        Command::Withdraw => answers::withdraw(t, nums, out, at),
         _ => at,
     }
 }
 
 // Any call but tlen, alen and those on bytes. Poke and table reach the whole buffer.
 pub fn answer(
-    call: Call,
+    call: Command,
     t: &mut [i64],
     lent: usize,
     room: usize,
@@ -35,12 +35,12 @@ pub fn answer(
     ensures { λ r. ⌜ Played (callLine call (now (t .entry)) lent room (now (nums .entry))) (now (t .entry)) (now (out .entry)) at (now (t .exit)) (now (out .exit)) r ⌝ }
 {
     match call {
-        Call::Account => queries::account(&t[0..lent], nums, out, at),
-        Call::Allocate => queries::allocate(&t[0..lent], room, nums, out, at),
-        Call::Date => queries::date(t, nums, out, at),
-        Call::Look => queries::look(&t[0..lent], nums, out, at),
-        Call::Table => queries::table(t, nums, out, at),
-        Call::Poke => queries::poke(t, nums, out, at),
+        Command::Account => queries::account(&t[0..lent], nums, out, at),
+        Command::Allocate => queries::allocate(&t[0..lent], room, nums, out, at),
+        Command::Date => queries::date(t, nums, out, at),
+        Command::Look => queries::look(&t[0..lent], nums, out, at),
+        Command::Table => queries::table(t, nums, out, at),
+        Command::Poke => queries::poke(t, nums, out, at),
         _ => notice(call, &mut t[0..lent], nums, out, at),
     }
 }

@@ -14,12 +14,13 @@ use Rattle.numbers.proofs.Bools.{both}
 use Rattle.numbers.proofs.Naturals.{bias-is}
 use Rattle.daybook.specs.declared.EnergyNotice.{EnergyNotice}
 use Rattle.daybook.specs.Notices.{least, isRange, entryOf, energyEarly, energyRows, energy}
-use Rattle.daybook.proofs.Lists.{Register}
-use Rattle.daybook.proofs.Steps.{enterLists, energyListsRows, energyLists}
-use Rattle.daybook.proofs.Well.{WellFormed}
-use Rattle.daybook.proofs.Rows.{above}
-use Rattle.daybook.proofs.EnergyStep.{energy-step, energy-keeps, energy-clear, enter-keeps}
-use Rattle.layout.specs.Layout.{standard, partOf, withPart, registerOf}
+use Rattle.lists.specs.Lists.{Register}
+use Rattle.lists.specs.InnerSteps.{enterLists, energyListsRows, energyLists}
+use Rattle.lists.specs.InnerWell.{WellFormed}
+use Rattle.lists.proofs.Rows.{above}
+use Rattle.lists.proofs.EnergyStep.{energy-step, energy-keeps, energy-clear, enter-keeps}
+use Rattle.daybook.specs.Book.{standard}
+use Rattle.layout.specs.Layout.{partOf, withPart, registerOf}
 use Rattle.layout.specs.Sound.{sound}
 use Rattle.layout.proofs.Numbers.{few}
 use Rattle.layout.proofs.TableSound.{sound-lays, standard-fits}
@@ -27,11 +28,12 @@ use Rattle.table.specs.Lookup.{indexOf}
 use Rattle.table.proofs.Laws.{part-is, range-is, lent}
 use Rattle.table.proofs.Found.{Found}
 use Rattle.table.proofs.Calls.{call-unsound}
-use Rattle.table.proofs.OnPart.{onPart, CallOn, point-found, on-early, on-missing, on-point}
-use Rattle.energy.specs.declared.Reading.{Reading}
+use Rattle.table.specs.InnerTable.{onPart}
+use Rattle.table.proofs.OnPart.{CallOn, point-found, on-early, on-missing, on-point}
+use Rattle.energy.specs.declared.RaisedNotice.{RaisedNotice}
 use Rattle.energy.specs.Energy.{energyCall}
-use Rattle.energy.specs.Parts.{readingOf, noticeOf, inRange, InRange, Laid, rowsOf, energyPart}
-use Rattle.energy.proofs.Readings.{in-range-tells, in-range-is, notice-back}
+use Rattle.energy.specs.InnerParts.{raisedNotice, noticeOf, inRange, InRange, Laid, energyRowsOf, energyPart}
+use Rattle.energy.proofs.Raised.{in-range-tells, in-range-is, notice-back}
 use Rattle.energy.proofs.Laying.{laid}
 
 pub energy-unsound : (t : List ℤ) (n : EnergyNotice) → sound standard t ≡ false → energyCall t n ≡ (pos 1 ∷ replicate 4 (pos 0), t)
@@ -64,15 +66,15 @@ module _ (t : List ℤ) (n : EnergyNotice) (s : sound standard t ≡ true) where
   ranges-small a b ea eb =
       (omega (arith, small (getD t 1 (pos 0)) (ok .nondailyOk)), omega (arith, small (getD t 2 (pos 0)) (ok .dailyOk)))
 
-  module _ (x : Reading) (ex : x ≡ readingOf n) where
+  module _ (x : RaisedNotice) (ex : x ≡ raisedNotice n) where
     pub energy-range : inRange x ≡ false → energyCall t n ≡ (pos 2 ∷ replicate 4 (pos 0), t)
     unfolding energyCall energyListsRows energyRows above
     energy-range e =
         on-early t s call 1 (omega arith) (in-range-is n ∙ ap (λ b. cond b 0 2) (ap inRange (sym ex) ∙ e)) (λ q. refl)
 
     module _ (r : inRange x ≡ true) (i : ℕ) (e : i ≡ maybe 32 (λ k. k) (indexOf standard t (x .mirn))) where
-      inside : InRange (readingOf n)
-      inside = in-range-tells (readingOf n) (ap inRange (sym ex) ∙ r)
+      inside : InRange (raisedNotice n)
+      inside = in-range-tells (raisedNotice n) (ap inRange (sym ex) ∙ r)
 
       passed : least (energyEarly n) ≡ 0
       passed = in-range-is n ∙ ap (λ b. cond b 0 2) (ap inRange (sym ex) ∙ r)
@@ -91,15 +93,15 @@ module _ (t : List ℤ) (n : EnergyNotice) (s : sound standard t ≡ true) where
 
       module _ (a b : ℕ) (ea : a ≡ biasOf (getD t 1 (pos 0))) (eb : b ≡ biasOf (getD t 2 (pos 0))) where
         -- the notice's rows and effect, from the numbers that the code hands on
-        part-same : (p : List ℤ) → onPart 4 (energyListsRows standard n R) (enterLists (entryOf n)) p ≡ energyPart (readingOf n) (biasOf (R .nondaily)) (biasOf (R .daily)) p
-        unfolding energyPart rowsOf energyListsRows entryOf
+        part-same : (p : List ℤ) → onPart 4 (energyListsRows standard n R) (enterLists (entryOf n)) p ≡ energyPart (raisedNotice n) (biasOf (R .nondaily)) (biasOf (R .daily)) p
+        unfolding energyPart energyRowsOf energyListsRows entryOf
         part-same p =
-            let back : n ≡ noticeOf (readingOf n) = sym (notice-back n inside) in
+            let back : n ≡ noticeOf (raisedNotice n) = sym (notice-back n inside) in
             let nondaily = sym (bias-is (R .nondaily) (small (R .nondaily) (ok .nondailyOk))) in
             let daily = sym (bias-is (R .daily) (small (R .daily) (ok .dailyOk))) in
             λ i. onPart 4 (energyListsRows standard (back i) (record { nondaily = nondaily i; daily = daily i; points = [] })) (enterLists (entryOf (back i))) p
 
-        given : (p : List ℤ) → energyPart (readingOf n) (biasOf (R .nondaily)) (biasOf (R .daily)) p ≡ energyPart x a b p
+        given : (p : List ℤ) → energyPart (raisedNotice n) (biasOf (R .nondaily)) (biasOf (R .daily)) p ≡ energyPart x a b p
         unfolding registerOf
         given p = rw (ex, ea, eb)
 

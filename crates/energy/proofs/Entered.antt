@@ -5,23 +5,23 @@ use mathlib.Core.List.{List, [], _∷_, map}
 use Prim.Native.Nat.{ℕ, zero, suc}
 use lib.ListN.{replicate}
 use lib.IntN.{ℤ, pos}
-use Rattle.daybook.specs.Book.{Entry, Pending}
+use Rattle.daybook.specs.Book.{Entry, Pending, standard}
 use Rattle.daybook.specs.Notices.{least, Which, append, Outcome, outcomeOf, outcomeNumbers, entryOf, energyEarly}
-use Rattle.daybook.proofs.Lists.{Lists}
-use Rattle.daybook.proofs.Steps.{latestOf, whichIn, appendDayOf, withPendingLists, enteredLists, enterLists, energyListsRows}
-use Rattle.daybook.proofs.Well.{nopending, Well}
-use Rattle.daybook.proofs.Rows.{above, least-append-none}
-use Rattle.daybook.proofs.EnergyStep.{MayEnter, energy-clear, enter-keeps}
-use Rattle.layout.specs.Layout.{standard, pointNumbers, pointFrom}
+use Rattle.lists.specs.Lists.{Lists}
+use Rattle.lists.specs.InnerSteps.{latestOf, whichIn, appendDayOf, withPendingLists, enteredLists, enterLists, energyListsRows}
+use Rattle.lists.specs.InnerWell.{nopending, Well, MayEnter}
+use Rattle.lists.proofs.Rows.{above, least-append-none}
+use Rattle.lists.proofs.EnergyStep.{energy-clear, enter-keeps}
+use Rattle.layout.specs.Layout.{pointNumbers, pointFrom}
 use Rattle.layout.specs.Sound.{withRecs}
 use Rattle.layout.proofs.Parse.{point-alone}
 use Rattle.table.proofs.Calls.{gives}
 use Rattle.table.proofs.OnPart.{part-entered, part-refused}
-use Rattle.energy.specs.declared.Reading.{Reading}
+use Rattle.energy.specs.declared.RaisedNotice.{RaisedNotice}
 use Rattle.energy.specs.declared.Kept.{Kept}
 use Rattle.energy.specs.declared.Settled.{Settled}
-use Rattle.energy.specs.Parts.{noticeOf, entryFrom, InRange, Laid, rangesOf, rowsOf, recorded, Recorded, outcomeAt, settledLists, SettledTo, energyPart}
-use Rattle.energy.proofs.Readings.{in-range-clear}
+use Rattle.energy.specs.InnerParts.{noticeOf, entryFrom, InRange, Laid, registerWith, energyRowsOf, recorded, Recorded, outcomeAt, settledLists, SettledTo, energyPart}
+use Rattle.energy.proofs.Raised.{in-range-clear}
 use Rattle.energy.proofs.Laying.{laid}
 
 -- the entry alone keeps the lists well-formed: what it does without a request
@@ -72,27 +72,27 @@ any-which : (w : Which) (x : Entry) (s : ℕ) (o : Option Pending) → outcomeOf
 any-which w x s none = refl
 any-which w x s (some r) = refl
 
-module _ {p : List ℤ} (ok : Laid p) (x : Reading) (inside : InRange x) (a b : ℕ) where
+module _ {p : List ℤ} (ok : Laid p) (x : RaisedNotice) (inside : InRange x) (a b : ℕ) where
   abbrev q : Lists
   q = pointFrom p
 
   abbrev e : Entry
   e = entryFrom x
 
-  pub refused : (row : ℕ) → row ≡ least (rowsOf x a b q) → (row ≡ 0 → ⊥) → (pos row ∷ replicate 4 (pos 0) ≡ energyPart x a b p .0) × (p ≡ energyPart x a b p .1)
+  pub refused : (row : ℕ) → row ≡ least (energyRowsOf x a b q) → (row ≡ 0 → ⊥) → (pos row ∷ replicate 4 (pos 0) ≡ energyPart x a b p .0) × (p ≡ energyPart x a b p .1)
   unfolding energyPart
   refused zero h n = absurd (n refl)
-  refused (suc r) h n = gives (part-refused 4 (rowsOf x a b) (enterLists e) p r (sym h))
+  refused (suc r) h n = gives (part-refused 4 (energyRowsOf x a b) (enterLists e) p r (sym h))
 
-  module _ (row : ℕ) (h : row ≡ least (rowsOf x a b q)) (z : row ≡ 0) where
-    clear : least (rowsOf x a b q) ≡ 0
+  module _ (row : ℕ) (h : row ≡ least (energyRowsOf x a b q)) (z : row ≡ 0) where
+    clear : least (energyRowsOf x a b q) ≡ 0
     clear = sym h ∙ z
 
     pub may : MayEnter 48 e q
-    unfolding rowsOf entryOf energyEarly above
+    unfolding energyRowsOf entryOf energyEarly above
     may =
-        energy-clear standard (noticeOf x) (rangesOf a b) q
-        (least-append-none (energyEarly (noticeOf x)) (energyListsRows standard (noticeOf x) (rangesOf a b) q) refl (in-range-clear x inside) ∙ clear)
+        energy-clear standard (noticeOf x) (registerWith a b) q
+        (least-append-none (energyEarly (noticeOf x)) (energyListsRows standard (noticeOf x) (registerWith a b) q) refl (in-range-clear x inside) ∙ clear)
 
     module _ {k : Kept} {p″ : List ℤ} (rec : Recorded p x k p″) where
       pub then-laid : Laid p″
@@ -112,7 +112,7 @@ module _ {p : List ℤ} (ok : Laid p) (x : Reading) (inside : InRange x) (a b : 
           → (pos 0 ∷ pos (k .which) ∷ pos (k .removed) ∷ pos (s .user) ∷ pos (s .lapsed) ∷ [] ≡ energyPart x a b p .0) × (p′ ≡ energyPart x a b p .1)
       unfolding energyPart enterLists enteredLists withRecs
       entered s {p′} t =
-          let w = gives (part-entered 4 (rowsOf x a b) (enterLists e) p clear) in
+          let w = gives (part-entered 4 (energyRowsOf x a b) (enterLists e) p clear) in
           let n : pos 0 ∷ map pos (k .which ∷ k .removed ∷ s .user ∷ s .lapsed ∷ []) ≡ pos 0 ∷ enterLists e q .0 =
           λ i. pos 0 ∷ map pos (rec .whichIs i ∷ rec .removedIs i ∷ (t .numbersAre ∙ ap outcomeNumbers outcome-same) i) in
           let l : p′ ≡ pointNumbers 48 (enterLists e q .1) = t .partIs ∙ ap₂ (λ o q. pointNumbers 48 (settledLists o (x .end) q)) outcome-same back in

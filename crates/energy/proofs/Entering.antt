@@ -11,23 +11,23 @@ use lib.IntN.{ℤ}
 use borrow.Author.Tests.{eq-eqb, ne-eqb}
 use Rattle.daybook.specs.Book.{Entry}
 use Rattle.daybook.specs.Notices.{Which, append, replacement, recut, whichNumber, whichOf, removed}
-use Rattle.daybook.proofs.Lists.{Lists}
-use Rattle.daybook.proofs.Steps.{whichIn, recsAfter}
-use Rattle.daybook.proofs.Apart.{recs-apart}
-use Rattle.daybook.proofs.EnergyStep.{MayEnter}
+use Rattle.lists.specs.Lists.{Lists}
+use Rattle.lists.specs.InnerSteps.{whichIn, recsAfter}
+use Rattle.lists.proofs.Apart.{recs-apart}
+use Rattle.lists.specs.InnerWell.{MayEnter}
 use Rattle.layout.specs.Layout.{numAt, pointNumbers, pointFrom}
 use Rattle.layout.specs.Sound.{withRecs}
-use Rattle.layout.specs.Writes.{putRecord, appendRecord, cutRecords}
+use Rattle.layout.specs.InnerWrites.{putRecord, appendRecord, cutRecords}
 use Rattle.layout.proofs.Numbers.{Few, few}
 use Rattle.layout.proofs.Cells.{noRec, place-recs}
 use Rattle.layout.proofs.PartBlocks.{few-recs}
 use Rattle.layout.proofs.RowWrites.{put-record, append-record, cut-records}
-use Rattle.energy.specs.declared.Reading.{Reading}
-use Rattle.energy.specs.Parts.{entryFrom, Laid, rowIn, Recorded}
+use Rattle.energy.specs.declared.RaisedNotice.{RaisedNotice}
+use Rattle.energy.specs.InnerParts.{entryFrom, Laid, rowIn, Recorded}
 use Rattle.energy.proofs.Laying.{end-at}
 use Rattle.energy.proofs.Located.{Located, located, located-none, row-few}
 
-module _ {p : List ℤ} (ok : Laid p) (x : Reading) where
+module _ {p : List ℤ} (ok : Laid p) (x : RaisedNotice) where
   abbrev q : Lists
   q = pointFrom p
 

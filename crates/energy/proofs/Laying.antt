@@ -10,20 +10,20 @@ use lib.ListN.{length, getD}
 use lib.IntN.{ℤ}
 use Rattle.numbers.specs.Search.{maybe}
 use Rattle.daybook.specs.Book.{Entry}
-use Rattle.daybook.proofs.Lists.{Lists}
-use Rattle.daybook.proofs.Last.{last-none, last-at}
-use Rattle.daybook.proofs.Steps.{skip, appendDayOf, lastEnd}
-use Rattle.daybook.proofs.Well.{some-reg, Well}
-use Rattle.daybook.proofs.Apart.{recs-apart}
-use Rattle.daybook.proofs.Records.{dayAfter, day-after-le}
+use Rattle.lists.specs.Lists.{Lists}
+use Rattle.lists.proofs.Last.{last-none, last-at}
+use Rattle.lists.specs.InnerSteps.{skip, appendDayOf, lastEnd}
+use Rattle.lists.proofs.Registrations.{some-reg}
+use Rattle.lists.specs.InnerWell.{Well}
+use Rattle.lists.proofs.Apart.{recs-apart}
+use Rattle.lists.proofs.Records.{dayAfter, day-after-le}
 use Rattle.layout.specs.Layout.{numAt, pointNumbers, pointFrom}
 use Rattle.layout.proofs.Numbers.{few, length-point}
 use Rattle.layout.proofs.Cells.{noRec, cell-regs, cell-offs, cell-recs, cell-rec-start, cell-rec-end, place-install, place-offs, place-recs}
 use Rattle.layout.proofs.Parse.{point-alone}
-use Rattle.point.specs.Tests.{firstOn}
-use Rattle.point.proofs.OffDays.{dayIf}
+use Rattle.point.specs.InnerTests.{firstOn, dayIf}
 use Rattle.point.proofs.Readers.{first-on-is}
-use Rattle.energy.specs.Parts.{Laid}
+use Rattle.energy.specs.InnerParts.{Laid}
 
 -- ---- every layout is laid
 

@@ -1,5 +1,5 @@
 -- Laws of the energy call: a notice's numbers, the record that starts on a day, and what each function of a part leaves.
-pub mod Readings
+pub mod Raised
 pub mod Located
 pub mod Laying
 pub mod Refusals

@@ -14,11 +14,11 @@ use borrow.Author.Tests.{eqb-true, eqb-false, eq-eqb, ne-eqb, lt-ltb, le-ltb}
 use Rattle.numbers.specs.Search.{isSome}
 use Rattle.daybook.specs.Book.{Entry}
 use Rattle.daybook.specs.Notices.{laterStarts}
-use Rattle.daybook.proofs.Steps.{startingOn, earlier, replaced}
-use Rattle.daybook.proofs.Apart.{Apart, noentry, apart}
+use Rattle.lists.specs.InnerSteps.{startingOn, earlier, replaced}
+use Rattle.lists.proofs.Apart.{Apart, noentry, apart}
 use Rattle.layout.specs.Layout.{numAt, pointFrom}
 use Rattle.layout.proofs.Cells.{noRec, place-recs}
-use Rattle.energy.specs.Parts.{Laid, rowIn}
+use Rattle.energy.specs.InnerParts.{Laid, rowIn}
 use Rattle.energy.proofs.Laying.{start-at}
 
 -- ---- what the index tells

@@ -13,17 +13,16 @@ use Rattle.numbers.specs.Naturals.{energyOf}
 use Rattle.numbers.specs.Search.{maybe, isSome}
 use Rattle.daybook.specs.Book.{Entry}
 use Rattle.daybook.specs.Notices.{least, replacement, recut, whichNumber, whichOf, entryOf, fitsKind, beyond, energyRows}
-use Rattle.daybook.proofs.Lists.{Lists}
-use Rattle.daybook.proofs.Steps.{startingOn, whichIn, appendDayOf, someOverlap, energyListsRows}
-use Rattle.daybook.proofs.Rows.{above, least-first, least-skip}
-use Rattle.daybook.proofs.Apart.{fits-le}
+use Rattle.lists.specs.Lists.{Lists}
+use Rattle.lists.specs.InnerSteps.{startingOn, whichIn, appendDayOf, someOverlap, energyListsRows}
+use Rattle.lists.proofs.Rows.{above, least-first, least-skip}
+use Rattle.lists.proofs.Apart.{fits-le}
 use Rattle.layout.specs.Layout.{numAt, pointFrom}
 use Rattle.layout.proofs.Cells.{place-kind, place-offs, place-recs}
-use Rattle.point.specs.Tests.{noOff}
-use Rattle.point.proofs.OffDays.{dayIf}
+use Rattle.point.specs.InnerTests.{noOff, dayIf}
 use Rattle.point.proofs.Readers.{no-off-is}
-use Rattle.energy.specs.declared.Reading.{Reading}
-use Rattle.energy.specs.Parts.{noticeOf, Laid, rowsOf}
+use Rattle.energy.specs.declared.RaisedNotice.{RaisedNotice}
+use Rattle.energy.specs.InnerParts.{noticeOf, Laid, energyRowsOf}
 
 -- ---- row 9, of raised numbers
 
@@ -58,56 +57,56 @@ beyond-second a b k z e = rw (ne-eqb k 0 e)
 
 -- ---- the rows, one by one
 
-abbrev entry : Reading → Entry
+abbrev entry : RaisedNotice → Entry
 entry x = entryOf (noticeOf x)
 
-abbrev row6 : Reading → Lists → Bool
+abbrev row6 : RaisedNotice → Lists → Bool
 row6 x q = not (fitsKind (q .facts .kind) (x .start) (x .end))
 
-abbrev row7 : Reading → Lists → Bool
+abbrev row7 : RaisedNotice → Lists → Bool
 row7 x q = eqb (whichNumber (whichIn q (entry x))) 1 && not (maybe false (eqb (x .start)) (appendDayOf q))
 
-abbrev row8 : Reading → Lists → Bool
+abbrev row8 : RaisedNotice → Lists → Bool
 row8 x q = leb (x .start) (x .end) && someOverlap (x .start) (x .end) (q .offs)
 
-abbrev row16 : Reading → Lists → Bool
+abbrev row16 : RaisedNotice → Lists → Bool
 row16 x q = eqb (whichNumber (whichIn q (entry x))) 1 && leb 48 (length (q .recs))
 
-abbrev row9 : Reading → ℕ → ℕ → Lists → Bool
+abbrev row9 : RaisedNotice → ℕ → ℕ → Lists → Bool
 row9 x a b q = beyond (energyOf a) (energyOf b) (q .facts .kind) (energyOf (x .energy)) && eqb (x .confirmed) 0
 
-module _ (x : Reading) (a b : ℕ) (q : Lists) where
-  rows-are : rowsOf x a b q ≡ (6, row6 x q) ∷ (7, row7 x q) ∷ (8, row8 x q) ∷ (9, row9 x a b q) ∷ (16, row16 x q) ∷ []
-  unfolding rowsOf energyListsRows energyRows entryOf
+module _ (x : RaisedNotice) (a b : ℕ) (q : Lists) where
+  rows-are : energyRowsOf x a b q ≡ (6, row6 x q) ∷ (7, row7 x q) ∷ (8, row8 x q) ∷ (9, row9 x a b q) ∷ (16, row16 x q) ∷ []
+  unfolding energyRowsOf energyListsRows energyRows entryOf
   rows-are = refl
 
-  pub sent-6 : row6 x q ≡ true → 6 ≡ least (rowsOf x a b q)
+  pub sent-6 : row6 x q ≡ true → 6 ≡ least (energyRowsOf x a b q)
   unfolding above
   sent-6 e = sym (ap least rows-are ∙ least-first 6 (row6 x q) _ refl e)
 
   module _ (e6 : row6 x q ≡ false) where
-    pub sent-7 : row7 x q ≡ true → 7 ≡ least (rowsOf x a b q)
+    pub sent-7 : row7 x q ≡ true → 7 ≡ least (energyRowsOf x a b q)
     unfolding above
     sent-7 e = sym (ap least rows-are ∙ least-skip 6 (row6 x q) _ e6 ∙ least-first 7 (row7 x q) _ refl e)
 
     module _ (e7 : row7 x q ≡ false) where
-      pub sent-8 : row8 x q ≡ true → 8 ≡ least (rowsOf x a b q)
+      pub sent-8 : row8 x q ≡ true → 8 ≡ least (energyRowsOf x a b q)
       unfolding above
       sent-8 e = sym (ap least rows-are ∙ least-skip 6 (row6 x q) _ e6 ∙ least-skip 7 (row7 x q) _ e7 ∙ least-first 8 (row8 x q) _ refl e)
 
       module _ (e8 : row8 x q ≡ false) where
-        past-8 : least (rowsOf x a b q) ≡ least ((9, row9 x a b q) ∷ (16, row16 x q) ∷ [])
+        past-8 : least (energyRowsOf x a b q) ≡ least ((9, row9 x a b q) ∷ (16, row16 x q) ∷ [])
         past-8 = ap least rows-are ∙ least-skip 6 (row6 x q) _ e6 ∙ least-skip 7 (row7 x q) _ e7 ∙ least-skip 8 (row8 x q) _ e8
 
-        pub sent-9 : row9 x a b q ≡ true → 9 ≡ least (rowsOf x a b q)
+        pub sent-9 : row9 x a b q ≡ true → 9 ≡ least (energyRowsOf x a b q)
         unfolding above
         sent-9 e = sym (past-8 ∙ least-first 9 (row9 x a b q) _ refl e)
 
-        pub sent-16 : row9 x a b q ≡ false → row16 x q ≡ true → 16 ≡ least (rowsOf x a b q)
+        pub sent-16 : row9 x a b q ≡ false → row16 x q ≡ true → 16 ≡ least (energyRowsOf x a b q)
         unfolding above
         sent-16 e9 e = sym (past-8 ∙ least-skip 9 (row9 x a b q) _ e9 ∙ least-first 16 (row16 x q) _ refl e)
 
-        pub sent-not : row9 x a b q ≡ false → row16 x q ≡ false → 0 ≡ least (rowsOf x a b q)
+        pub sent-not : row9 x a b q ≡ false → row16 x q ≡ false → 0 ≡ least (energyRowsOf x a b q)
         unfolding least
         sent-not e9 e = sym (past-8 ∙ least-skip 9 (row9 x a b q) ((16, row16 x q) ∷ []) e9 ∙ least-skip 16 (row16 x q) [] e)
 
@@ -138,7 +137,7 @@ day-test d r h = ap not (go (ltb r 40001) refl)
     go true e = flip (eqb r d) refl
     go false e = ne-eqb r d (λ (q : r ≡ d). absurd (omega (arith, ltb-false r 40001 e)))
 
-module _ {p : List ℤ} (ok : Laid p) (x : Reading) where
+module _ {p : List ℤ} (ok : Laid p) (x : RaisedNotice) where
   abbrev q : Lists
   q = pointFrom p
 

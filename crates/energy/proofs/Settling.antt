@@ -14,19 +14,19 @@ use Rattle.numbers.specs.Search.{maybe}
 use Rattle.numbers.proofs.Bools.{both}
 use Rattle.daybook.specs.Book.{Entry, Pending}
 use Rattle.daybook.specs.Notices.{append, Outcome, registers, lapses, stays, outcomeOf, outcomeNumbers}
-use Rattle.daybook.proofs.Lists.{Lists}
-use Rattle.daybook.proofs.Last.{last-at}
-use Rattle.daybook.proofs.Steps.{latestOf, userFrom, withPendingLists}
-use Rattle.daybook.proofs.Well.{PendingOk, nopending, pending}
-use Rattle.daybook.proofs.Registrations.{user-from-append}
-use Rattle.layout.specs.Layout.{asked, numAt, pointNumbers, pointFrom}
-use Rattle.layout.specs.Writes.{appendRegistration, clearPending}
+use Rattle.lists.specs.Lists.{Lists}
+use Rattle.lists.proofs.Last.{last-at}
+use Rattle.lists.specs.InnerSteps.{latestOf, userFrom, withPendingLists}
+use Rattle.lists.specs.InnerWell.{PendingOk, nopending, pending}
+use Rattle.lists.proofs.Registrations.{user-from-append}
+use Rattle.layout.specs.Layout.{pendingOrZeros, numAt, pointNumbers, pointFrom}
+use Rattle.layout.specs.InnerWrites.{appendRegistration, clearPending}
 use Rattle.layout.proofs.Numbers.{Few, few}
 use Rattle.layout.proofs.Cells.{noReg, cell-reg-start, place-regs, place-user, place-first, place-last}
 use Rattle.layout.proofs.PartBlocks.{withRegs, few-regs, snoc-length}
 use Rattle.layout.proofs.RowWrites.{append-registration, clear-pending}
-use Rattle.energy.specs.declared.Reading.{Reading}
-use Rattle.energy.specs.Parts.{entryFrom, Laid, outcomeAt, settledLists, SettledTo}
+use Rattle.energy.specs.declared.RaisedNotice.{RaisedNotice}
+use Rattle.energy.specs.InnerParts.{entryFrom, Laid, outcomeAt, settledLists, SettledTo}
 
 -- ---- the latest registration, by its index
 
@@ -45,8 +45,8 @@ lapsesIf user last end = not (eqb user 0) && ltb last end
 
 outcome-by : {regs : List (ℕ × ℕ)} {o : Option Pending} → PendingOk regs o → (x : Entry) (latest : ℕ)
     → outcomeOf append x latest o
-    ≡ cond (registersIf (asked o .user) (asked o .first) (asked o .last) latest (x .end)) (registers (asked o .user))
-    (cond (lapsesIf (asked o .user) (asked o .last) (x .end)) lapses stays)
+    ≡ cond (registersIf (pendingOrZeros o .user) (pendingOrZeros o .first) (pendingOrZeros o .last) latest (x .end)) (registers (pendingOrZeros o .user))
+    (cond (lapsesIf (pendingOrZeros o .user) (pendingOrZeros o .last) (x .end)) lapses stays)
 outcome-by nopending x latest = refl
 outcome-by (pending {q = r} a b c d e f) x latest = rw (ne-eqb (r .user) 0 (omega arith), add-one (x .end))
 
@@ -57,14 +57,14 @@ record Registers (regs : List (ℕ × ℕ)) (user latest end : ℕ) : Type 0 whe
   differs : eqb (latestOf regs .1) user ≡ false
   after : latest < end + 1
 
-registers-room : {regs : List (ℕ × ℕ)} {o : Option Pending} → PendingOk regs o → (latest end : ℕ) → registersIf (asked o .user) (asked o .first) (asked o .last) latest end ≡ true
-    → Registers regs (asked o .user) latest end
+registers-room : {regs : List (ℕ × ℕ)} {o : Option Pending} → PendingOk regs o → (latest end : ℕ) → registersIf (pendingOrZeros o .user) (pendingOrZeros o .first) (pendingOrZeros o .last) latest end ≡ true
+    → Registers regs (pendingOrZeros o .user) latest end
 registers-room nopending latest end e = let z : _≡_ {A = ℕ} 0 1 = cc in absurd (omega arith)
 registers-room (pending {q = r} a b c d e f) latest end t = record { room = f; small = b; differs = c; after = ltb-true latest (end + 1) (both (not (eqb (r .user) 0) && leb (r .first) end && leb end (r .last)) (ltb latest (end + 1)) t .1) }
 
 -- ---- on the part
 
-module _ {p : List ℤ} (ok : Laid p) (x : Reading) (n user first last latest : ℕ) (en : n ≡ numAt p 4) (eu : user ≡ numAt p 7) (ef : first ≡ numAt p 8) (el : last ≡ numAt p 9) (es : latest ≡ numAt p (14 + 2 * n)) where
+module _ {p : List ℤ} (ok : Laid p) (x : RaisedNotice) (n user first last latest : ℕ) (en : n ≡ numAt p 4) (eu : user ≡ numAt p 7) (ef : first ≡ numAt p 8) (el : last ≡ numAt p 9) (es : latest ≡ numAt p (14 + 2 * n)) where
   abbrev q : Lists
   q = pointFrom p
 
@@ -74,13 +74,13 @@ module _ {p : List ℤ} (ok : Laid p) (x : Reading) (n user first last latest : 
   many : n ≡ length (q .regs)
   many = en ∙ place-regs (ok .well) (ok .is)
 
-  user-is : user ≡ asked (q .pending) .user
+  user-is : user ≡ pendingOrZeros (q .pending) .user
   user-is = eu ∙ place-user (ok .well) (ok .is)
 
-  first-is : first ≡ asked (q .pending) .first
+  first-is : first ≡ pendingOrZeros (q .pending) .first
   first-is = ef ∙ place-first (ok .well) (ok .is)
 
-  last-is : last ≡ asked (q .pending) .last
+  last-is : last ≡ pendingOrZeros (q .pending) .last
   last-is = el ∙ place-last (ok .well) (ok .is)
 
   latest-is : latest ≡ latestOf (q .regs) .0

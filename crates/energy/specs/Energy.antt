@@ -3,7 +3,7 @@ use mathlib.Core.List.{List}
 use lib.IntN.{ℤ}
 use Rattle.daybook.specs.declared.EnergyNotice.{EnergyNotice}
 use Rattle.daybook.specs.Notices.{Numbers, energy}
-use Rattle.layout.specs.Layout.{standard}
+use Rattle.daybook.specs.Book.{standard}
 use Rattle.layout.specs.Calls.{onTable}
 
 -- Four fields: which of the three it is, how many records it removes, the User it registers, whether the request lapses.

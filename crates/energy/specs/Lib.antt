@@ -1,3 +1,3 @@
 -- The call that enters an energy notice.
 pub mod Energy
-pub mod Parts
+pub mod InnerParts

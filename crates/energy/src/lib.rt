@@ -9,20 +9,20 @@ ghost use Rattle.numbers.specs.Naturals.{energyOf};
 ghost use Rattle.numbers.specs.Search.{isSome};
 ghost use Rattle.daybook.specs.Notices.{least, beyond};
 ghost use Rattle.daybook.specs.Calls.{energyNumbers};
-ghost use Rattle.daybook.proofs.Steps.{startingOn, appendDayOf};
-ghost use Rattle.daybook.proofs.EnergyStep.{MayEnter};
+ghost use Rattle.lists.specs.InnerSteps.{startingOn, appendDayOf};
+ghost use Rattle.lists.specs.InnerWell.{MayEnter};
 ghost use Rattle.layout.specs.Layout.{pointFrom, numAt};
-ghost use Rattle.point.proofs.OffDays.{dayIf};
+ghost use Rattle.point.specs.InnerTests.{dayIf};
 ghost use Rattle.energy.specs.Energy.{energyCall};
-ghost use Rattle.energy.specs.Parts.{readingOf, entryFrom, inRange, InRange, Laid, rowIn, rowsOf, Recorded, SettledTo, energyPart};
+ghost use Rattle.energy.specs.InnerParts.{raisedNotice, entryFrom, inRange, InRange, Laid, rowIn, energyRowsOf, Recorded, SettledTo, energyPart};
 
 // A notice's numbers as naturals, its energy raised by 1,000,000; a number that is none as the marker 2^63.
-struct Reading {
+struct RaisedNotice {
     mirn: u64,
     start: u64,
     end: u64,
     energy: u64,
-    quality: u64,
+    type_: u64,
     confirmed: u64,
 }
 
@@ -38,27 +38,27 @@ struct Settled {
     lapsed: u64,
 }
 
-fn read(n: EnergyNotice) -> Reading
-    ensures { λ r. ⌜ r ≡ readingOf n ⌝ }
+fn read(n: EnergyNotice) -> RaisedNotice
+    ensures { λ r. ⌜ r ≡ raisedNotice n ⌝ }
 {
     let mirn = n.mirn;
     let start = n.start;
     let end = n.end;
     let energy = n.energy;
-    let quality = n.quality;
+    let type_ = n.type_;
     let confirmed = n.confirmed;
-    Reading {
+    RaisedNotice {
         mirn: numbers::natural(mirn),
         start: numbers::natural(start),
         end: numbers::natural(end),
         energy: numbers::bias(energy),
-        quality: numbers::natural(quality),
+        type_: numbers::natural(type_),
         confirmed: numbers::natural(confirmed),
     }
 }
 
 // Row 2.
-fn in_range(x: Reading) -> bool
+fn in_range(x: RaisedNotice) -> bool
     ensures { λ r. ⌜ r ≡ inRange x ⌝ }
 {
     (1 <= x.mirn)
@@ -66,7 +66,7 @@ fn in_range(x: Reading) -> bool
         & (x.start <= 39999)
         & (x.end <= 39999)
         & (x.energy <= 2000000)
-        & (x.quality <= 2)
+        & (x.type_ <= 2)
         & (x.confirmed <= 1)
 }
 
@@ -129,9 +129,9 @@ fn unusual(kind: u64, nondaily: u64, daily: u64, energy: u64) -> bool
 }
 
 // The row that sends a notice back, of those that its point decides; 0 if none does.
-fn check(p: &[i64], x: Reading, nondaily: u64, daily: u64) -> u64
+fn check(p: &[i64], x: RaisedNotice, nondaily: u64, daily: u64) -> u64
     requires { ⌜ Laid (now p) × InRange x × (nondaily ≤ 2000000) × (daily ≤ 2000000) ⌝ }
-    ensures { λ r. ⌜ r ≡ least (rowsOf x nondaily daily (pointFrom (now (p .entry)))) ⌝ }
+    ensures { λ r. ⌜ r ≡ least (energyRowsOf x nondaily daily (pointFrom (now (p .entry)))) ⌝ }
 {
     let kind = numbers::get(p, 1);
     if !point::fits_kind(kind, x.start, x.end) {
@@ -156,14 +156,14 @@ fn check(p: &[i64], x: Reading, nondaily: u64, daily: u64) -> u64
 
 // The record in its place: an append behind the others, a replacement in the place of its predecessor, a recut in the
 // place of its predecessor and of all later records.
-fn enter_record(p: &mut [i64], x: Reading) -> Kept
+fn enter_record(p: &mut [i64], x: RaisedNotice) -> Kept
     requires { ⌜ Laid (now p) × InRange x × MayEnter 48 (entryFrom x) (pointFrom (now p)) ⌝ }
     ensures { λ r. ⌜ Recorded (now (p .entry)) x r (now (p .exit)) ⌝ }
 {
     let n = numbers::get(p, 6) as usize;
     let j = row_of(p, x.start);
     if j == n {
-        rows::append_record(p, n, x.start, x.end, x.energy, x.quality);
+        rows::append_record(p, n, x.start, x.end, x.energy, x.type_);
         return Kept {
             which: 1,
             removed: 0,
@@ -171,14 +171,14 @@ fn enter_record(p: &mut [i64], x: Reading) -> Kept
     }
     let end = numbers::get(p, 48 + 4 * j + 1);
     if end == x.end {
-        rows::put_record(p, j, x.start, x.end, x.energy, x.quality);
+        rows::put_record(p, j, x.start, x.end, x.energy, x.type_);
         return Kept {
             which: 2,
             removed: 0,
         };
     }
     rows::cut_records(p, j, n);
-    rows::append_record(p, j, x.start, x.end, x.energy, x.quality);
+    rows::append_record(p, j, x.start, x.end, x.energy, x.type_);
     Kept {
         which: 3,
         removed: (n - j - 1) as u64,
@@ -187,7 +187,7 @@ fn enter_record(p: &mut [i64], x: Reading) -> Kept
 
 // The pending request, once the entry stands: by the notice's own end its User is registered from the next day on, or the
 // request lapses, or it stays.
-fn settle_request(p: &mut [i64], x: Reading) -> Settled
+fn settle_request(p: &mut [i64], x: RaisedNotice) -> Settled
     requires { ⌜ Laid (now p) × InRange x ⌝ }
     ensures { λ r. ⌜ SettledTo (now (p .entry)) x r (now (p .exit)) ⌝ }
 {
@@ -210,7 +210,7 @@ fn settle_request(p: &mut [i64], x: Reading) -> Settled
 }
 
 // A notice on its point's part, which a refusal leaves as found.
-fn enter(p: &mut [i64], x: Reading, nondaily: u64, daily: u64) -> EnergyAnswer
+fn enter(p: &mut [i64], x: RaisedNotice, nondaily: u64, daily: u64) -> EnergyAnswer
     requires { ⌜ Laid (now p) × InRange x × (nondaily ≤ 2000000) × (daily ≤ 2000000) ⌝ }
     ensures { λ r. ⌜ (energyNumbers r ≡ energyPart x nondaily daily (now (p .entry)) .0) × (now (p .exit) ≡ energyPart x nondaily daily (now (p .entry)) .1) ⌝ }
 {

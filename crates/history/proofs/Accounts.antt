@@ -14,13 +14,12 @@ use Rattle.numbers.specs.Sums.{sumFrom, sumOver}
 use Rattle.numbers.proofs.Bools.{cond-same}
 use Rattle.numbers.proofs.Integers.{add-swap}
 use Rattle.numbers.proofs.Sums.{sum-same, sum-zero, sum-plus, sum-swap, sum-over-split}
-use Rattle.daybook.specs.Book.{Entry, Point, Book, filled, dayShare}
+use Rattle.daybook.specs.Book.{Entry, Point, Book, filled, dayShare, standard}
 use Rattle.daybook.specs.Queries.{sumOf, ownShare, accountOf}
-use Rattle.daybook.proofs.Lists.{Lists, Register, entryOn, pointOf, bookOf}
-use Rattle.daybook.proofs.Well.{Well, Points, nopoint, point, WellFormed}
-use Rattle.daybook.proofs.Apart.{recs-apart, stands, Stands as StandsListed}
-use Rattle.daybook.proofs.Registrations.{user-known}
-use Rattle.layout.specs.Layout.{standard}
+use Rattle.lists.specs.Lists.{Lists, Register, entryOn, pointOf, bookOf}
+use Rattle.lists.specs.InnerWell.{Well, Points, nopoint, point, WellFormed}
+use Rattle.lists.proofs.Apart.{recs-apart, stands, Stands as StandsListed}
+use Rattle.lists.proofs.Registrations.{user-known}
 
 -- ---- between any two days
 

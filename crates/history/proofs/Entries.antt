@@ -10,9 +10,9 @@ use Rattle.numbers.specs.Shares.{share}
 use Rattle.numbers.proofs.Sums.{sum-same}
 use Rattle.numbers.proofs.Shares.{shares-whole}
 use Rattle.daybook.specs.Book.{Entry, Point, dayShare}
-use Rattle.daybook.proofs.Lists.{Lists, pointOf}
-use Rattle.daybook.proofs.Well.{Well}
-use Rattle.daybook.proofs.Apart.{recs-apart, stands, Stands as StandsListed}
+use Rattle.lists.specs.Lists.{Lists, pointOf}
+use Rattle.lists.specs.InnerWell.{Well}
+use Rattle.lists.proofs.Apart.{recs-apart, stands, Stands as StandsListed}
 use Rattle.history.specs.Agreement.{Stands}
 
 -- The days from b on, which is k days after a, counted from a.

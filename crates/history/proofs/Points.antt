@@ -8,11 +8,11 @@ use Prim.Native.Nat.{ℕ, zero, suc, _+_, _≤_}
 use native.Mathlib.Omega.{arith}
 use lib.IntN.{ℤ}
 use lib.ListN.{drop}
-use Rattle.daybook.specs.Book.{Point, filled}
-use Rattle.daybook.proofs.Lists.{Lists, pointOf, bookOf}
-use Rattle.daybook.proofs.Well.{Well, Points, point}
-use Rattle.daybook.proofs.Covering.{covering-one}
-use Rattle.layout.specs.Layout.{standard, placeOf, partOf, numAt, pointFrom, pointsFrom, registerOf, tableBook}
+use Rattle.daybook.specs.Book.{Point, filled, standard}
+use Rattle.lists.specs.Lists.{Lists, pointOf, bookOf}
+use Rattle.lists.specs.InnerWell.{Well, Points, point}
+use Rattle.lists.proofs.Covering.{covering-one}
+use Rattle.layout.specs.Layout.{placeOf, partOf, numAt, pointFrom, pointsFrom, registerOf, tableBook}
 use Rattle.layout.specs.Sound.{sound}
 use Rattle.layout.proofs.Mirns.{next}
 use Rattle.layout.proofs.TableSound.{sound-lays, standard-fits}

@@ -11,12 +11,13 @@ use lib.ListN.{length}
 use Rattle.daybook.specs.declared.Ranges.{Ranges}
 use Rattle.daybook.specs.Notices.{least, Numbers, decide, freshRows, fresh}
 use Rattle.daybook.specs.Calls.{Call, run, answers}
-use Rattle.daybook.proofs.Lists.{Register, bookOf}
-use Rattle.daybook.proofs.Well.{nopoint, WellFormed}
-use Rattle.daybook.proofs.OpenStep.{FreshClear, fresh-clear}
-use Rattle.layout.specs.Layout.{tableLength, standard, tableBook}
+use Rattle.lists.specs.Lists.{Register, bookOf}
+use Rattle.lists.specs.InnerWell.{nopoint, WellFormed}
+use Rattle.lists.proofs.OpenStep.{FreshClear, fresh-clear}
+use Rattle.layout.specs.Layout.{tableLength, tableBook}
+use Rattle.daybook.specs.Book.{standard}
 use Rattle.layout.specs.Sound.{sound}
-use Rattle.layout.specs.Calls.{leaves}
+use Rattle.layout.specs.Calls.{answerAndTable}
 use Rattle.opening.specs.Opening.{freshCall}
 use Rattle.history.specs.Lists.{tableStep, tableRun, tableAnswers, freshState}
 use Rattle.history.proofs.Steps.{Holds, written-holds, stateOf, Follows, step-agrees}
@@ -55,7 +56,7 @@ fresh-begins t n = go (leb tableLength (length t)) (least (freshRows n)) refl
 
     given : Bool → ℕ → Numbers × List ℤ
     given long row =
-        cond long (leaves standard t (decide row 0 (tableBook standard t) ([], freshState n .book))) (pos 1 ∷ [], t)
+        cond long (answerAndTable standard t (decide row 0 (tableBook standard t) ([], freshState n .book))) (pos 1 ∷ [], t)
 
     go : (long : Bool) (row : ℕ) → least (freshRows n) ≡ row → given long row .0 ≡ pos 0 ∷ [] → Holds (given long row .1) (freshState n .book)
     go true zero z e = written-holds (ok z) t

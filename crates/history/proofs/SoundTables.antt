@@ -12,12 +12,12 @@ use Rattle.numbers.specs.Sums.{sumFrom, sumOver}
 use Rattle.numbers.proofs.Bools.{join}
 use Rattle.numbers.proofs.Sums.{sum-same}
 use Rattle.daybook.specs.declared.AllocationQuery.{AllocationQuery}
-use Rattle.daybook.specs.Book.{Entry, Point, Book, dayShare}
+use Rattle.daybook.specs.Book.{Entry, Point, Book, dayShare, standard}
 use Rattle.daybook.specs.Notices.{least, Numbers, decide}
 use Rattle.daybook.specs.Queries.{sumOf, accountOf, accountRows, account, allocate}
-use Rattle.daybook.proofs.Well.{WellFormed}
-use Rattle.daybook.proofs.Rows.{least-skip, decide-taken}
-use Rattle.layout.specs.Layout.{standard, registerOf, tableBook}
+use Rattle.lists.specs.InnerWell.{WellFormed}
+use Rattle.lists.proofs.Rows.{least-skip, decide-taken}
+use Rattle.layout.specs.Layout.{registerOf, tableBook}
 use Rattle.layout.specs.Sound.{sound}
 use Rattle.layout.specs.Calls.{refused}
 use Rattle.layout.proofs.TableSound.{sound-lays, standard-fits}

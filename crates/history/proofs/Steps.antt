@@ -12,19 +12,19 @@ use Rattle.daybook.specs.declared.EnergyNotice.{EnergyNotice}
 use Rattle.daybook.specs.declared.StatusNotice.{StatusNotice}
 use Rattle.daybook.specs.declared.TransferRequest.{TransferRequest}
 use Rattle.daybook.specs.declared.Withdrawal.{Withdrawal}
-use Rattle.daybook.specs.Book.{Book}
+use Rattle.daybook.specs.Book.{Book, standard}
 use Rattle.daybook.specs.Notices.{Numbers, decide, onPoint, fresh, opening, energy, status, request, withdraw}
 use Rattle.daybook.specs.Calls.{Call, fresh!, open!, energy!, status!, request!, withdraw!, account!, allocate!, State, Answer, step}
-use Rattle.daybook.proofs.Lists.{Register, bookOf}
-use Rattle.daybook.proofs.Steps.{freshLists, openingLists, energyLists, statusLists, requestLists, withdrawLists}
-use Rattle.daybook.proofs.Well.{WellFormed}
-use Rattle.daybook.proofs.OpenStep.{fresh-step, fresh-keeps, open-step, open-keeps}
-use Rattle.daybook.proofs.EnergyStep.{energy-step, energy-keeps}
-use Rattle.daybook.proofs.StatusStep.{status-step, status-keeps}
-use Rattle.daybook.proofs.TransferStep.{request-step, request-keeps, withdraw-step, withdraw-keeps}
-use Rattle.layout.specs.Layout.{tableLength, standard, registerOf, tableBook, written}
+use Rattle.lists.specs.Lists.{Register, bookOf}
+use Rattle.lists.specs.InnerSteps.{freshLists, openingLists, energyLists, statusLists, requestLists, withdrawLists}
+use Rattle.lists.specs.InnerWell.{WellFormed}
+use Rattle.lists.proofs.OpenStep.{fresh-step, fresh-keeps, open-step, open-keeps}
+use Rattle.lists.proofs.EnergyStep.{energy-step, energy-keeps}
+use Rattle.lists.proofs.StatusStep.{status-step, status-keeps}
+use Rattle.lists.proofs.TransferStep.{request-step, request-keeps, withdraw-step, withdraw-keeps}
+use Rattle.layout.specs.Layout.{tableLength, registerOf, tableBook, withBook}
 use Rattle.layout.specs.Sound.{sound}
-use Rattle.layout.specs.Calls.{refused, leaves, onTable}
+use Rattle.layout.specs.Calls.{refused, answerAndTable, onTable}
 use Rattle.layout.proofs.Tables.{written-is, book-of-layout}
 use Rattle.layout.proofs.TableSound.{sound-lays, standard-fits}
 use Rattle.layout.proofs.SoundTable.{lays-sound}
@@ -46,7 +46,7 @@ pub record Holds (t : List ℤ) (B : Book) : Type 0 where
 -- ---- the book written over a table
 
 -- a book of well-formed lists, written over any table, makes a sound one with that book
-pub written-holds : {R : Register} → WellFormed standard R → (t : List ℤ) → Holds (written standard t (bookOf R)) (bookOf R)
+pub written-holds : {R : Register} → WellFormed standard R → (t : List ℤ) → Holds (withBook standard t (bookOf R)) (bookOf R)
 written-holds {R} ok t =
     subst (λ u. Holds u (bookOf R)) (sym (written-is standard ok t))
     (record {
@@ -117,17 +117,17 @@ module _ (t : List ℤ) (s : sound standard t ≡ true) where
   B = tableBook standard t
 
   -- what a sound table makes of a notice: the book's step
-  on-sound : (k : ℕ) (step : Book → Numbers × Book) → onTable k step standard t ≡ leaves standard t (step B)
+  on-sound : (k : ℕ) (step : Book → Numbers × Book) → onTable k step standard t ≡ answerAndTable standard t (step B)
   unfolding onTable
   on-sound k step = rw s
 
-  fresh-sound : (n : Ranges) → freshCall t n ≡ leaves standard t (fresh n B)
+  fresh-sound : (n : Ranges) → freshCall t n ≡ answerAndTable standard t (fresh n B)
   unfolding freshCall
   fresh-sound n = rw (le-leb tableLength (length t) (sound-long t s .0))
 
   -- a notice leaves a sound table with the book after it
   notice-holds : {step : Book → Numbers × Book} {lists : Register → Numbers × Register} → Notice step lists
-      → Holds (leaves standard t (step B) .1) (step B .1)
+      → Holds (answerAndTable standard t (step B) .1) (step B .1)
   unfolding tableBook
   notice-holds {step} c = go (refused (step B .0)) refl
     where
@@ -137,15 +137,15 @@ module _ (t : List ℤ) (s : sound standard t ≡ true) where
       ok : WellFormed standard R
       ok = sound-lays standard standard-fits t s .0
 
-      go : (b : Bool) → refused (step B .0) ≡ b → Holds (cond b t (written standard t (step B .1))) (step B .1)
+      go : (b : Bool) → refused (step B .0) ≡ b → Holds (cond b t (withBook standard t (step B .1))) (step B .1)
       go true e = record { isSound = s; book = sym (c .sentBack B e) }
       go false e =
-          subst (λ B. Holds (written standard t B) B) (sym (ap (λ w. w .1) (c .is R ok))) (written-holds (c .keeps R ok) t)
+          subst (λ B. Holds (withBook standard t B) B) (sym (ap (λ w. w .1) (c .is R ok))) (written-holds (c .keeps R ok) t)
 
   follows : {step : Book → Numbers × Book} {lists : Register → Numbers × Register} → Notice step lists → (v : Numbers × List ℤ)
-      → v ≡ leaves standard t (step B) → Follows ((v .0, []), v .1) (noted (step B))
+      → v ≡ answerAndTable standard t (step B) → Follows ((v .0, []), v .1) (noted (step B))
   follows {step} c v e =
-      let h : Holds (leaves standard t (step B) .1) (step B .1) = notice-holds c in
+      let h : Holds (answerAndTable standard t (step B) .1) (step B .1) = notice-holds c in
       subst (λ (v : Numbers × List ℤ). Follows ((v .0, []), v .1) (noted (step B))) (sym e)
       (record { isSound = h .isSound; same = ap (λ B′. noted (step B .0, B′)) (h .book) })
 

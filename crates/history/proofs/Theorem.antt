@@ -4,7 +4,7 @@ use mathlib.Core.List.{List, [], _∷_}
 use lib.IntN.{ℤ, pos}
 use Rattle.daybook.specs.declared.Ranges.{Ranges}
 use Rattle.daybook.specs.Calls.{Call, State, run, answers}
-use Rattle.layout.specs.Layout.{standard}
+use Rattle.daybook.specs.Book.{standard}
 use Rattle.opening.specs.Opening.{freshCall}
 use Rattle.history.specs.Lists.{tableRun, tableAnswers, freshState}
 use Rattle.history.specs.Agreement.{Agrees}

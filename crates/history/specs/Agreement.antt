@@ -9,11 +9,11 @@ use lib.ListN.{length, getD, drop}
 use Rattle.numbers.specs.Sums.{sumFrom, sumOver}
 use Rattle.daybook.specs.declared.AccountQuery.{AccountQuery}
 use Rattle.daybook.specs.declared.AllocationQuery.{AllocationQuery}
-use Rattle.daybook.specs.Book.{Entry, Point, Book, filled, dayShare}
+use Rattle.daybook.specs.Book.{Entry, Point, Book, filled, dayShare, standard}
 use Rattle.daybook.specs.Notices.{Numbers}
 use Rattle.daybook.specs.Queries.{sumOf, accountOf, allocate}
-use Rattle.daybook.proofs.Covering.{covering}
-use Rattle.layout.specs.Layout.{standard, partOf, pointFrom, tableBook}
+use Rattle.lists.specs.Lists.{covering}
+use Rattle.layout.specs.Layout.{partOf, pointFrom, tableBook}
 use Rattle.layout.specs.Sound.{sound}
 use Rattle.layout.specs.Calls.{refused}
 use Rattle.account.specs.Account.{accountCall}

@@ -4,7 +4,7 @@ use lib.IntN.{ℤ}
 use Rattle.daybook.specs.declared.Ranges.{Ranges}
 use Rattle.daybook.specs.Notices.{Numbers}
 use Rattle.daybook.specs.Calls.{Call, fresh!, open!, energy!, status!, request!, withdraw!, account!, allocate!, State, Answer}
-use Rattle.layout.specs.Layout.{standard}
+use Rattle.daybook.specs.Book.{standard}
 use Rattle.opening.specs.Opening.{freshCall, openCall}
 use Rattle.energy.specs.Energy.{energyCall}
 use Rattle.status.specs.Status.{statusCall}

@@ -12,7 +12,7 @@ use borrow.Author.Tests.{lt-leb}
 use Rattle.words.proofs.Tables.{length-decoded}
 use Rattle.calendar.specs.Calendar.{holidayList}
 use Rattle.daybook.specs.declared.TransferRequest.{TransferRequest}
-use Rattle.layout.specs.Layout.{standard}
+use Rattle.daybook.specs.Book.{standard}
 use Rattle.layout.specs.Sound.{sound}
 use Rattle.transfer.specs.Transfer.{requestCall}
 use Rattle.transfer.proofs.Requests.{inRange, request-unsound, request-range, request-holidays}

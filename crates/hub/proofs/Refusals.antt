@@ -21,12 +21,12 @@ use Rattle.daybook.specs.declared.TransferRequest.{TransferRequest}
 use Rattle.daybook.specs.declared.Withdrawal.{Withdrawal}
 use Rattle.daybook.specs.declared.AccountQuery.{AccountQuery}
 use Rattle.daybook.specs.declared.AllocationQuery.{AllocationQuery}
-use Rattle.daybook.specs.Book.{Book, Point}
+use Rattle.daybook.specs.Book.{Book, Point, standard}
 use Rattle.daybook.specs.Notices.{Row, smaller, least, Numbers, decide, find, onPoint, freshRows, fresh, openingRows, opening, energyEarly, energyRows, energy, statusEarly, statusRows, status, requestEarly, requestRows, request, withdrawEarly, withdrawRows, withdraw}
 use Rattle.daybook.specs.Queries.{accountRows, account, allocateRows, allocate}
-use Rattle.layout.specs.Layout.{tableLength, standard, tableBook}
+use Rattle.layout.specs.Layout.{tableLength, tableBook}
 use Rattle.layout.specs.Sound.{sound}
-use Rattle.layout.specs.Calls.{leaves, onTable, ofTable}
+use Rattle.layout.specs.Calls.{answerAndTable, onTable, ofTable}
 use Rattle.opening.specs.Opening.{freshCall, openCall}
 use Rattle.energy.specs.Energy.{energyCall}
 use Rattle.status.specs.Status.{statusCall}
@@ -81,7 +81,7 @@ on-table : (k : ℕ) (step : Book → Numbers × Book) (t : List ℤ) → ((B : 
 unfolding onTable
 on-table k step t h = go (sound standard t)
   where
-    go : (s : Bool) → refusalOf (cond s (leaves standard t (step (tableBook standard t))) (pos 1 ∷ replicate k (pos 0), t) .0) ≤ 16
+    go : (s : Bool) → refusalOf (cond s (answerAndTable standard t (step (tableBook standard t))) (pos 1 ∷ replicate k (pos 0), t) .0) ≤ 16
     go true = h (tableBook standard t)
     go false = omega arith
 
@@ -91,7 +91,7 @@ pub fresh-small : (t : List ℤ) (n : Ranges) → refusalOf (freshCall t n .0) �
 unfolding freshCall fresh freshRows small
 fresh-small t n = go (leb tableLength (length t))
   where
-    go : (s : Bool) → refusalOf (cond s (leaves standard t (fresh n (tableBook standard t))) (pos 1 ∷ [], t) .0) ≤ 16
+    go : (s : Bool) → refusalOf (cond s (answerAndTable standard t (fresh n (tableBook standard t))) (pos 1 ∷ [], t) .0) ≤ 16
     go true = rw decided (small-least (freshRows n) refl)
     go false = omega arith
 

@@ -13,15 +13,16 @@ use Rattle.numbers.proofs.Naturals.{same-true}
 use Rattle.daybook.specs.declared.AllocationQuery.{AllocationQuery}
 use Rattle.daybook.specs.Notices.{Numbers}
 use Rattle.daybook.specs.Queries.{allocationInRange, weights, total, pointShares, allocateRows, allocate}
-use Rattle.daybook.proofs.Splits.{split-length}
-use Rattle.layout.specs.Layout.{standard, numAt, tableBook}
+use Rattle.lists.proofs.Splits.{split-length}
+use Rattle.daybook.specs.Book.{standard}
+use Rattle.layout.specs.Layout.{numAt, tableBook}
 use Rattle.layout.specs.Sound.{sound}
 use Rattle.layout.specs.Calls.{ofTable}
 use Rattle.point.proofs.Rows.{length-rows}
 use Rattle.table.proofs.Laws.{sound-long}
 use Rattle.readings.proofs.Points.{partPoint, points-are}
 use Rattle.allocate.specs.Allocate.{allocateCall, placed}
-use Rattle.allocate.specs.Parts.{givenOf}
+use Rattle.allocate.specs.InnerParts.{givenOf}
 use Rattle.allocate.proofs.Apportioned.{in-range-tells}
 use Rattle.allocate.proofs.Call.{call-unsound, call-range, call-weightless, call-given}
 use Rattle.buffers.specs.Buffers.{withNumbers, replied, written}

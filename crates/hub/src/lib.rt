@@ -72,17 +72,17 @@ pub extern "C" fn petlumas_energy(
     start: i64,
     end: i64,
     energy: i64,
-    quality: i64,
+    type_: i64,
     confirmed: i64,
 ) -> i64
-    ensures { λ r. ⌜ (r, (now (register .exit), now (answer .exit))) ≡ written (energyCall (tableIn (now (register .entry))) (record { mirn = mirn; start = start; end = end; energy = energy; quality = quality; confirmed = confirmed })) (now (register .entry)) (now (answer .entry)) ⌝ }
+    ensures { λ r. ⌜ (r, (now (register .exit), now (answer .exit))) ≡ written (energyCall (tableIn (now (register .entry))) (record { mirn = mirn; start = start; end = end; energy = energy; «type_» = «type_»; confirmed = confirmed })) (now (register .entry)) (now (answer .entry)) ⌝ }
 {
     let n = EnergyNotice {
         mirn,
         start,
         end,
         energy,
-        quality,
+        type_,
         confirmed,
     };
     let mut t = [0i64; 7688];
@@ -113,8 +113,8 @@ pub extern "C" fn petlumas_status(
 #[no_mangle]
 pub extern "C" fn petlumas_request(
     register: &mut [u8],
-    holidays: &[u8],
     answer: &mut [u8],
+    holidays: &[u8],
     mirn: i64,
     user: i64,
     proposed: i64,

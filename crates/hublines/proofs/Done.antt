@@ -12,7 +12,7 @@ use Rattle.account.specs.Account.{accountCall}
 use Rattle.allocate.specs.Allocate.{allocateCall}
 use Rattle.buffers.specs.Buffers.{tableIn, replied, written}
 use Rattle.printing.specs.Rows.{Printed}
-use Rattle.answers.specs.Lines.{energyOf}
+use Rattle.answers.specs.Lines.{energyNoticeOf}
 use Rattle.answers.proofs.Lines.{rest}
 use Rattle.queries.specs.Lines.{accountQueryOf, allocationQueryOf}
 use Rattle.hublines.specs.Lines.{size, encoded, decoded, shown, shownBoth, energyDone, accountDone, allocateDone, Shown}
@@ -23,10 +23,10 @@ back m lent given k l = take-at given (drop m lent) m (omega (arith, length-take
 
 -- b, n and m are the register's bytes and the two lengths as the code has them; an answer's buffer comes back as given
 module _ {out out' : List ℕ} {at e : ℕ} (t xs : List ℤ) (b register answer given : List ℕ) (r : ℤ) (n m : ℕ) (is-b : b ≡ encoded t register) (is-n : n ≡ size xs 0) (is-m : m ≡ size xs 1) (kept : length given ≡ length (take m answer)) (fits : m ≤ length answer) (room : e ≤ at + 2048) where
-  pub energy-done : (t' : List ℤ) (lent : List ℕ) → (r, (lent, given)) ≡ written (energyCall (tableIn (take n b)) (energyOf (take (length xs - 2) (drop 2 xs)))) (take n b) (take m answer) → t' ≡ decoded (lent ++ drop n b) t → Printed out at (shown r (take m (given ++ drop m answer))) out' e → Shown (some (energyDone (encoded t register) (take (size xs 1) answer) t xs)) t out at t' out' e
+  pub energy-done : (t' : List ℤ) (lent : List ℕ) → (r, (lent, given)) ≡ written (energyCall (tableIn (take n b)) (energyNoticeOf (take (length xs - 2) (drop 2 xs)))) (take n b) (take m answer) → t' ≡ decoded (lent ++ drop n b) t → Printed out at (shown r (take m (given ++ drop m answer))) out' e → Shown (some (energyDone (encoded t register) (take (size xs 1) answer) t xs)) t out at t' out' e
   unfolding energyDone
   energy-done t' lent w d p =
-      let same : (r, (lent, given)) ≡ written (energyCall (tableIn (take (size xs 0) (encoded t register))) (energyOf (drop 2 xs))) (take (size xs 0) (encoded t register)) (take (size xs 1) answer) = rw (rest xs 2, is-n, is-m, is-b) at w in
+      let same : (r, (lent, given)) ≡ written (energyCall (tableIn (take (size xs 0) (encoded t register))) (energyNoticeOf (drop 2 xs))) (take (size xs 0) (encoded t register)) (take (size xs 1) answer) = rw (rest xs 2, is-n, is-m, is-b) at w in
       record {
         room = room;
         left = rw (is-n, is-b) at d ∙ ap (λ (w : ℤ × (List ℕ × List ℕ)). decoded (w .1 .0 ++ drop (size xs 0) (encoded t register)) t) same;

@@ -6,16 +6,16 @@ use Prim.Native.Nat.{ℕ}
 use lib.IntN.{ℤ}
 use types.Run.{OneOf, miss}
 use denote.Enum.Declared.{tagOf}
-use Rattle.journal.specs.declared.Call.{Call}
-use Rattle.journal.specs.declared.Call.the-variants.{Fresh, Open, Energy, Status, Request, Withdraw, Account, Allocate, Date, Look, Table, Poke, Lend, Room, Hub, Unknown}
-use Rattle.journal.proofs.Call.{the-type}
+use Rattle.journal.specs.declared.Command.{Command}
+use Rattle.journal.specs.declared.Command.the-variants.{Fresh, Open, Energy, Status, Request, Withdraw, Account, Allocate, Date, Look, Table, Poke, Lend, Room, Hub, Unknown}
+use Rattle.journal.proofs.Command.{the-type}
 use Rattle.hublines.specs.Lines.{hubLine}
 
 -- the numbers of those calls
 abbrev others : List ℕ
 others = 0 ∷ 1 ∷ 3 ∷ 4 ∷ 5 ∷ 8 ∷ 9 ∷ 10 ∷ 11 ∷ 12 ∷ 13 ∷ 14 ∷ 15 ∷ []
 
-pub no-hub : (call : Call) (t xs : List ℤ) → OneOf others (tagOf the-type call) → hubLine call t xs ≡ none
+pub no-hub : (call : Command) (t xs : List ℤ) → OneOf others (tagOf the-type call) → hubLine call t xs ≡ none
 no-hub Fresh t xs k = refl
 no-hub Open t xs k = refl
 no-hub Energy t xs k = absurd (miss others 2 tt k)

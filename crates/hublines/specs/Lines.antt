@@ -12,19 +12,19 @@ use lib.ListN.{length, take, drop, replicate}
 use Rattle.numbers.specs.Naturals.{natOf}
 use Rattle.numbers.specs.Search.{maybe}
 use Rattle.words.specs.Tables.{decodedInto, encodedInto}
-use Rattle.journal.specs.declared.Call.{Call}
-use Rattle.journal.specs.declared.Call.the-variants.{Fresh, Open, Energy, Status, Request, Withdraw, Account, Allocate, Date, Look, Table, Poke, Lend, Room, Hub, Unknown}
+use Rattle.journal.specs.declared.Command.{Command}
+use Rattle.journal.specs.declared.Command.the-variants.{Fresh, Open, Energy, Status, Request, Withdraw, Account, Allocate, Date, Look, Table, Poke, Lend, Room, Hub, Unknown}
 use Rattle.energy.specs.Energy.{energyCall}
 use Rattle.account.specs.Account.{accountCall}
 use Rattle.allocate.specs.Allocate.{allocateCall}
 use Rattle.buffers.specs.Buffers.{tableIn, replied, written}
 use Rattle.printing.specs.Rows.{textOf, hexOf, Printed}
-use Rattle.answers.specs.Lines.{num, energyOf}
+use Rattle.answers.specs.Lines.{num, energyNoticeOf}
 use Rattle.queries.specs.Lines.{accountQueryOf, allocationQueryOf}
 
 -- The text that is printed, and the register's buffer after it.
-abbrev pub Outcome : Type 0
-Outcome = Option (List ℕ × List ℤ)
+abbrev pub HubLineResult : Type 0
+HubLineResult = Option (List ℕ × List ℤ)
 
 -- A buffer's length, number i of a line.
 abbrev pub size : List ℤ → ℕ → ℕ
@@ -48,7 +48,7 @@ shownBoth r answer shares = textOf r ++ (32 ∷ (hexOf answer ++ (32 ∷ (hexOf 
 unfoldable pub energyDone : List ℕ → List ℕ → List ℤ → List ℤ → List ℕ × List ℤ
 energyDone b answer t xs =
     let lent : List ℕ = take (size xs 0) b in
-    let w : ℤ × (List ℕ × List ℕ) = written (energyCall (tableIn lent) (energyOf (drop 2 xs))) lent answer in
+    let w : ℤ × (List ℕ × List ℕ) = written (energyCall (tableIn lent) (energyNoticeOf (drop 2 xs))) lent answer in
     (shown (w .0) (w .1 .1), decoded (w .1 .0 ++ drop (size xs 0) b) t)
 
 unfoldable pub accountDone : List ℕ → List ℕ → List ℤ → List ℤ → List ℕ × List ℤ
@@ -71,30 +71,30 @@ unfoldable pub buffer : ℕ → List ℕ
 buffer n = replicate n 170
 
 -- The call of a line that has k numbers, of which the first two are lengths.
-abbrev pub lending : ℕ → List ℤ → List ℕ × List ℤ → Outcome
+abbrev pub lending : ℕ → List ℤ → List ℕ × List ℤ → HubLineResult
 lending k xs o = cond (eqb (length xs) k && (leb (size xs 0) 61632 && leb (size xs 1) 300)) (some o) none
 
-unfoldable pub energyLine : List ℤ → List ℤ → Outcome
-energyLine t xs = lending 8 xs (energyDone (bytesOf t) (buffer (size xs 1)) t xs)
+unfoldable pub hubEnergyLine : List ℤ → List ℤ → HubLineResult
+hubEnergyLine t xs = lending 8 xs (energyDone (bytesOf t) (buffer (size xs 1)) t xs)
 
-unfoldable pub accountLine : List ℤ → List ℤ → Outcome
-accountLine t xs = lending 5 xs (accountDone (bytesOf t) (buffer (size xs 1)) t xs)
+unfoldable pub hubAccountLine : List ℤ → List ℤ → HubLineResult
+hubAccountLine t xs = lending 5 xs (accountDone (bytesOf t) (buffer (size xs 1)) t xs)
 
 -- An allocation's third number is a length too.
-unfoldable pub allocateLine : List ℤ → List ℤ → Outcome
-allocateLine t xs =
+unfoldable pub hubAllocateLine : List ℤ → List ℤ → HubLineResult
+hubAllocateLine t xs =
     cond (leb (size xs 2) 300) (lending 9 xs (allocateDone (bytesOf t) (buffer (size xs 1)) (buffer (size xs 2)) t xs)) none
 
 -- The call that the word after `hub` names.
-abbrev pub hubLine : Call → List ℤ → List ℤ → Outcome
+abbrev pub hubLine : Command → List ℤ → List ℤ → HubLineResult
 hubLine Fresh t xs = none
 hubLine Open t xs = none
-hubLine Energy t xs = energyLine t xs
+hubLine Energy t xs = hubEnergyLine t xs
 hubLine Status t xs = none
 hubLine Request t xs = none
 hubLine Withdraw t xs = none
-hubLine Account t xs = accountLine t xs
-hubLine Allocate t xs = allocateLine t xs
+hubLine Account t xs = hubAccountLine t xs
+hubLine Allocate t xs = hubAllocateLine t xs
 hubLine Date t xs = none
 hubLine Look t xs = none
 hubLine Table t xs = none
@@ -104,16 +104,8 @@ hubLine Room t xs = none
 hubLine Hub t xs = none
 hubLine Unknown t xs = none
 
--- Buffers of which a line's first two numbers can be lent.
-pub record Lendable (t : List ℤ) (register answer : List ℕ) (xs : List ℤ) : Type 0 where
-  pub of-t : length t ≡ 7704
-  pub of-register : length register ≡ 61632
-  pub of-answer : length answer ≡ 300
-  pub first : size xs 0 ≤ 61632
-  pub second : size xs 1 ≤ 300
-
 -- The outcome is in the register's buffer and in the output, which has room for 2,048 bytes.
-pub record Shown (o : Outcome) (t : List ℤ) (out : List ℕ) (at : ℕ) (t' : List ℤ) (out' : List ℕ) (r : ℕ) : Type 0 where
+pub record Shown (o : HubLineResult) (t : List ℤ) (out : List ℕ) (at : ℕ) (t' : List ℤ) (out' : List ℕ) (r : ℕ) : Type 0 where
   pub room : r ≤ at + 2048
   pub left : t' ≡ maybe t (λ p. p .1) o
   pub text : Printed out at (maybe [] (λ p. p .0) o) out' r

@@ -10,10 +10,11 @@ ghost use Rattle.account.specs.Account.{accountCall};
 ghost use Rattle.allocate.specs.Allocate.{allocateCall};
 ghost use Rattle.buffers.specs.Buffers.{tableIn, replied, written};
 ghost use Rattle.printing.specs.Rows.{Printed};
-ghost use Rattle.answers.specs.Lines.{energyOf};
+ghost use Rattle.answers.specs.Lines.{energyNoticeOf};
 ghost use Rattle.queries.specs.Lines.{accountQueryOf, allocationQueryOf};
-ghost use Rattle.hublines.specs.Lines.{size, encoded, shown, shownBoth, energyDone, accountDone, allocateDone, energyLine, accountLine, allocateLine, hubLine, Lendable, Shown};
-use journal::Call;
+ghost use Rattle.hublines.specs.Lines.{size, encoded, shown, shownBoth, energyDone, accountDone, allocateDone, hubEnergyLine, hubAccountLine, hubAllocateLine, hubLine, Shown};
+ghost use Rattle.hublines.specs.InnerLines.{Lendable};
+use journal::Command;
 use printing::put_bytes;
 use printing::put_signed;
 
@@ -38,7 +39,7 @@ fn print_both(out: &mut [u8], at: usize, result: i64, answer: &[u8], shares: &[u
 
 fn call_energy(register: &mut [u8], answer: &mut [u8], nums: &[i64]) -> i64
     requires { ⌜ 6 ≤ length (now nums) ⌝ }
-    ensures { λ r. ⌜ (r, (now (register .exit), now (answer .exit))) ≡ written (energyCall (tableIn (now (register .entry))) (energyOf (now (nums .entry)))) (now (register .entry)) (now (answer .entry)) ⌝ }
+    ensures { λ r. ⌜ (r, (now (register .exit), now (answer .exit))) ≡ written (energyCall (tableIn (now (register .entry))) (energyNoticeOf (now (nums .entry)))) (now (register .entry)) (now (answer .entry)) ⌝ }
 {
     hub::petlumas_energy(
         register,
@@ -141,7 +142,7 @@ fn allocate_on(
 
 fn energy(t: &mut [i64], nums: &[i64], out: &mut [u8], at: usize) -> usize
     requires { ⌜ (length (now t) ≡ 7704) × (at + 2048 ≤ length (now out)) ⌝ }
-    ensures { λ r. ⌜ Shown (energyLine (now (t .entry)) (now (nums .entry))) (now (t .entry)) (now (out .entry)) at (now (t .exit)) (now (out .exit)) r ⌝ }
+    ensures { λ r. ⌜ Shown (hubEnergyLine (now (t .entry)) (now (nums .entry))) (now (t .entry)) (now (out .entry)) at (now (t .exit)) (now (out .exit)) r ⌝ }
 {
     if nums.len() != 8 {
         return at;
@@ -159,7 +160,7 @@ fn energy(t: &mut [i64], nums: &[i64], out: &mut [u8], at: usize) -> usize
 
 fn account(t: &[i64], nums: &[i64], out: &mut [u8], at: usize) -> usize
     requires { ⌜ (length (now t) ≡ 7704) × (at + 2048 ≤ length (now out)) ⌝ }
-    ensures { λ r. ⌜ Shown (accountLine (now (t .entry)) (now (nums .entry))) (now (t .entry)) (now (out .entry)) at (now (t .entry)) (now (out .exit)) r ⌝ }
+    ensures { λ r. ⌜ Shown (hubAccountLine (now (t .entry)) (now (nums .entry))) (now (t .entry)) (now (out .entry)) at (now (t .entry)) (now (out .exit)) r ⌝ }
 {
     if nums.len() != 5 {
         return at;
@@ -177,7 +178,7 @@ fn account(t: &[i64], nums: &[i64], out: &mut [u8], at: usize) -> usize
 
 fn allocate(t: &[i64], nums: &[i64], out: &mut [u8], at: usize) -> usize
     requires { ⌜ (length (now t) ≡ 7704) × (at + 2048 ≤ length (now out)) ⌝ }
-    ensures { λ r. ⌜ Shown (allocateLine (now (t .entry)) (now (nums .entry))) (now (t .entry)) (now (out .entry)) at (now (t .entry)) (now (out .exit)) r ⌝ }
+    ensures { λ r. ⌜ Shown (hubAllocateLine (now (t .entry)) (now (nums .entry))) (now (t .entry)) (now (out .entry)) at (now (t .entry)) (now (out .exit)) r ⌝ }
 {
     if nums.len() != 9 {
         return at;
@@ -198,14 +199,14 @@ fn allocate(t: &[i64], nums: &[i64], out: &mut [u8], at: usize) -> usize
 }
 
 // The call that the word after `hub` names.
-pub fn answer(call: Call, t: &mut [i64], nums: &[i64], out: &mut [u8], at: usize) -> usize
+pub fn answer(call: Command, t: &mut [i64], nums: &[i64], out: &mut [u8], at: usize) -> usize
     requires { ⌜ (length (now t) ≡ 7704) × (at + 2048 ≤ length (now out)) ⌝ }
     ensures { λ r. ⌜ Shown (hubLine call (now (t .entry)) (now (nums .entry))) (now (t .entry)) (now (out .entry)) at (now (t .exit)) (now (out .exit)) r ⌝ }
 {
     match call {
-        Call::Energy => energy(t, nums, out, at),
-        Call::Account => account(t, nums, out, at),
-        Call::Allocate => allocate(t, nums, out, at),
+        Command::Energy => energy(t, nums, out, at),
+        Command::Account => account(t, nums, out, at),
+        Command::Allocate => allocate(t, nums, out, at),
         _ => at,
     }
 }

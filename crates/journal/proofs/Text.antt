@@ -14,7 +14,8 @@ use lib.ListN.{length, take, drop, getD, set, length-take, length-drop, take-app
 use lib.Seq.{drop-cons, drop-drop, getD-take, getD-drop, take-suc-set}
 use Rattle.numbers.specs.Search.{maybe}
 use Rattle.numbers.proofs.Bools.{both}
-use Rattle.journal.specs.Text.{isDigit, digitsAfter, digitsOf, capped, nonNegative, negative, numberOf, wordsOf, begun, numbersOf, Ended}
+use Rattle.journal.specs.Text.{isDigit, digitsAfter, valueOfDigits, nonNegative, negative, numberOf, wordsOf, begun, numbersOf}
+use Rattle.journal.specs.InnerText.{capped, Ended}
 use Rattle.journal.specs.Names.{sameBytes}
 
 -- ---- digits
@@ -40,30 +41,30 @@ too-large n (b ∷ s) h = go (isDigit b) refl (too-large (10 * n + (b - 48)) s (
     go false e f = rw e
 
 -- the loop has read n, and byte i is next
-module _ (s : List ℕ) (at i n : ℕ) (inv : digitsAfter n (drop i s) ≡ digitsOf (drop at s)) where
+module _ (s : List ℕ) (at i n : ℕ) (inv : digitsAfter n (drop i s) ≡ valueOfDigits (drop at s)) where
   module _ (b : ℕ) (h : i < length s) (is : b ≡ getD s i 0) where
-    pub digits-more : isDigit b ≡ true → digitsAfter (10 * n + (b - 48)) (drop (i + 1) s) ≡ digitsOf (drop at s)
+    pub digits-more : isDigit b ≡ true → digitsAfter (10 * n + (b - 48)) (drop (i + 1) s) ≡ valueOfDigits (drop at s)
     unfolding digitsAfter
     digits-more e = rw (add-one i) (rw (drop-cons s i 0, ← is, e) at inv)
 
-    pub digits-other : isDigit b ≡ false → 2 ^ 63 + 1 ≡ capped (digitsOf (drop at s))
+    pub digits-other : isDigit b ≡ false → 2 ^ 63 + 1 ≡ capped (valueOfDigits (drop at s))
     unfolding digitsAfter
     digits-other e = ap capped (rw (drop-cons s i 0, ← is, e) at inv)
 
-    pub digits-large : isDigit b ≡ true → 922337203685477580 < n → 2 ^ 63 + 1 ≡ capped (digitsOf (drop at s))
+    pub digits-large : isDigit b ≡ true → 922337203685477580 < n → 2 ^ 63 + 1 ≡ capped (valueOfDigits (drop at s))
     digits-large e l =
         sym (too-large (10 * n + (b - 48)) (drop (i + 1) s) (omega arith)) ∙ ap capped (digits-more e)
 
-  pub digits-end : length s ≤ i → n ≤ 2 ^ 63 + 1 → n ≡ capped (digitsOf (drop at s))
+  pub digits-end : length s ≤ i → n ≤ 2 ^ 63 + 1 → n ≡ capped (valueOfDigits (drop at s))
   unfolding digitsAfter
   digits-end h l = sym (capped-is n l) ∙ ap capped (rw (drop-of-length-le s h) at inv)
 
-pub digits-start : (s : List ℕ) (at : ℕ) → at < length s → digitsAfter 0 (drop at s) ≡ digitsOf (drop at s)
-unfolding digitsOf
+pub digits-start : (s : List ℕ) (at : ℕ) → at < length s → digitsAfter 0 (drop at s) ≡ valueOfDigits (drop at s)
+unfolding valueOfDigits
 digits-start s at h = rw (drop-cons s at 0)
 
-pub digits-missing : (s : List ℕ) (at : ℕ) → length s ≤ at → capped (digitsOf (drop at s)) ≡ 2 ^ 63 + 1
-unfolding digitsOf
+pub digits-missing : (s : List ℕ) (at : ℕ) → length s ≤ at → capped (valueOfDigits (drop at s)) ≡ 2 ^ 63 + 1
+unfolding valueOfDigits
 digits-missing s at h = rw (drop-of-length-le s h)
 
 -- ---- numbers
@@ -87,15 +88,15 @@ negative-capped (some m) = go (leb m (2 ^ 63)) refl
     go true e = ap negative (capped-is m (omega (arith, leb-true m (2 ^ 63) e)))
     go false e = rw e
 
-pub number-minus : (s : List ℕ) → 0 < length s → getD s 0 0 ≡ 45 → negative (capped (digitsOf (drop 1 s))) ≡ numberOf s
+pub number-minus : (s : List ℕ) → 0 < length s → getD s 0 0 ≡ 45 → negative (capped (valueOfDigits (drop 1 s))) ≡ numberOf s
 unfolding numberOf
 number-minus [] h e = absurd (omega arith)
-number-minus (b ∷ s) h e = rw (e, negative-capped (digitsOf s))
+number-minus (b ∷ s) h e = rw (e, negative-capped (valueOfDigits s))
 
-pub number-plain : (s : List ℕ) → 0 < length s → (getD s 0 0 ≡ 45 → ⊥) → nonNegative (capped (digitsOf (drop 0 s))) ≡ numberOf s
+pub number-plain : (s : List ℕ) → 0 < length s → (getD s 0 0 ≡ 45 → ⊥) → nonNegative (capped (valueOfDigits (drop 0 s))) ≡ numberOf s
 unfolding numberOf
 number-plain [] h e = absurd (omega arith)
-number-plain (b ∷ s) h e = rw (ne-eqb b 45 e, non-negative-capped (digitsOf (b ∷ s)))
+number-plain (b ∷ s) h e = rw (ne-eqb b 45 e, non-negative-capped (valueOfDigits (b ∷ s)))
 
 pub non-negative-fits : (m : ℕ) → m < 2 ^ 63 → some (pos m) ≡ nonNegative m
 non-negative-fits m h = rw (lt-ltb m (2 ^ 63) h)

@@ -24,9 +24,9 @@ digitsAfter n [] = some n
 digitsAfter n (b ∷ s) = let m : Option ℕ = digitsAfter (10 * n + (b - 48)) s in cond (isDigit b) m none
 
 -- One or more digits.
-unfoldable pub digitsOf : List ℕ → Option ℕ
-digitsOf [] = none
-digitsOf (b ∷ s) = digitsAfter 0 (b ∷ s)
+unfoldable pub valueOfDigits : List ℕ → Option ℕ
+valueOfDigits [] = none
+valueOfDigits (b ∷ s) = digitsAfter 0 (b ∷ s)
 
 abbrev pub nonNegative : ℕ → Option ℤ
 nonNegative m = cond (ltb m (2 ^ 63)) (some (pos m)) none
@@ -37,7 +37,7 @@ negative m = cond (leb m (2 ^ 63)) (some (subℕ 0 m)) none
 -- The number that a word stands for, from -2^63 to 2^63 - 1: digits, after a minus sign (45) if it is negative.
 unfoldable pub numberOf : List ℕ → Option ℤ
 numberOf [] = none
-numberOf (b ∷ s) = cond (eqb b 45) (maybe none negative (digitsOf s)) (maybe none nonNegative (digitsOf (b ∷ s)))
+numberOf (b ∷ s) = cond (eqb b 45) (maybe none negative (valueOfDigits s)) (maybe none nonNegative (valueOfDigits (b ∷ s)))
 
 -- ---- words
 
@@ -59,11 +59,6 @@ numbersOf (w ∷ ws) = maybe none (λ x. maybe none (λ xs. some (x ∷ xs)) (nu
 
 -- ---- what the code answers
 
--- A magnitude as the code holds it: 2^63 + 1 for none and for all above 2^63.
-abbrev pub capped : Option ℕ → ℕ
-capped none = 2 ^ 63 + 1
-capped (some m) = cond (leb m (2 ^ 63)) m (2 ^ 63 + 1)
-
 abbrev pub valueOf : Parsed → Option ℤ
 valueOf (Parsed·.Value x) = some x
 valueOf Parsed·.Nothing = none
@@ -73,20 +68,6 @@ abbrev pub readInto : Taken → List ℤ → Option (List ℤ)
 readInto (Taken·.Count n) t = some (take n t)
 readInto Taken·.Nothing t = none
 
-abbrev pub countOf : Taken → ℕ
-countOf (Taken·.Count n) = n
-countOf Taken·.Nothing = 0
-
--- r is the place of the first word's start at or after at, or the line's end.
-pub record Skipped (line : List ℕ) (at r : ℕ) : Type 0 where
-  pub from : at ≤ r
-  pub within : r ≤ length line
-  pub same-words : wordsOf (drop r line) ≡ wordsOf (drop at line)
-  pub stops : r < length line → getD line r 0 ≡ 32 → ⊥
-
--- r is the place of the first space at or after at, or the line's end.
-pub record Ended (line : List ℕ) (at r : ℕ) : Type 0 where
-  pub from : at ≤ r
-  pub within : r ≤ length line
-  pub unbroken : (k : ℕ) → k < r → at ≤ k → getD line k 0 ≡ 32 → ⊥
-  pub stops : r < length line → getD line r 0 ≡ 32
+abbrev pub takenCount : Taken → ℕ
+takenCount (Taken·.Count n) = n
+takenCount Taken·.Nothing = 0

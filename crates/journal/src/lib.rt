@@ -2,11 +2,12 @@
 ghost use mathlib.Core.Path.{_≡_};
 ghost use Prim.Native.Nat.{_+_, _*_, _<_, _≤_, _^_};
 ghost use lib.ListN.{length, drop};
-ghost use Rattle.journal.specs.Text.{isDigit, digitsOf, capped, nonNegative, negative as Text·negative, numberOf, valueOf, Skipped, Ended, wordsOf, numbersOf, readInto, countOf};
-ghost use Rattle.journal.specs.Names.{sameBytes, noticeOf, askedOf, callOf};
+ghost use Rattle.journal.specs.Text.{isDigit, valueOfDigits, nonNegative, negative as Text·negative, numberOf, valueOf, wordsOf, numbersOf, readInto, takenCount};
+ghost use Rattle.journal.specs.InnerText.{capped, Skipped, Ended};
+ghost use Rattle.journal.specs.Names.{sameBytes, noticeNamed, queryNamed, commandNamed};
 
 // The calls of a journal. Lend is `tlen`, and Room is `alen`; the word after `hub` names a call on bytes.
-pub enum Call {
+pub enum Command {
     Fresh,
     Open,
     Energy,
@@ -51,7 +52,7 @@ fn is_digit(b: u64) -> bool
 
 // The number of the digits from at on; 2^63 + 1 if it is above 2^63, or if anything but digits stands there.
 fn magnitude(s: &[u8], at: usize) -> u64
-    ensures { λ r. ⌜ r ≡ capped (digitsOf (drop at (now (s .entry)))) ⌝ }
+    ensures { λ r. ⌜ r ≡ capped (valueOfDigits (drop at (now (s .entry)))) ⌝ }
 {
     if s.len() <= at {
         return 0x8000_0000_0000_0001;
@@ -152,75 +153,75 @@ fn same(a: &[u8], b: &[u8]) -> bool
     true
 }
 
-fn notice(w: &[u8]) -> Call
-    ensures { λ r. ⌜ r ≡ noticeOf (now (w .entry)) ⌝ }
+fn notice(w: &[u8]) -> Command
+    ensures { λ r. ⌜ r ≡ noticeNamed (now (w .entry)) ⌝ }
 {
     if same(w, b"fresh") {
-        return Call::Fresh;
+        return Command::Fresh;
     }
     if same(w, b"open") {
-        return Call::Open;
+        return Command::Open;
     }
     if same(w, b"energy") {
-        return Call::Energy;
+        return Command::Energy;
     }
     if same(w, b"status") {
-        return Call::Status;
+        return Command::Status;
     }
     if same(w, b"request") {
-        return Call::Request;
+        return Command::Request;
     }
     if same(w, b"withdraw") {
-        return Call::Withdraw;
+        return Command::Withdraw;
     }
-    Call::Unknown
+    Command::Unknown
 }
 
 // The calls that change nothing, and the notices.
-fn asked(w: &[u8]) -> Call
-    ensures { λ r. ⌜ r ≡ askedOf (now (w .entry)) ⌝ }
+fn query(w: &[u8]) -> Command
+    ensures { λ r. ⌜ r ≡ queryNamed (now (w .entry)) ⌝ }
 {
     if same(w, b"account") {
-        return Call::Account;
+        return Command::Account;
     }
     if same(w, b"allocate") {
-        return Call::Allocate;
+        return Command::Allocate;
     }
     if same(w, b"date") {
-        return Call::Date;
+        return Command::Date;
     }
     if same(w, b"look") {
-        return Call::Look;
+        return Command::Look;
     }
     if same(w, b"table") {
-        return Call::Table;
+        return Command::Table;
     }
     notice(w)
 }
 
 // The call that a word names.
-pub fn named(w: &[u8]) -> Call
-    ensures { λ r. ⌜ r ≡ callOf (now (w .entry)) ⌝ }
+pub fn named(w: &[u8]) -> Command
+    ensures { λ r. ⌜ r ≡ commandNamed (now (w .entry)) ⌝ }
 {
     if same(w, b"poke") {
-        return Call::Poke;
+        return Command::Poke;
     }
     if same(w, b"tlen") {
-        return Call::Lend;
+        return Command::Lend;
     }
     if same(w, b"alen") {
-        return Call::Room;
+        return Command::Room;
     }
     if same(w, b"hub") {
-        return Call::Hub;
+        return Command::Hub;
     }
-    asked(w)
+    query(w)
 }
 
 // Reads the words from at on as numbers.
 pub fn take_numbers(line: &[u8], at: usize, nums: &mut [i64]) -> Taken
     requires { ⌜ (at ≤ length (now line)) × (length (now line) ≤ at + 2 * length (now nums)) ⌝ }
-    ensures { λ r. ⌜ (readInto r (now (nums .exit)) ≡ numbersOf (wordsOf (drop at (now (line .entry))))) × (countOf r ≤ length (now (nums .entry))) ⌝ }
+    ensures { λ r. ⌜ (readInto r (now (nums .exit)) ≡ numbersOf (wordsOf (drop at (now (line .entry))))) × (takenCount r ≤ length (now (nums .entry))) ⌝ }
 {
     let mut n = 0;
     let mut i = skip(line, at);

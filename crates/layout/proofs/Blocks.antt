@@ -8,7 +8,7 @@ use lib.ListN.{length, replicate, set, drop, getD, length-append, length-replica
 use lib.Seq.{sets, set-at, drop-cons, drop-append-seam, append-snoc}
 use lib.IntN.{ℤ, pos}
 use Rattle.layout.specs.Layout.{pad}
-use Rattle.layout.specs.Writes.{cleared}
+use Rattle.layout.specs.InnerWrites.{cleared}
 
 abbrev pub zerosOf : ℕ → List ℤ
 zerosOf n = replicate n (pos 0)

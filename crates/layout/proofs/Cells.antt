@@ -9,9 +9,9 @@ use lib.IntN.{ℤ, pos}
 use lib.ListN.{length, getD, List·getD-append}
 use Rattle.numbers.specs.Naturals.{natOf}
 use Rattle.daybook.specs.Book.{Entry}
-use Rattle.daybook.proofs.Lists.{Lists}
-use Rattle.daybook.proofs.Well.{Well}
-use Rattle.layout.specs.Layout.{regNumbers, onNumber, offNumbers, recNumbers, asked, headNumbers, pointNumbers, numAt}
+use Rattle.lists.specs.Lists.{Lists}
+use Rattle.lists.specs.InnerWell.{Well}
+use Rattle.layout.specs.Layout.{regNumbers, onNumber, offNumbers, recNumbers, pendingOrZeros, headNumbers, pointNumbers, numAt}
 use Rattle.layout.proofs.Numbers.{getD-past, Few, in-regs, in-offs, in-recs}
 
 -- ---- the numbers of a row
@@ -113,15 +113,15 @@ module _ (room : ℕ) (q : Lists) where
   unfolding pointNumbers headNumbers
   cell-recs = refl
 
-  pub cell-user : numAt (pointNumbers room q) 7 ≡ asked (q .pending) .user
+  pub cell-user : numAt (pointNumbers room q) 7 ≡ pendingOrZeros (q .pending) .user
   unfolding pointNumbers headNumbers
   cell-user = refl
 
-  pub cell-first : numAt (pointNumbers room q) 8 ≡ asked (q .pending) .first
+  pub cell-first : numAt (pointNumbers room q) 8 ≡ pendingOrZeros (q .pending) .first
   unfolding pointNumbers headNumbers
   cell-first = refl
 
-  pub cell-last : numAt (pointNumbers room q) 9 ≡ asked (q .pending) .last
+  pub cell-last : numAt (pointNumbers room q) 9 ≡ pendingOrZeros (q .pending) .last
   unfolding pointNumbers headNumbers
   cell-last = refl
 
@@ -182,11 +182,11 @@ module _ {room : ℕ} {q : Lists} (w : Well room q) {p : List ℤ} (e : pointNum
   pub place-recs : numAt p 6 ≡ length (q .recs)
   place-recs = ap (λ p. numAt p 6) (sym e) ∙ cell-recs room q
 
-  pub place-user : numAt p 7 ≡ asked (q .pending) .user
+  pub place-user : numAt p 7 ≡ pendingOrZeros (q .pending) .user
   place-user = ap (λ p. numAt p 7) (sym e) ∙ cell-user room q
 
-  pub place-first : numAt p 8 ≡ asked (q .pending) .first
+  pub place-first : numAt p 8 ≡ pendingOrZeros (q .pending) .first
   place-first = ap (λ p. numAt p 8) (sym e) ∙ cell-first room q
 
-  pub place-last : numAt p 9 ≡ asked (q .pending) .last
+  pub place-last : numAt p 9 ≡ pendingOrZeros (q .pending) .last
   place-last = ap (λ p. numAt p 9) (sym e) ∙ cell-last room q

@@ -16,13 +16,13 @@ use Rattle.numbers.proofs.Bools.{both, join}
 use Rattle.calendar.specs.Calendar.{within}
 use Rattle.daybook.specs.Book.{Entry, Pending, appendDay}
 use Rattle.daybook.specs.Notices.{fitsKind, offWithin}
-use Rattle.daybook.proofs.Lists.{Lists, offOn, pointOf}
-use Rattle.daybook.proofs.Steps.{skip, appendDayOf}
-use Rattle.daybook.proofs.Well.{Recs, norec, rec, Well}
-use Rattle.daybook.proofs.Apart.{recs-apart}
-use Rattle.daybook.proofs.Records.{dayAfter, day-after-nil, day-after-cons, day-after-le, last-filled-is}
-use Rattle.daybook.proofs.RecordSteps.{recs-append}
-use Rattle.daybook.proofs.Spans.{append-day-is, no-off}
+use Rattle.lists.specs.Lists.{Lists, offOn, pointOf}
+use Rattle.lists.specs.InnerSteps.{skip, appendDayOf}
+use Rattle.lists.specs.InnerWell.{Recs, norec, rec, Well}
+use Rattle.lists.proofs.Apart.{recs-apart}
+use Rattle.lists.proofs.Records.{dayAfter, day-after-nil, day-after-cons, day-after-le, last-filled-is}
+use Rattle.lists.proofs.RecordSteps.{recs-append}
+use Rattle.lists.proofs.Spans.{append-day-is, no-off}
 use Rattle.layout.specs.Sound.{each, withRecs, byAppendRule, recsSound, listsSound}
 use Rattle.layout.proofs.RowsSound.{facts-sound, facts-ok, regs-sound, regs-ok, spans-sound, spans-ok, pending-sound, pending-ok}
 

@@ -13,13 +13,10 @@ use Rattle.numbers.specs.Naturals.{natOf}
 use Rattle.numbers.specs.Rows.{all}
 use Rattle.numbers.proofs.Rows.{all-none, all-front, all-same}
 use Rattle.daybook.specs.Book.{Edition}
-use Rattle.daybook.proofs.Lists.{Lists}
+use Rattle.lists.specs.Lists.{Lists}
 use Rattle.layout.specs.Layout.{stride, placeOf, numAt, pointFrom, pointsFrom}
 use Rattle.layout.specs.Sound.{each, mirnsDiffer}
-
--- The MIRN of point i is that of no later point, of n.
-unfoldable pub laterDiffer : Edition → List ℤ → ℕ → ℕ → Bool
-laterDiffer ed t n i = all (λ j. not (eqb (numAt t (placeOf ed i)) (numAt t (placeOf ed (suc i + j))))) (n - suc i)
+use Rattle.layout.specs.InnerMirns.{laterDiffer}
 
 module _ (ed : Edition) (t : List ℤ) where
   -- the first number of a part

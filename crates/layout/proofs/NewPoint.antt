@@ -10,9 +10,9 @@ use lib.ListN.{length, take, drop, set, length-append, length-replicate, replica
 use lib.Seq.{take-at, drop-at}
 use lib.IntN.{ℤ, pos}
 use Rattle.daybook.specs.Book.{Facts, Edition}
-use Rattle.daybook.proofs.Lists.{Lists, Register}
+use Rattle.lists.specs.Lists.{Lists, Register}
 use Rattle.layout.specs.Layout.{tableLength, stride, placeOf, Fits, partOf, withPart, pad, headNumbers, regNumbers, offNumbers, recNumbers, pointNumbers, pointsNumbers, layout}
-use Rattle.layout.specs.Writes.{appendRegistration, openPoint, appendPoint}
+use Rattle.layout.specs.InnerWrites.{appendRegistration, openPoint, appendPoint}
 use Rattle.layout.proofs.Blocks.{zerosOf}
 use Rattle.layout.proofs.Numbers.{Few}
 use Rattle.layout.proofs.PartBlocks.{snoc-length}

@@ -11,8 +11,8 @@ use lib.ListN.{length, getD, take, drop, replicate, length-append, length-replic
 use lib.Seq.{take-at, drop-at, getD-append-add, getD-take, length-take-le, ext-getD}
 use borrow.Author.Tests.{ltb-true, ltb-false}
 use Rattle.daybook.specs.Book.{Entry}
-use Rattle.daybook.proofs.Lists.{Lists}
-use Rattle.daybook.proofs.Well.{Well}
+use Rattle.lists.specs.Lists.{Lists}
+use Rattle.lists.specs.InnerWell.{Well}
 use Rattle.layout.specs.Layout.{pad, regNumbers, offNumbers, recNumbers, headNumbers, pointNumbers}
 
 -- ---- a padded block

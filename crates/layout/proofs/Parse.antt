@@ -8,9 +8,9 @@ use lib.IntN.{ℤ}
 use lib.ListN.{length, drop}
 use lib.Seq.{drop-drop}
 use Rattle.daybook.specs.Book.{Entry, Pending}
-use Rattle.daybook.proofs.Lists.{Lists}
-use Rattle.daybook.proofs.Well.{PendingOk, nopending, pending, Well}
-use Rattle.layout.specs.Layout.{pad, regNumbers, onNumber, offNumbers, recNumbers, asked, headNumbers, pointNumbers, regsFrom, onOf, offsFrom, recsFrom, pendingFrom, pointFrom}
+use Rattle.lists.specs.Lists.{Lists}
+use Rattle.lists.specs.InnerWell.{PendingOk, nopending, pending, Well}
+use Rattle.layout.specs.Layout.{pad, regNumbers, onNumber, offNumbers, recNumbers, pendingOrZeros, headNumbers, pointNumbers, regsFrom, onOf, offsFrom, recsFrom, pendingFrom, pointFrom}
 use Rattle.layout.proofs.Numbers.{drop-pad, length-regNumbers, length-offNumbers}
 
 regs-back : (l : List (ℕ × ℕ)) (t : List ℤ) → regsFrom (length l) (regNumbers l ++ t) ≡ l
@@ -32,7 +32,7 @@ unfolding recsFrom recNumbers
 recs-back [] t = refl
 recs-back (x ∷ l) t = ap (λ m. x ∷ m) (recs-back l t)
 
-pending-back : {regs : List (ℕ × ℕ)} {o : Option Pending} → PendingOk regs o → pendingFrom (asked o .user) (asked o .first) (asked o .last) ≡ o
+pending-back : {regs : List (ℕ × ℕ)} {o : Option Pending} → PendingOk regs o → pendingFrom (pendingOrZeros o .user) (pendingOrZeros o .first) (pendingOrZeros o .last) ≡ o
 pending-back nopending = refl
 pending-back (pending {q = q} a b c d e g) = named (q .user) refl
   where

@@ -7,8 +7,8 @@ use native.Mathlib.Omega.{arith}
 use lib.ListN.{length, length-append}
 use lib.IntN.{ℤ, pos}
 use Rattle.daybook.specs.Book.{Entry, Pending}
-use Rattle.daybook.proofs.Lists.{Lists}
-use Rattle.daybook.proofs.Steps.{withOffs, withPendingLists}
+use Rattle.lists.specs.Lists.{Lists}
+use Rattle.lists.specs.InnerSteps.{withOffs, withPendingLists}
 use Rattle.layout.specs.Layout.{pad, regNumbers, onNumber, offNumbers, recNumbers}
 use Rattle.layout.specs.Sound.{withRecs}
 use Rattle.layout.proofs.Numbers.{length-pad, length-regNumbers, length-offNumbers, length-recNumbers, Few}

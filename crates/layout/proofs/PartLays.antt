@@ -13,8 +13,8 @@ use borrow.Author.Tests.{leb-true, eq-eqb}
 use Rattle.numbers.specs.Naturals.{natOf}
 use Rattle.numbers.proofs.Bools.{both}
 use Rattle.daybook.specs.Book.{Entry, Pending}
-use Rattle.daybook.proofs.Well.{FactsOk, Well}
-use Rattle.layout.specs.Layout.{pad, regNumbers, offNumbers, recNumbers, asked, headNumbers, pointNumbers, numAt, regsFrom, offsFrom, recsFrom, pendingFrom, pointFrom}
+use Rattle.lists.specs.InnerWell.{FactsOk, Well}
+use Rattle.layout.specs.Layout.{pad, regNumbers, offNumbers, recNumbers, pendingOrZeros, headNumbers, pointNumbers, numAt, regsFrom, offsFrom, recsFrom, pendingFrom, pointFrom}
 use Rattle.layout.specs.Sound.{listsSound, zeros, countsSound, unusedZero, partSound}
 use Rattle.layout.proofs.Numbers.{pad-take}
 use Rattle.layout.proofs.ListsSound.{lists-sound-well}
@@ -134,7 +134,7 @@ module _ (p : List ℤ) (room : ℕ) (len : length p ≡ 48 + 4 * room) (f : Tes
 
       ten : pos (numAt p 0) ∷ pos (numAt p 1) ∷ pos (numAt p 2) ∷ pos (numAt p 3)
           ∷ pos (length regs) ∷ pos (length offs) ∷ pos (length recs)
-          ∷ pos (asked request .user) ∷ pos (asked request .first) ∷ pos (asked request .last) ∷ [] ≡ cells p 0 10
+          ∷ pos (pendingOrZeros request .user) ∷ pos (pendingOrZeros request .first) ∷ pos (pendingOrZeros request .last) ∷ [] ≡ cells p 0 10
       ten =
           two (own 0 (omega (arith, facts .mirnHigh))) (own 1 (omega (arith, facts .kindOk)))
           (two (own 2 (omega (arith, facts .installOk))) (own 3 (omega (arith, facts .baseOk)))

@@ -14,9 +14,10 @@ use Rattle.numbers.specs.Rows.{all}
 use Rattle.numbers.proofs.Rows.{all-at, all-of}
 use Rattle.numbers.proofs.Bools.{join}
 use Rattle.daybook.specs.Book.{Pending}
-use Rattle.daybook.proofs.Lists.{Lists}
-use Rattle.daybook.proofs.Well.{some-reg, PendingOk, nopending, pending, Well}
-use Rattle.layout.specs.Layout.{regNumbers, offNumbers, recNumbers, asked, headNumbers, pointNumbers, numAt}
+use Rattle.lists.specs.Lists.{Lists}
+use Rattle.lists.proofs.Registrations.{some-reg}
+use Rattle.lists.specs.InnerWell.{PendingOk, nopending, pending, Well}
+use Rattle.layout.specs.Layout.{regNumbers, offNumbers, recNumbers, pendingOrZeros, headNumbers, pointNumbers, numAt}
 use Rattle.layout.specs.Sound.{listsSound, zeros, countsSound, unusedZero, partSound}
 use Rattle.layout.proofs.Numbers.{length-regNumbers, length-offNumbers, length-recNumbers, few, length-point, in-regs, in-offs, in-recs}
 use Rattle.layout.proofs.Cells.{cell-regs, cell-offs, cell-recs, cell-user, cell-first, cell-last}
@@ -43,7 +44,7 @@ zeros-of t a b f =
 
 -- ---- the layout
 
-no-user : {regs : List (ℕ × ℕ)} {o : Option Pending} → PendingOk regs o → asked o .user ≡ 0 → (asked o .first ≡ 0) × (asked o .last ≡ 0)
+no-user : {regs : List (ℕ × ℕ)} {o : Option Pending} → PendingOk regs o → pendingOrZeros o .user ≡ 0 → (pendingOrZeros o .first ≡ 0) × (pendingOrZeros o .last ≡ 0)
 no-user nopending e = (refl, refl)
 no-user (pending a b n c d f) e = absurd (omega arith)
 

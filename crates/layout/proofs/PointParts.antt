@@ -9,8 +9,8 @@ use lib.ListN.{length, take, drop, length-append, take-append-drop}
 use lib.Seq.{take-at, drop-at}
 use lib.IntN.{ℤ, pos}
 use Rattle.daybook.specs.Book.{Edition}
-use Rattle.daybook.proofs.Lists.{Lists, Register}
-use Rattle.daybook.proofs.Well.{Points, nopoint, point}
+use Rattle.lists.specs.Lists.{Lists, Register}
+use Rattle.lists.specs.InnerWell.{Points, nopoint, point}
 use Rattle.layout.specs.Layout.{tableLength, stride, placeOf, Fits, partOf, withPart, pad, pointNumbers, pointsNumbers, layout}
 use Rattle.layout.proofs.Numbers.{length-pad, Few, few as few-of, length-point}
 use Rattle.layout.proofs.Blocks.{zerosOf}

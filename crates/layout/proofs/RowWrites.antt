@@ -10,11 +10,11 @@ use lib.ListN.{length, set, length-append}
 use lib.Seq.{sets, append-snoc}
 use lib.IntN.{ℤ, pos, negsuc}
 use Rattle.daybook.specs.Book.{Entry, Pending}
-use Rattle.daybook.proofs.Lists.{Lists}
-use Rattle.daybook.proofs.Steps.{withOffs, withPendingLists}
+use Rattle.lists.specs.Lists.{Lists}
+use Rattle.lists.specs.InnerSteps.{withOffs, withPendingLists}
 use Rattle.layout.specs.Layout.{pad, regNumbers, onNumber, offNumbers, recNumbers, headNumbers, pointNumbers}
 use Rattle.layout.specs.Sound.{withRecs}
-use Rattle.layout.specs.Writes.{cleared, putRecord, appendRecord, cutRecords, appendRegistration, openSpan, closeSpan, setPending, clearPending}
+use Rattle.layout.specs.InnerWrites.{cleared, putRecord, appendRecord, cutRecords, appendRegistration, openSpan, closeSpan, setPending, clearPending}
 use Rattle.layout.proofs.Numbers.{length-regNumbers, length-offNumbers, length-recNumbers, Few}
 use Rattle.layout.proofs.Blocks.{block-append, block-replace, block-cut}
 use Rattle.layout.proofs.PartBlocks.{withRegs, recordRow, recs-append, regs-append, offs-append, snoc-length, regsBlock, offsBlock, recsBlock, before-offs, before-recs, cut-recs}

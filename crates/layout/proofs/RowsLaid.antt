@@ -11,9 +11,9 @@ use lib.Seq.{drop-cons}
 use Rattle.numbers.specs.Naturals.{natOf}
 use Rattle.numbers.proofs.Naturals.{natOf-is}
 use Rattle.daybook.specs.Book.{Entry, Pending}
-use Rattle.daybook.proofs.Well.{Regs, reg, Spans, nospan, still, ended, Recs, rec, PendingOk, pending}
-use Rattle.daybook.proofs.Apart.{Apart, noentry, apart, fits-le, recs-apart}
-use Rattle.layout.specs.Layout.{regNumbers, onNumber, offNumbers, recNumbers, asked, regsFrom, onOf, offsFrom, recsFrom, pendingFrom}
+use Rattle.lists.specs.InnerWell.{Regs, reg, Spans, nospan, still, ended, Recs, rec, PendingOk, pending}
+use Rattle.lists.proofs.Apart.{Apart, noentry, apart, fits-le, recs-apart}
+use Rattle.layout.specs.Layout.{regNumbers, onNumber, offNumbers, recNumbers, pendingOrZeros, regsFrom, onOf, offsFrom, recsFrom, pendingFrom}
 
 pub two : {x x′ y y′ : ℤ} {l l′ : List ℤ} → x ≡ x′ → y ≡ y′ → l ≡ l′ → x ∷ y ∷ l ≡ x′ ∷ y′ ∷ l′
 two a b e = ap₂ _∷_ a (ap₂ _∷_ b e)
@@ -131,9 +131,9 @@ pub record ThreeOk (u f l : ℕ) : Type 0 where
   pub userLow : u < 2 ^ 63
   pub firstLow : f < 2 ^ 63
   pub lastLow : l < 2 ^ 63
-  pub userBack : asked (pendingFrom u f l) .user ≡ u
-  pub firstBack : asked (pendingFrom u f l) .first ≡ f
-  pub lastBack : asked (pendingFrom u f l) .last ≡ l
+  pub userBack : pendingOrZeros (pendingFrom u f l) .user ≡ u
+  pub firstBack : pendingOrZeros (pendingFrom u f l) .first ≡ f
+  pub lastBack : pendingOrZeros (pendingFrom u f l) .last ≡ l
 
 pub pending-lay : {regs : List (ℕ × ℕ)} (u f l : ℕ) → PendingOk regs (pendingFrom u f l) → (u ≡ 0 → (f ≡ 0) × (l ≡ 0)) → ThreeOk u f l
 pending-lay zero f l p z =

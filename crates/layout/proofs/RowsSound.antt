@@ -12,9 +12,9 @@ use borrow.Author.Tests.{leb-true, ltb-true, eqb-true, not-true, le-leb, lt-ltb,
 use Rattle.numbers.specs.Search.{maybe}
 use Rattle.numbers.proofs.Bools.{both, join}
 use Rattle.daybook.specs.Book.{Pending, Facts, lastOf}
-use Rattle.daybook.proofs.Lists.{Lists}
-use Rattle.daybook.proofs.Steps.{latestOf}
-use Rattle.daybook.proofs.Well.{Regs, noreg, reg, StartsOn, starts, Spans, nospan, still, ended, PendingOk, nopending, pending, FactsOk}
+use Rattle.lists.specs.Lists.{Lists}
+use Rattle.lists.specs.InnerSteps.{latestOf}
+use Rattle.lists.specs.InnerWell.{Regs, noreg, reg, StartsOn, starts, Spans, nospan, still, ended, PendingOk, nopending, pending, FactsOk}
 use Rattle.layout.specs.Sound.{each, neighbours, factsSound, startsOn, regsSound, offsSound, pendingSound}
 
 -- ---- facts

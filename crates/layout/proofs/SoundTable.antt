@@ -13,9 +13,9 @@ use Rattle.numbers.specs.Rows.{all}
 use Rattle.numbers.proofs.Rows.{all-of}
 use Rattle.numbers.proofs.Bools.{join}
 use Rattle.daybook.specs.Book.{Edition}
-use Rattle.daybook.proofs.Lists.{Lists, Register}
-use Rattle.daybook.proofs.Steps.{findLists}
-use Rattle.daybook.proofs.Well.{Well, Points, nopoint, point, WellFormed}
+use Rattle.lists.specs.Lists.{Lists, Register}
+use Rattle.lists.specs.InnerSteps.{findLists}
+use Rattle.lists.specs.InnerWell.{Well, Points, nopoint, point, WellFormed}
 use Rattle.layout.specs.Layout.{tableLength, placeOf, Fits, partOf, pad, layout, pointsFrom, registerOf}
 use Rattle.layout.specs.Sound.{each, zeros, partSound, mirnsDiffer, sound}
 use Rattle.layout.proofs.Numbers.{pad-at}

@@ -14,12 +14,12 @@ use borrow.Author.Tests.{leb-true, not-true}
 use Rattle.numbers.specs.Rows.{all}
 use Rattle.numbers.proofs.Bools.{both}
 use Rattle.numbers.proofs.Rows.{all-at}
-use Rattle.daybook.specs.Book.{Edition}
+use Rattle.daybook.specs.Book.{Edition, standard}
 use Rattle.daybook.specs.Notices.{isRange}
-use Rattle.daybook.proofs.Lists.{Lists}
-use Rattle.daybook.proofs.Steps.{findLists}
-use Rattle.daybook.proofs.Well.{Well, Points, nopoint, point, WellFormed}
-use Rattle.layout.specs.Layout.{tableLength, standard, stride, placeOf, Fits, partOf, pad, pointsNumbers, layout, numAt, pointsFrom, registerOf, tableBook}
+use Rattle.lists.specs.Lists.{Lists}
+use Rattle.lists.specs.InnerSteps.{findLists}
+use Rattle.lists.specs.InnerWell.{Well, Points, nopoint, point, WellFormed}
+use Rattle.layout.specs.Layout.{tableLength, stride, placeOf, Fits, partOf, pad, pointsNumbers, layout, numAt, pointsFrom, registerOf, tableBook}
 use Rattle.layout.specs.Sound.{each, zeros, partSound, mirnsDiffer, sound}
 use Rattle.layout.proofs.Numbers.{pad-take, few}
 use Rattle.layout.proofs.RowsLaid.{clean}

@@ -6,12 +6,12 @@ use lib.ListN.{length, take, drop}
 use lib.Seq.{take-at, drop-at}
 use lib.IntN.{ℤ}
 use Rattle.daybook.specs.Book.{Edition}
-use Rattle.daybook.proofs.Lists.{Lists, Register, pointOf, bookOf}
-use Rattle.daybook.proofs.Well.{Well, Points, nopoint, point, WellFormed}
-use Rattle.daybook.proofs.Records.{records-is}
-use Rattle.daybook.proofs.Registrations.{registrations-is}
-use Rattle.daybook.proofs.Spans.{point-spans}
-use Rattle.layout.specs.Layout.{tableLength, stride, pad, pointNumbers, pointsNumbers, layout, pointFrom, pointsFrom, registerOf, tableBook, listsOf, bookRegister, written}
+use Rattle.lists.specs.Lists.{Lists, Register, pointOf, bookOf}
+use Rattle.lists.specs.InnerWell.{Well, Points, nopoint, point, WellFormed}
+use Rattle.lists.proofs.Records.{records-is}
+use Rattle.lists.proofs.Registrations.{registrations-is}
+use Rattle.lists.proofs.Spans.{point-spans}
+use Rattle.layout.specs.Layout.{tableLength, stride, pad, pointNumbers, pointsNumbers, layout, pointFrom, pointsFrom, registerOf, tableBook, listsOf, bookRegister, withBook}
 use Rattle.layout.proofs.Numbers.{few, length-point}
 use Rattle.layout.proofs.Parse.{point-alone}
 
@@ -57,8 +57,8 @@ unfolding bookRegister bookOf
 book-back {R = R} w = λ i. record { nondaily = R .nondaily; daily = R .daily; points = all-back (w .pointsOk) i }
 
 -- so a book is written as the layout of its lists
-pub written-is : (ed : Edition) {R : Register} → WellFormed ed R → (t : List ℤ) → written ed t (bookOf R) ≡ layout ed R ++ drop tableLength t
-unfolding written
+pub written-is : (ed : Edition) {R : Register} → WellFormed ed R → (t : List ℤ) → withBook ed t (bookOf R) ≡ layout ed R ++ drop tableLength t
+unfolding withBook
 written-is ed w t = ap (λ S. layout ed S ++ drop tableLength t) (book-back w)
 
 -- and its book is read back

@@ -7,7 +7,7 @@ use lib.ListN.{replicate}
 use Rattle.numbers.specs.Naturals.{sameZ}
 use Rattle.daybook.specs.Book.{Book, Edition}
 use Rattle.daybook.specs.Notices.{Numbers}
-use Rattle.layout.specs.Layout.{tableBook, written}
+use Rattle.layout.specs.Layout.{tableBook, withBook}
 use Rattle.layout.specs.Sound.{sound}
 
 -- Does an answer begin with a refusal?
@@ -16,13 +16,13 @@ refused [] = false
 refused (r ∷ l) = not (sameZ r (pos 0))
 
 -- The answer, and the table with the book after the call written over its register; a refusal leaves the table as found.
-abbrev pub leaves : Edition → List ℤ → Numbers × Book → Numbers × List ℤ
-leaves ed t w = let after : List ℤ = written ed t (w .1) in (w .0, cond (refused (w .0)) t after)
+abbrev pub answerAndTable : Edition → List ℤ → Numbers × Book → Numbers × List ℤ
+answerAndTable ed t w = let after : List ℤ = withBook ed t (w .1) in (w .0, cond (refused (w .0)) t after)
 
 -- A call with k fields gets 1 where the table is short or unsound; else it is the book's step on the table's book.
 unfoldable pub onTable : ℕ → (Book → Numbers × Book) → Edition → List ℤ → Numbers × List ℤ
 onTable k step ed t =
-    let taken : Numbers × List ℤ = leaves ed t (step (tableBook ed t)) in
+    let taken : Numbers × List ℤ = answerAndTable ed t (step (tableBook ed t)) in
     cond (sound ed t) taken (pos 1 ∷ replicate k (pos 0), t)
 
 -- A query is refused where the table is short or unsound; else the table's book answers it.

@@ -6,16 +6,13 @@ use lib.IntN.{ℤ, pos, negsuc}
 use lib.ListN.{length, getD, take, drop, replicate}
 use Rattle.numbers.specs.Naturals.{natOf}
 use Rattle.daybook.specs.Book.{Entry, Pending, Facts, Point, Book, Edition, records, registrations, spans}
-use Rattle.daybook.proofs.Lists.{Lists, Register, bookOf}
+use Rattle.lists.specs.Lists.{Lists, Register, bookOf}
 
 -- ---- editions and places
 
 -- How many numbers a register has; those past them are never touched.
 abbrev pub tableLength : ℕ
 tableLength = 7688
-
-abbrev pub standard : Edition
-standard = record { points = 32; records = 48 }
 
 -- How many numbers a point has: records start at place 48, four numbers each.
 abbrev pub stride : Edition → ℕ
@@ -61,9 +58,9 @@ recNumbers [] = []
 recNumbers (x ∷ l) = pos (x .start) ∷ pos (x .end) ∷ x .energy ∷ pos (x .type) ∷ recNumbers l
 
 -- A pending request, or three zeros.
-abbrev pub asked : Option Pending → Pending
-asked none = record { user = 0; first = 0; last = 0 }
-asked (some q) = q
+abbrev pub pendingOrZeros : Option Pending → Pending
+pendingOrZeros none = record { user = 0; first = 0; last = 0 }
+pendingOrZeros (some q) = q
 
 -- The first sixteen places of a point: MIRN, kind, install, base load, how many registrations, off spans and records,
 -- pending User, first, last, six zeros.
@@ -71,7 +68,7 @@ unfoldable pub headNumbers : Lists → List ℤ
 headNumbers q =
     pos (q .facts .mirn) ∷ pos (q .facts .kind) ∷ pos (q .facts .install) ∷ pos (q .facts .base)
     ∷ pos (length (q .regs)) ∷ pos (length (q .offs)) ∷ pos (length (q .recs))
-    ∷ pos (asked (q .pending) .user) ∷ pos (asked (q .pending) .first) ∷ pos (asked (q .pending) .last)
+    ∷ pos (pendingOrZeros (q .pending) .user) ∷ pos (pendingOrZeros (q .pending) .first) ∷ pos (pendingOrZeros (q .pending) .last)
     ∷ replicate 6 (pos 0)
 
 -- From 16 registrations, from 32 off spans, from 48 records.
@@ -155,5 +152,5 @@ unfoldable pub bookRegister : Book → Register
 bookRegister B = record { nondaily = B .nondaily; daily = B .daily; points = map listsOf (B .points) }
 
 -- The table t with the book B laid out over its register; the numbers past that are kept.
-unfoldable pub written : Edition → List ℤ → Book → List ℤ
-written ed t B = layout ed (bookRegister B) ++ drop tableLength t
+unfoldable pub withBook : Edition → List ℤ → Book → List ℤ
+withBook ed t B = layout ed (bookRegister B) ++ drop tableLength t

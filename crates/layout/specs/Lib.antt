@@ -2,5 +2,6 @@
 -- leave in it.
 pub mod Layout
 pub mod Sound
-pub mod Writes
+pub mod InnerWrites
 pub mod Calls
+pub mod InnerMirns

@@ -11,7 +11,7 @@ use Rattle.numbers.specs.Search.{maybe}
 use Rattle.calendar.specs.Calendar.{within}
 use Rattle.daybook.specs.Book.{Entry, Pending, Facts, Edition, lastOf, appendDay}
 use Rattle.daybook.specs.Notices.{fitsKind, isRange, offWithin}
-use Rattle.daybook.proofs.Lists.{Lists, pointOf}
+use Rattle.lists.specs.Lists.{Lists, pointOf}
 use Rattle.layout.specs.Layout.{tableLength, placeOf, partOf, numAt, pointFrom, pointsFrom}
 
 unfoldable pub each : {A : Type 0} → (A → Bool) → List A → Bool

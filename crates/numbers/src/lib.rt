@@ -5,9 +5,8 @@ ghost use mathlib.Core.Path.{_≡_};
 ghost use Prim.Native.Nat.{_+_, _-_, _<_, _≤_, _^_};
 ghost use lib.ListN.{length, getD, set};
 ghost use lib.IntN.{pos, subℕ};
-ghost use Rattle.numbers.specs.Naturals.{natOf, biasOf, energyOf, sameZ};
-ghost use Rattle.numbers.specs.Sums.{sumFrom};
-ghost use Rattle.numbers.specs.Shares.{partialEnergy, share};
+ghost use Rattle.numbers.specs.Naturals.{natOf, biasOf, energyOf};
+ghost use Rattle.numbers.specs.Shares.{partialEnergy};
 
 // A number as a natural; a negative one as the marker 2^63.
 pub fn natural(x: i64) -> u64
@@ -56,12 +55,6 @@ pub fn difference(a: u64, b: u64) -> i64
     a as i64 - b as i64
 }
 
-pub fn same(a: i64, b: i64) -> bool
-    ensures { λ r. ⌜ r ≡ sameZ a b ⌝ }
-{
-    a == b
-}
-
 // The number at place i of a table.
 pub fn get(t: &[i64], i: usize) -> u64
     requires { ⌜ i < length (now t) ⌝ }
@@ -92,20 +85,4 @@ pub fn partial_energy(u: u64, n: u64, k: u64) -> u64
     ensures { λ r. ⌜ (energyOf r ≡ partialEnergy (energyOf u) n k) × (r ≤ 2000000) ⌝ }
 {
     (u * k + 1000000 * (n - k)) / n
-}
-
-// The shares of an entry's days a to b - 1 together, with no loop: their floors telescope.
-pub fn shares_between(u: u64, n: u64, a: u64, b: u64) -> i64
-    requires { ⌜ (u ≤ 2000000) × (0 < n) × (n ≤ 40001) × (a ≤ b) × (b ≤ n) ⌝ }
-    ensures { λ r. ⌜ r ≡ sumFrom (share (energyOf u) n) a (b - a) ⌝ }
-{
-    difference(partial_energy(u, n, b), partial_energy(u, n, a))
-}
-
-// The share of day k of an entry.
-pub fn day_share(u: u64, n: u64, k: u64) -> i64
-    requires { ⌜ (u ≤ 2000000) × (0 < n) × (n ≤ 40001) × (k < n) ⌝ }
-    ensures { λ r. ⌜ r ≡ share (energyOf u) n k ⌝ }
-{
-    difference(partial_energy(u, n, k + 1), partial_energy(u, n, k))
 }

@@ -19,8 +19,9 @@ use Rattle.calendar.specs.Calendar.{within, isDay}
 use Rattle.calendar.proofs.Dates.{within-natural, day-natural, up-to-natural}
 use Rattle.daybook.specs.declared.Opening.{Opening}
 use Rattle.daybook.specs.Notices.{isMirn, isFlag, isUser, factsOf}
-use Rattle.layout.specs.Layout.{standard, withPart}
-use Rattle.layout.specs.Writes.{openPoint, appendPoint}
+use Rattle.daybook.specs.Book.{standard}
+use Rattle.layout.specs.Layout.{withPart}
+use Rattle.layout.specs.InnerWrites.{openPoint, appendPoint}
 use Rattle.table.proofs.Laws.{part-is, part-put, within-raised, lent, backIn}
 
 -- a range is written back as it was read

@@ -8,15 +8,15 @@ use lib.Seq.{length-take-le}
 use lib.IntN.{ℤ, pos}
 use borrow.Author.Tests.{le-leb, lt-leb}
 use Rattle.daybook.specs.declared.Ranges.{Ranges}
-use Rattle.daybook.specs.Book.{Book}
+use Rattle.daybook.specs.Book.{Book, standard}
 use Rattle.daybook.specs.Notices.{least, Numbers, decide, isRange, freshRows, fresh}
-use Rattle.daybook.proofs.Lists.{Register, bookOf}
-use Rattle.daybook.proofs.Steps.{freshLists}
-use Rattle.daybook.proofs.Rows.{above, least-first, least-skip, decide-taken, decide-refused}
-use Rattle.daybook.proofs.OpenStep.{fresh-step, fresh-makes}
-use Rattle.layout.specs.Layout.{tableLength, standard, pad, pointsNumbers, layout, registerOf, tableBook}
-use Rattle.layout.specs.Writes.{cleared}
-use Rattle.layout.specs.Calls.{leaves}
+use Rattle.lists.specs.Lists.{Register, bookOf}
+use Rattle.lists.specs.InnerSteps.{freshLists}
+use Rattle.lists.proofs.Rows.{above, least-first, least-skip, decide-taken, decide-refused}
+use Rattle.lists.proofs.OpenStep.{fresh-step, fresh-makes}
+use Rattle.layout.specs.Layout.{tableLength, pad, pointsNumbers, layout, registerOf, tableBook}
+use Rattle.layout.specs.InnerWrites.{cleared}
+use Rattle.layout.specs.Calls.{answerAndTable}
 use Rattle.layout.proofs.Blocks.{cleared-mid}
 use Rattle.table.proofs.Calls.{laidOver, leaves-is}
 use Rattle.opening.specs.Opening.{freshCall}
@@ -42,7 +42,7 @@ module _ (t : List ℤ) (n : Ranges) where
   fresh-short h = rw (lt-leb tableLength (length t) h)
 
   module _ (h : tableLength ≤ length t) where
-    taken : freshCall t n ≡ leaves standard t (fresh n (bookOf R))
+    taken : freshCall t n ≡ answerAndTable standard t (fresh n (bookOf R))
     unfolding freshCall tableBook
     taken = rw (le-leb tableLength (length t) h)
 
@@ -51,8 +51,8 @@ module _ (t : List ℤ) (n : Ranges) where
     fresh-out e =
         let w : Numbers × Book = ([], record { nondaily = n .nondaily; daily = n .daily; points = [] }) in
         taken
-        ∙ ap (λ r. leaves standard t (decide r 0 (bookOf R) w)) (least-first 2 _ [] refl (ap not e))
-        ∙ ap (leaves standard t) (decide-refused 0 (bookOf R) w 1)
+        ∙ ap (λ r. answerAndTable standard t (decide r 0 (bookOf R) w)) (least-first 2 _ [] refl (ap not e))
+        ∙ ap (answerAndTable standard t) (decide-refused 0 (bookOf R) w 1)
 
     passed : (isRange (n .nondaily) && isRange (n .daily)) ≡ true → least (freshRows n) ≡ 0
     unfolding freshRows least
@@ -66,7 +66,7 @@ module _ (t : List ℤ) (n : Ranges) where
 
     pub fresh-entered : (isRange (n .nondaily) && isRange (n .daily)) ≡ true → freshCall t n ≡ (pos 0 ∷ [], set (set (cleared t 0 tableLength) 1 (n .nondaily)) 2 (n .daily))
     fresh-entered e =
-        taken ∙ ap (leaves standard t) (fresh-step n R)
+        taken ∙ ap (answerAndTable standard t) (fresh-step n R)
         ∙ leaves-is standard t (freshLists n R) (fresh-makes standard n R (passed e))
         ∙ ap (laidOver standard t) (emptied (passed e))
         ∙ ap (λ u. (pos 0 ∷ [], u)) (sym (laid t (n .nondaily) (n .daily) h))

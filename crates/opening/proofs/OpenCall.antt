@@ -13,15 +13,16 @@ use Rattle.numbers.specs.Search.{maybe, isSome}
 use Rattle.calendar.specs.Calendar.{within, isDay}
 use Rattle.daybook.specs.declared.Opening.{Opening}
 use Rattle.daybook.specs.Notices.{least, Numbers, decide, isMirn, isFlag, isUser, factsOf, openingRows, opening}
-use Rattle.daybook.proofs.Lists.{Register}
-use Rattle.daybook.proofs.Steps.{findLists, openedLists, openingLists}
-use Rattle.daybook.proofs.Rows.{above, least-first, least-skip, decide-taken, decide-refused}
-use Rattle.daybook.proofs.Well.{WellFormed}
-use Rattle.daybook.proofs.OpenStep.{OpenClear, open-clear, open-step, open-keeps}
-use Rattle.layout.specs.Layout.{tableLength, standard, layout, numAt, registerOf, tableBook}
+use Rattle.lists.specs.Lists.{Register}
+use Rattle.lists.specs.InnerSteps.{findLists, openedLists, openingLists}
+use Rattle.lists.proofs.Rows.{above, least-first, least-skip, decide-taken, decide-refused}
+use Rattle.lists.specs.InnerWell.{WellFormed}
+use Rattle.lists.proofs.OpenStep.{OpenClear, open-clear, open-step, open-keeps}
+use Rattle.layout.specs.Layout.{tableLength, layout, numAt, registerOf, tableBook}
+use Rattle.daybook.specs.Book.{standard}
 use Rattle.layout.specs.Sound.{sound}
-use Rattle.layout.specs.Writes.{appendPoint}
-use Rattle.layout.specs.Calls.{leaves, onTable}
+use Rattle.layout.specs.InnerWrites.{appendPoint}
+use Rattle.layout.specs.Calls.{answerAndTable, onTable}
 use Rattle.layout.proofs.PointParts.{all-few-of, withPoints, table-split}
 use Rattle.layout.proofs.TableSound.{sound-lays, standard-fits, points-count}
 use Rattle.layout.proofs.NewPoint.{freshPoint, append-point}
@@ -62,7 +63,7 @@ module _ (t : List ℤ) (n : Opening) (s : sound standard t ≡ true) where
   unfolding openCall onTable tableBook openingLists
   whole =
       rw s
-      (ap (leaves standard t) (open-step standard n R)
+      (ap (answerAndTable standard t) (open-step standard n R)
       ∙ leaves-is standard t (openingLists standard n R) (open-keeps standard n well))
 
   sent-back : (r : ℕ) → row ≡ suc r → openCall t n ≡ (pos (suc r) ∷ [], t)

@@ -7,13 +7,14 @@ use lib.ListN.{length}
 use Rattle.daybook.specs.declared.Ranges.{Ranges}
 use Rattle.daybook.specs.declared.Opening.{Opening}
 use Rattle.daybook.specs.Notices.{Numbers, fresh, opening}
-use Rattle.layout.specs.Layout.{tableLength, standard, tableBook}
-use Rattle.layout.specs.Calls.{leaves, onTable}
+use Rattle.layout.specs.Layout.{tableLength, tableBook}
+use Rattle.daybook.specs.Book.{standard}
+use Rattle.layout.specs.Calls.{answerAndTable, onTable}
 
 -- fresh makes a register of any table that is long enough, sound or not: only a short one gets 1.
 unfoldable pub freshCall : List ℤ → Ranges → Numbers × List ℤ
 freshCall t n =
-    let taken : Numbers × List ℤ = leaves standard t (fresh n (tableBook standard t)) in
+    let taken : Numbers × List ℤ = answerAndTable standard t (fresh n (tableBook standard t)) in
     cond (leb tableLength (length t)) taken (pos 1 ∷ [], t)
 
 unfoldable pub openCall : List ℤ → Opening → Numbers × List ℤ

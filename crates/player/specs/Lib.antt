@@ -1,2 +1,2 @@
 -- Where a player stands between two bytes.
-pub mod Ready
+pub mod InnerReady

@@ -2,8 +2,8 @@
 ghost use mathlib.Core.Path.{_≡_};
 ghost use Prim.Native.Nat.{_+_, _≤_};
 ghost use lib.ListN.{length};
-ghost use Rattle.player.specs.Ready.{Ready, Answered, Sized};
-use journal::Call;
+ghost use Rattle.player.specs.InnerReady.{Ready, Answered, Sized};
+use journal::Command;
 use journal::Taken;
 
 // Where a player stands: the numbers of the buffer that calls are lent, those of the answer table, the lines that have
@@ -59,13 +59,13 @@ fn set_room(nums: &[i64], out: &mut [u8], s: Standing) -> Standing
 }
 
 // Any call, with the numbers of its line.
-fn obey(call: Call, t: &mut [i64], nums: &[i64], out: &mut [u8], s: Standing) -> Standing
+fn obey(call: Command, t: &mut [i64], nums: &[i64], out: &mut [u8], s: Standing) -> Standing
     requires { ⌜ Ready s × (length (now t) ≡ 7704) × (length (now out) ≡ 16384) ⌝ }
     ensures { λ r. ⌜ Answered s r ⌝ }
 {
     match call {
-        Call::Lend => set_lent(nums, out, s),
-        Call::Room => set_room(nums, out, s),
+        Command::Lend => set_lent(nums, out, s),
+        Command::Room => set_room(nums, out, s),
         _ => {
             let lent = s.lent;
             let room = s.room;
@@ -79,7 +79,7 @@ fn obey(call: Call, t: &mut [i64], nums: &[i64], out: &mut [u8], s: Standing) ->
 
 // The call that a word of a line names, and the word's end.
 struct Word {
-    call: Call,
+    call: Command,
     end: usize,
 }
 
@@ -125,7 +125,7 @@ fn call(t: &mut [i64], line: &[u8], nums: &mut [i64], out: &mut [u8], s: Standin
     let word = first_word(line, 0);
     let end = word.end;
     let call = word.call;
-    if let Call::Hub = call {
+    if let Command::Hub = call {
         return on_bytes(t, line, end, nums, out, s);
     }
     let Taken::Count(n) = journal::take_numbers(line, end, nums) else {

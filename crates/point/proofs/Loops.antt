@@ -19,7 +19,7 @@ use Rattle.numbers.proofs.Rows.{all-none}
 use Rattle.layout.specs.Layout.{numAt}
 use Rattle.layout.specs.Sound.{countsSound, zeros}
 use Rattle.layout.proofs.PartLays.{counts}
-use Rattle.point.specs.Tests.{rows, Counted, Bits, regOk, offDay, onDay, past, passed}
+use Rattle.point.specs.InnerTests.{rows, Counted, Bits, regOk, offDay, onDay, past, passed}
 
 -- ---- rows, by a loop with the invariant that what is left to test decides the whole
 

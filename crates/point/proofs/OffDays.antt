@@ -14,16 +14,12 @@ use lib.IntN.{ℤ}
 use Rattle.numbers.specs.Search.{maybe}
 use Rattle.numbers.proofs.Bools.{neither, join}
 use Rattle.numbers.proofs.Rows.{all-at, all-of}
-use Rattle.daybook.proofs.Lists.{inSpan, offOn}
-use Rattle.daybook.proofs.Steps.{skip}
+use Rattle.lists.specs.Lists.{inSpan, offOn}
+use Rattle.lists.specs.InnerSteps.{skip}
 use Rattle.layout.specs.Layout.{numAt, onOf}
-use Rattle.point.specs.Tests.{untilOf, offDay, onDay, spansOk, past, passed, firstOn, apartAt, noOff}
-use Rattle.point.proofs.Rows.{rowsAt, spanRow}
+use Rattle.point.specs.InnerTests.{untilOf, offDay, onDay, spansOk, past, passed, firstOn, apartAt, noOff, spanRow, dayIf}
+use Rattle.point.proofs.Rows.{rowsAt}
 use Rattle.point.proofs.Spans.{On, opened, closed, wrong, view, onNumberAt, Passing, First, first}
-
--- The days end with 40,000.
-unfoldable pub dayIf : ℕ → Option ℕ
-dayIf d = cond (ltb d 40001) (some d) none
 
 day-is : (d : ℕ) → d ≤ 40000 → dayIf d ≡ some d
 unfolding dayIf

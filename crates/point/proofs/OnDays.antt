@@ -8,7 +8,7 @@ use mir.Val.{SFits, toZ, ofZ}
 use mir.ValLaws.{toZ-ofZ}
 use mir.Syntax.{w64}
 use Rattle.numbers.specs.Naturals.{natOf}
-use Rattle.point.specs.Tests.{untilOf}
+use Rattle.point.specs.InnerTests.{untilOf}
 
 pub until-open : (x : ℤ) → SFits w64 x → ofZ w64 x ≡ ofZ w64 (negsuc 0) → 40001 ≡ untilOf x
 until-open x f e =

@@ -14,9 +14,9 @@ use Rattle.numbers.specs.Rows.{all}
 use Rattle.numbers.proofs.Bools.{both, join, iff}
 use Rattle.numbers.proofs.Rows.{all-at, all-of, all-fails}
 use Rattle.daybook.specs.Notices.{fitsKind}
-use Rattle.daybook.proofs.Apart.{fits-le}
+use Rattle.lists.proofs.Apart.{fits-le}
 use Rattle.layout.specs.Layout.{numAt}
-use Rattle.point.specs.Tests.{Bits, offDay, onDay, spansOk, past, passed, firstOn, apartAt, noOff, offFrom, recStart, recEnd, recEnergy, recType, recInRange, recBetween, recAt, recOn}
+use Rattle.point.specs.InnerTests.{Bits, offDay, onDay, spansOk, past, passed, firstOn, apartAt, noOff, offFrom, recStart, recEnd, recEnergy, recType, recInRange, recBetween, recAt, recOn}
 use Rattle.point.proofs.Loops.{bits-small, bits-le, bits-eq}
 use Rattle.point.proofs.Spans.{Passing, First, first}
 use Rattle.point.proofs.OffDays.{past-inside, beside}

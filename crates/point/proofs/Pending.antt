@@ -12,11 +12,11 @@ use lib.IntN.{ℤ}
 use Rattle.numbers.specs.Rows.{all}
 use Rattle.numbers.proofs.Bools.{both, join}
 use Rattle.daybook.specs.Book.{Pending}
-use Rattle.daybook.proofs.Well.{PendingOk, nopending, pending}
-use Rattle.layout.specs.Layout.{numAt, asked, pendingFrom}
+use Rattle.lists.specs.InnerWell.{PendingOk, nopending, pending}
+use Rattle.layout.specs.Layout.{numAt, pendingOrZeros, pendingFrom}
 use Rattle.layout.specs.Sound.{zeros}
-use Rattle.point.specs.Tests.{pendingOk}
-use Rattle.point.proofs.Rows.{rowsAt, length-rows, regRow}
+use Rattle.point.specs.InnerTests.{pendingOk, regRow}
+use Rattle.point.proofs.Rows.{rowsAt, length-rows}
 use Rattle.point.proofs.Registrations.{latest-user}
 
 module _ (p : List ℤ) (n : ℕ) (some-regs : 1 ≤ n) where
@@ -42,9 +42,9 @@ module _ (p : List ℤ) (n : ℕ) (some-regs : 1 ≤ n) where
 
   -- the three places of a request, or of none
   pub record Places (o : Option Pending) : Type 0 where
-    pub user : numAt p 7 ≡ asked o .user
-    pub first : numAt p 8 ≡ asked o .first
-    pub last : numAt p 9 ≡ asked o .last
+    pub user : numAt p 7 ≡ pendingOrZeros o .user
+    pub first : numAt p 8 ≡ pendingOrZeros o .first
+    pub last : numAt p 9 ≡ pendingOrZeros o .last
 
   pub pending-pass : {o : Option Pending} → PendingOk regs o → Places o → pendingOk p n ≡ true
   unfolding pendingOk

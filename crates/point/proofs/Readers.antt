@@ -10,16 +10,16 @@ use lib.ListN.{length, drop}
 use lib.IntN.{ℤ}
 use Rattle.numbers.specs.Rows.{all}
 use Rattle.numbers.proofs.Rows.{all-front, all-same}
-use Rattle.daybook.proofs.Lists.{Lists}
-use Rattle.daybook.proofs.Steps.{skip, overlaps, someOverlap}
-use Rattle.daybook.proofs.Well.{Spans, Well}
+use Rattle.lists.specs.Lists.{Lists}
+use Rattle.lists.specs.InnerSteps.{skip, overlaps, someOverlap}
+use Rattle.lists.specs.InnerWell.{Spans, Well}
 use Rattle.layout.specs.Layout.{numAt, onOf, offsFrom, pointFrom, pointNumbers}
 use Rattle.layout.proofs.Cells.{cell-install, cell-offs}
 use Rattle.layout.proofs.Parse.{point-alone}
-use Rattle.point.specs.Tests.{untilOf, offDay, onDay, spansOk, firstOn, apart, apartAt, noOff}
-use Rattle.point.proofs.Rows.{rowsAt, spanRow, offs-read}
+use Rattle.point.specs.InnerTests.{untilOf, offDay, onDay, spansOk, firstOn, apart, apartAt, noOff, spanRow, dayIf}
+use Rattle.point.proofs.Rows.{rowsAt, offs-read}
 use Rattle.point.proofs.Spans.{On, opened, closed, wrong, view, onNumberAt, Passing, First, first, spans-tests}
-use Rattle.point.proofs.OffDays.{dayIf, skip-first}
+use Rattle.point.proofs.OffDays.{skip-first}
 
 -- ---- days beside a span
 

@@ -10,11 +10,11 @@ use lib.IntN.{ℤ, pos, negsuc}
 use Rattle.numbers.specs.Naturals.{biasOf}
 use Rattle.numbers.proofs.Bools.{both, join}
 use Rattle.calendar.specs.Calendar.{within}
-use Rattle.daybook.proofs.Apart.{fits-le}
-use Rattle.daybook.proofs.Well.{Recs, norec, rec}
+use Rattle.lists.proofs.Apart.{fits-le}
+use Rattle.lists.specs.InnerWell.{Recs, norec, rec}
 use Rattle.layout.specs.Layout.{numAt}
-use Rattle.point.specs.Tests.{rows, spansOk, recStart, recEnd, recAt, recLeaves, recsOk}
-use Rattle.point.proofs.Rows.{rowsAt, spanRow, recRow}
+use Rattle.point.specs.InnerTests.{rows, spansOk, recStart, recEnd, recAt, recLeaves, recsOk, spanRow, recRow}
+use Rattle.point.proofs.Rows.{rowsAt}
 use Rattle.point.proofs.OffDays.{skip-is-first, first-is-skip, no-off-days, days-no-off}
 
 -- a raised energy within its bounds

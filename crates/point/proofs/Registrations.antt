@@ -9,12 +9,12 @@ use borrow.Author.Tests.{leb-true, eqb-true, eq-eqb, le-leb, not-true}
 use lib.IntN.{ℤ}
 use Rattle.numbers.specs.Search.{maybe}
 use Rattle.numbers.proofs.Bools.{both, join}
-use Rattle.daybook.proofs.Last.{last-at}
-use Rattle.daybook.proofs.Steps.{latestOf}
-use Rattle.daybook.proofs.Well.{Regs, noreg, reg, StartsOn, starts}
+use Rattle.lists.proofs.Last.{last-at}
+use Rattle.lists.specs.InnerSteps.{latestOf}
+use Rattle.lists.specs.InnerWell.{Regs, noreg, reg, StartsOn, starts}
 use Rattle.layout.specs.Layout.{numAt}
-use Rattle.point.specs.Tests.{rows, regStart, regUser, regAt, regLeaves, regsOk}
-use Rattle.point.proofs.Rows.{rowsAt, regRow, length-rows, getD-rows}
+use Rattle.point.specs.InnerTests.{rows, regStart, regUser, regAt, regLeaves, regsOk, regRow}
+use Rattle.point.proofs.Rows.{rowsAt, length-rows, getD-rows}
 
 module _ (p : List ℤ) where
   regs-well : (n k u lo : ℕ) → rows (regAt p) (regLeaves p) (u, lo) k n ≡ true → Regs u lo (rowsAt (regRow p) k n)

@@ -10,7 +10,7 @@ use lib.IntN.{ℤ, pos}
 use Rattle.numbers.specs.Naturals.{natOf}
 use Rattle.daybook.specs.Book.{Entry}
 use Rattle.layout.specs.Layout.{onOf, regsFrom, offsFrom, recsFrom}
-use Rattle.point.specs.Tests.{regStart, regUser, offDay, recStart, recEnd, recType}
+use Rattle.point.specs.InnerTests.{regStart, regUser, offDay, recStart, recEnd, recType, regRow, spanRow, recRow}
 
 -- f k, f (k + 1), .., n of them
 unfoldable pub rowsAt : {A : Type 0} → (ℕ → A) → ℕ → ℕ → List A
@@ -38,16 +38,6 @@ getD-rows f zero k i d h = absurd (omega arith)
 getD-rows f (suc n) k zero d h = let e : k ≡ k + 0 = omega arith in ap f e
 getD-rows f (suc n) k (suc i) d h =
     let e : suc k + i ≡ k + suc i = omega arith in getD-rows f n (suc k) i d (omega arith) ∙ ap f e
-
-abbrev pub regRow : List ℤ → ℕ → ℕ × ℕ
-regRow p k = (regStart p k, regUser p k)
-
-abbrev pub spanRow : List ℤ → ℕ → ℕ × Option ℕ
-spanRow p k = (offDay p k, onOf (getD p (32 + 2 * k + 1) (pos 0)))
-
-abbrev pub recRow : List ℤ → ℕ → Entry
-recRow p k =
-    record { start = recStart p k; end = recEnd p k; energy = getD p (48 + 4 * k + 2) (pos 0); type = recType p k }
 
 -- ---- what is read
 

@@ -10,10 +10,10 @@ use lib.Dec.{ltb}
 use lib.ListN.{getD}
 use lib.IntN.{ℤ, pos, negsuc}
 use Rattle.numbers.proofs.Bools.{both, join}
-use Rattle.daybook.proofs.Well.{Spans, nospan, still, ended}
+use Rattle.lists.specs.InnerWell.{Spans, nospan, still, ended}
 use Rattle.layout.specs.Layout.{numAt, onOf}
-use Rattle.point.specs.Tests.{rows, untilOf, offDay, onDay, spanAt, spanLeaves, spansOk}
-use Rattle.point.proofs.Rows.{rowsAt, spanRow}
+use Rattle.point.specs.InnerTests.{rows, untilOf, offDay, onDay, spanOkAt, spanLeaves, spansOk, spanRow}
+use Rattle.point.proofs.Rows.{rowsAt}
 
 -- What an on day's number stands for.
 pub data On (x : ℤ) : Type 0 where
@@ -39,7 +39,7 @@ module _ (p : List ℤ) where
 
   -- Rows that pass, from day lo on.
   abbrev pub Passing : ℕ → ℕ → ℕ → Type 0
-  Passing lo k n = rows (spanAt p) (spanLeaves p) lo k n ≡ true
+  Passing lo k n = rows (spanOkAt p) (spanLeaves p) lo k n ≡ true
 
   -- The first of them.
   pub record First (lo k n : ℕ) : Type 0 where
@@ -113,7 +113,7 @@ module _ (p : List ℤ) where
       here a b d e r = join (join (join (join (le-leb _ _ a) (le-leb _ _ b)) (lt-ltb _ _ d)) (le-leb _ _ e)) r
 
       none-after : n ≡ 0 → Passing (suc (onDay p k)) (suc k) n
-      none-after z = ap (rows (spanAt p) (spanLeaves p) (suc (onDay p k)) (suc k)) z
+      none-after z = ap (rows (spanOkAt p) (spanLeaves p) (suc (onDay p k)) (suc k)) z
 
       go : On (onNumberAt k) → Head lo (offDay p k) (onOf (onNumberAt k)) (rowsAt (spanRow p) (suc k) n)
           → ((lo : ℕ) → Spans lo (rowsAt (spanRow p) (suc k) n) → Passing lo (suc k) n) → Passing lo k (suc n)

@@ -1,2 +1,2 @@
 -- Soundness of one point's part of the register table, as the code tests it.
-pub mod Tests
+pub mod InnerTests

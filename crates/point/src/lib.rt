@@ -9,7 +9,7 @@ ghost use lib.IntN.{pos};
 ghost use Rattle.daybook.specs.Notices.{fitsKind};
 ghost use Rattle.layout.specs.Layout.{numAt};
 ghost use Rattle.layout.specs.Sound.{factsSound, countsSound, unusedZero, partSound, zeros};
-ghost use Rattle.point.specs.Tests.{factsAt, Counted, Bits, regsOk, untilOf, spansOk, past, firstOn, noOff, offFrom, recOn, recsOk, pendingOk, rowsOk};
+ghost use Rattle.point.specs.InnerTests.{factsAt, Counted, Bits, regsOk, untilOf, spansOk, past, firstOn, noOff, offFrom, recOn, recsOk, pendingOk, rowsOk};
 
 // The day before which an off span ends; -1, still off, as 40,001.
 pub fn until(x: i64) -> u64

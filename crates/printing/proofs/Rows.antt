@@ -14,7 +14,7 @@ use lib.Seq.{drop-cons, take-suc, take-suc-set}
 use mir.Syntax.{w64}
 use mir.Val.{ofZ, SFits}
 use Rattle.io.specs.Digits.{Fewest, digits, glyph}
-use Rattle.printing.specs.Rows.{decimalWithin, decimalOf, textOf, ending, rowOf, unknownOf, digitsOf, hexOf}
+use Rattle.printing.specs.Rows.{decimalWithin, decimalOf, textOf, ending, rowOf, unknownOf, hexDigits, hexOf}
 
 pub twenty : (n k : ℕ) → n < 2 ^ 64 → Fewest 10 1 n k → k ≤ 20
 twenty n k h f = go (leb k 20) refl
@@ -128,20 +128,20 @@ unknown-is out at line h = rw (two-more out (take at out) at 63 32 h refl, appen
 
 -- ---- bytes in base sixteen
 
-pub digits-more : (out bytes shown : List ℕ) (i end x y : ℕ) → i < length bytes → end + 1 < length out → x ≡ glyph (getD bytes i 0 / 16) → y ≡ glyph (getD bytes i 0 % 16) → take end out ++ digitsOf (drop i bytes) ≡ shown → take (end + 2) (set (set out end x) (end + 1) y) ++ digitsOf (drop (i + 1) bytes) ≡ shown
-unfolding digitsOf
+pub digits-more : (out bytes shown : List ℕ) (i end x y : ℕ) → i < length bytes → end + 1 < length out → x ≡ glyph (getD bytes i 0 / 16) → y ≡ glyph (getD bytes i 0 % 16) → take end out ++ hexDigits (drop i bytes) ≡ shown → take (end + 2) (set (set out end x) (end + 1) y) ++ hexDigits (drop (i + 1) bytes) ≡ shown
+unfolding hexDigits
 digits-more out bytes shown i end x y h l p q e =
-    let at : digitsOf (drop i bytes) ≡ x ∷ y ∷ digitsOf (drop (i + 1) bytes) = rw (p, q, add-one i, drop-cons bytes i 0) in
+    let at : hexDigits (drop i bytes) ≡ x ∷ y ∷ hexDigits (drop (i + 1) bytes) = rw (p, q, add-one i, drop-cons bytes i 0) in
     rw (two-more out (take end out) end x y l refl, append-assoc) (rw at at e)
 
-pub digits-end : (bytes shown : List ℕ) (i : ℕ) → length bytes ≤ i → shown ++ digitsOf (drop i bytes) ≡ shown
-unfolding digitsOf
+pub digits-end : (bytes shown : List ℕ) (i : ℕ) → length bytes ≤ i → shown ++ hexDigits (drop i bytes) ≡ shown
+unfolding hexDigits
 digits-end bytes shown i h = rw (drop-of-length-le bytes h, append-nil)
 
 pub none-is : (bytes : List ℕ) → length bytes ≡ 0 → hexOf bytes ≡ 45 ∷ []
 none-is [] h = refl
 none-is (b ∷ bytes) h = absurd (omega arith)
 
-pub some-are : (bytes : List ℕ) → (length bytes ≡ 0 → ⊥) → hexOf bytes ≡ digitsOf bytes
+pub some-are : (bytes : List ℕ) → (length bytes ≡ 0 → ⊥) → hexOf bytes ≡ hexDigits bytes
 some-are [] h = absurd (h refl)
 some-are (b ∷ bytes) h = refl

@@ -37,14 +37,14 @@ unfoldable pub unknownOf : ℕ → List ℕ
 unknownOf line = 63 ∷ 32 ∷ (decimalOf line ++ (10 ∷ []))
 
 -- A byte is two digits in base sixteen.
-unfoldable pub digitsOf : List ℕ → List ℕ
-digitsOf [] = []
-digitsOf (b ∷ bs) = glyph (b / 16) ∷ glyph (b % 16) ∷ digitsOf bs
+unfoldable pub hexDigits : List ℕ → List ℕ
+hexDigits [] = []
+hexDigits (b ∷ bs) = glyph (b / 16) ∷ glyph (b % 16) ∷ hexDigits bs
 
 -- A buffer's bytes; `-` (45) for an empty one.
 abbrev pub hexOf : List ℕ → List ℕ
 hexOf [] = 45 ∷ []
-hexOf (b ∷ bs) = digitsOf (b ∷ bs)
+hexOf (b ∷ bs) = hexDigits (b ∷ bs)
 
 -- The text stands in the output from at on, up to r, and what was printed before it stays.
 pub record Printed (out : List ℕ) (at : ℕ) (text out' : List ℕ) (r : ℕ) : Type 0 where

@@ -7,7 +7,7 @@ ghost use lib.Dec.{eqb};
 ghost use lib.IntN.{pos};
 ghost use lib.ListN.{length, take};
 ghost use Rattle.io.specs.Digits.{glyph};
-ghost use Rattle.printing.specs.Rows.{decimalOf, textOf, rowOf, unknownOf, digitsOf, hexOf, Printed};
+ghost use Rattle.printing.specs.Rows.{decimalOf, textOf, rowOf, unknownOf, hexDigits, hexOf, Printed};
 
 fn copy(text: &[u8], out: &mut [u8], at: usize)
     requires { ⌜ at + length (now text) ≤ length (now out) ⌝ }
@@ -102,7 +102,7 @@ fn digit(d: u8) -> u8
 
 fn digits(out: &mut [u8], at: usize, bytes: &[u8]) -> usize
     requires { ⌜ at + 2 * length (now bytes) ≤ length (now out) ⌝ }
-    ensures { λ r. ⌜ (r ≡ at + 2 * length (now (bytes .entry))) × (take r (now (out .exit)) ≡ take at (now (out .entry)) ++ digitsOf (now (bytes .entry))) ⌝ }
+    ensures { λ r. ⌜ (r ≡ at + 2 * length (now (bytes .entry))) × (take r (now (out .exit)) ≡ take at (now (out .entry)) ++ hexDigits (now (bytes .entry))) ⌝ }
 {
     let mut end = at;
     let mut i = 0;

@@ -11,7 +11,7 @@ use lib.Seq.{drop-cons}
 use mir.Syntax.{w64}
 use mir.Val.{ofZ}
 use Rattle.numbers.specs.Naturals.{natOf}
-use Rattle.layout.specs.Layout.{standard}
+use Rattle.daybook.specs.Book.{standard}
 use Rattle.table.specs.Lookup.{lookUp}
 use Rattle.printing.specs.Rows.{rowOf, Printed}
 use Rattle.answers.specs.Lines.{num, Played}

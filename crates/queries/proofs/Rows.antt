@@ -11,11 +11,11 @@ use lib.Seq.{paste, take-length, take-at, drop-at, take-add, length-take-le}
 use Rattle.numbers.specs.Naturals.{natOf}
 use Rattle.daybook.specs.declared.AllocationQuery.{AllocationQuery}
 use Rattle.daybook.specs.declared.AllocationAnswer.{AllocationAnswer}
-use Rattle.daybook.specs.Book.{Book}
+use Rattle.daybook.specs.Book.{Book, standard}
 use Rattle.daybook.specs.Calls.{allocationNumbers}
 use Rattle.daybook.specs.Notices.{Numbers, least, decide}
 use Rattle.daybook.specs.Queries.{allocationInRange, weights, total, allocateRows, allocate}
-use Rattle.layout.specs.Layout.{standard, tableBook}
+use Rattle.layout.specs.Layout.{tableBook}
 use Rattle.layout.specs.Sound.{sound}
 use Rattle.layout.specs.Calls.{ofTable}
 use Rattle.allocate.specs.Allocate.{allocateCall, placed}

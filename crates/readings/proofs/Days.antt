@@ -14,36 +14,37 @@ use Rattle.numbers.proofs.Integers.{eqZ, minus-fact}
 use Rattle.numbers.proofs.Search.{first-here, first-later}
 use Rattle.daybook.specs.Book.{Entry, Point, filled}
 use Rattle.daybook.specs.Queries.{someFilled, allFilled}
-use Rattle.daybook.proofs.Lists.{pointOf}
+use Rattle.lists.specs.Lists.{pointOf}
 use Rattle.layout.specs.Layout.{numAt}
-use Rattle.readings.specs.Readings.{pointAt, Readable, daysBefore, filledDays}
-use Rattle.readings.specs.Records.{recordOf, partBetween, countOf}
+use Rattle.readings.specs.InnerReadings.{pointAt, Readable, daysPassed, filledDays}
+use Rattle.point.specs.InnerTests.{recRow}
+use Rattle.readings.specs.InnerRecords.{partBetween, dayCount}
 use Rattle.readings.proofs.Records.{dayOf, before-up, days-by-rows}
 
 -- ---- by records
 
 pub count-is : (e : Entry) (x y : ℕ) → x ≤ y
-    → pos (daysBefore (e .start) (e .end) y - daysBefore (e .start) (e .end) x) ≡ partBetween countOf x y e
-unfolding partBetween countOf
-count-is e x y h = between (daysBefore (e .start) (e .end) x) (daysBefore (e .start) (e .end) y) (before-up (e .start) (e .end) x y h)
+    → pos (daysPassed (e .start) (e .end) y - daysPassed (e .start) (e .end) x) ≡ partBetween dayCount x y e
+unfolding partBetween dayCount
+count-is e x y h = between (daysPassed (e .start) (e .end) x) (daysPassed (e .start) (e .end) y) (before-up (e .start) (e .end) x y h)
   where
     between : (i j : ℕ) → i ≤ j → pos (j - i) ≡ pos j -ℤ pos i
     between i j k = eqZ _ _ (omega (arith, minus-fact (pos j) (pos i)))
 
-filled-day : (o : Option Entry) (d : ℕ) → pos (cond (isSome o) 1 0) ≡ dayOf countOf o d
-unfolding dayOf countOf
+filled-day : (o : Option Entry) (d : ℕ) → pos (cond (isSome o) 1 0) ≡ dayOf dayCount o d
+unfolding dayOf dayCount
 filled-day none d = refl
 filled-day (some x) d = eqZ _ _ (omega (arith, minus-fact (pos (suc (d - x .start))) (pos (d - x .start))))
 
-filled-sum : (p : Point) (a n : ℕ) → pos (filledDays p a n) ≡ sumFrom (λ d. dayOf countOf (p .entry d) d) a n
+filled-sum : (p : Point) (a n : ℕ) → pos (filledDays p a n) ≡ sumFrom (λ d. dayOf dayCount (p .entry d) d) a n
 unfolding filledDays sumFrom
 filled-sum p a zero = refl
 filled-sum p a (suc n) = ap₂ _+ℤ_ (filled-day (p .entry a) a) (filled-sum p (suc a) n)
 
 pub filled-by-rows : {p : List ℤ} → Readable p → (x y : ℕ) → x ≤ y
-    → sumFrom (λ k. partBetween countOf x y (recordOf p k)) 0 (numAt p 6) ≡ pos (filledDays (pointAt p) x (y - x))
+    → sumFrom (λ k. partBetween dayCount x y (recRow p k)) 0 (numAt p 6) ≡ pos (filledDays (pointAt p) x (y - x))
 unfolding pointAt pointOf
-filled-by-rows {p} r x y h = days-by-rows countOf r x y h ∙ sym (filled-sum (pointAt p) x (y - x))
+filled-by-rows {p} r x y h = days-by-rows dayCount r x y h ∙ sym (filled-sum (pointAt p) x (y - x))
 
 -- ---- none of them, all of them, one day
 

@@ -13,10 +13,11 @@ use Rattle.numbers.proofs.Naturals.{bias-is}
 use Rattle.numbers.proofs.Sums.{sum-same}
 use Rattle.numbers.proofs.Shares.{energies-near, raised-difference}
 use Rattle.daybook.specs.Book.{Entry, dayShare}
-use Rattle.daybook.proofs.Lists.{entryOn, pointOf}
+use Rattle.lists.specs.Lists.{entryOn, pointOf}
 use Rattle.layout.specs.Layout.{numAt, pointFrom}
-use Rattle.readings.specs.Readings.{pointAt, Readable, daysBefore}
-use Rattle.readings.specs.Records.{recordOf, partBetween, partialOf}
+use Rattle.readings.specs.InnerReadings.{pointAt, Readable, daysPassed}
+use Rattle.point.specs.InnerTests.{recRow}
+use Rattle.readings.specs.InnerRecords.{partBetween, partialOf}
 use Rattle.readings.proofs.Part.{RecordOk}
 use Rattle.readings.proofs.Records.{dayOf, before-most, days-by-rows}
 
@@ -25,8 +26,8 @@ use Rattle.readings.proofs.Records.{dayOf, before-most, days-by-rows}
 pub record Parts (e : Entry) (x y u n i j r s : ℕ) : Type 0 where
   pub raised : u ≡ biasOf (e .energy)
   pub days : n ≡ suc (e .end) - e .start
-  pub beforeX : i ≡ daysBefore (e .start) (e .end) x
-  pub beforeY : j ≡ daysBefore (e .start) (e .end) y
+  pub beforeX : i ≡ daysPassed (e .start) (e .end) x
+  pub beforeY : j ≡ daysPassed (e .start) (e .end) y
   pub firstI : energyOf r ≡ partialEnergy (energyOf u) n i
   pub firstJ : energyOf s ≡ partialEnergy (energyOf u) n j
 
@@ -64,7 +65,7 @@ share-day none d = refl
 share-day (some x) d = refl
 
 pub energy-by-rows : {p : List ℤ} → Readable p → (x y : ℕ) → x ≤ y
-    → sumFrom (λ k. partBetween partialOf x y (recordOf p k)) 0 (numAt p 6) ≡ sumFrom (dayShare (pointAt p)) x (y - x)
+    → sumFrom (λ k. partBetween partialOf x y (recRow p k)) 0 (numAt p 6) ≡ sumFrom (dayShare (pointAt p)) x (y - x)
 unfolding pointAt pointOf dayShare
 energy-by-rows {p} r x y h =
     days-by-rows partialOf r x y h

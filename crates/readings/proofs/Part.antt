@@ -12,17 +12,16 @@ use lib.IntN.{ℤ}
 use Rattle.numbers.specs.Naturals.{biasOf}
 use Rattle.numbers.proofs.Bools.{both}
 use Rattle.daybook.specs.Book.{Entry}
-use Rattle.daybook.proofs.Apart.{fits-le}
-use Rattle.daybook.proofs.Well.{Recs, rec, Well}
+use Rattle.lists.proofs.Apart.{fits-le}
+use Rattle.lists.specs.InnerWell.{Recs, rec, Well}
 use Rattle.layout.specs.Layout.{numAt, pointFrom, pointNumbers}
 use Rattle.layout.specs.Sound.{partSound}
 use Rattle.layout.proofs.PartLays.{part-lays}
-use Rattle.point.specs.Tests.{Counted}
+use Rattle.point.specs.InnerTests.{Counted, regRow, recRow}
 use Rattle.point.proofs.Loops.{counted}
 use Rattle.point.proofs.Records.{energy-same}
-use Rattle.point.proofs.Rows.{rowsAt, regRow, regs-read, recs-read}
-use Rattle.readings.specs.Readings.{Readable}
-use Rattle.readings.specs.Records.{recordOf}
+use Rattle.point.proofs.Rows.{rowsAt, regs-read, recs-read}
+use Rattle.readings.specs.InnerReadings.{Readable}
 
 -- How many records a part has room for.
 abbrev pub roomOf : List ℤ → ℕ
@@ -45,8 +44,8 @@ module _ {p : List ℤ} (r : Readable p) where
 
 -- ---- the lists by index
 
-pub recs-of : (p : List ℤ) → pointFrom p .recs ≡ rowsAt (recordOf p) 0 (numAt p 6)
-unfolding pointFrom recordOf
+pub recs-of : (p : List ℤ) → pointFrom p .recs ≡ rowsAt (recRow p) 0 (numAt p 6)
+unfolding pointFrom
 recs-of p = recs-read p (numAt p 6) 0
 
 pub regs-of : (p : List ℤ) → pointFrom p .regs ≡ rowsAt (regRow p) 0 (numAt p 4)
@@ -74,6 +73,6 @@ row-ok f (suc n) k (rec a b c e t g r) i h l = go (eqb k i) refl (row-ok f n (su
     go true q ih = subst (λ j. RecordOk (f j)) (eqb-true k i q) (first-ok (rec a b c e t g r))
     go false q ih = let s : ¬ (k ≡ i) = eqb-false k i q in ih (omega arith) (omega arith)
 
-pub record-ok : {p : List ℤ} → Readable p → (k : ℕ) → k < numAt p 6 → RecordOk (recordOf p k)
+pub record-ok : {p : List ℤ} → Readable p → (k : ℕ) → k < numAt p 6 → RecordOk (recRow p k)
 record-ok {p} r k h =
-    row-ok (recordOf p) (numAt p 6) 0 (subst (Recs _ _ _) (recs-of p) (part-well r .recsOk)) k (omega arith) (omega arith)
+    row-ok (recRow p) (numAt p 6) 0 (subst (Recs _ _ _) (recs-of p) (part-well r .recsOk)) k (omega arith) (omega arith)

@@ -8,15 +8,15 @@ use lib.ListN.{length, drop, length-take, length-drop}
 use lib.IntN.{ℤ}
 use Rattle.numbers.specs.Sums.{sumFrom}
 use Rattle.numbers.proofs.Rows.{all-at}
-use Rattle.daybook.specs.Book.{Point}
+use Rattle.daybook.specs.Book.{Point, standard}
 use Rattle.daybook.specs.Queries.{sumOf}
-use Rattle.daybook.proofs.Lists.{pointOf, bookOf}
-use Rattle.layout.specs.Layout.{standard, partOf, numAt, pointsFrom, registerOf, tableBook}
+use Rattle.lists.specs.Lists.{pointOf, bookOf}
+use Rattle.layout.specs.Layout.{partOf, numAt, pointsFrom, registerOf, tableBook}
 use Rattle.layout.specs.Sound.{sound}
 use Rattle.layout.proofs.Mirns.{next}
 use Rattle.layout.proofs.TableSound.{Tested, tested}
 use Rattle.point.proofs.Rows.{rowsAt}
-use Rattle.readings.specs.Readings.{pointAt, Readable}
+use Rattle.readings.specs.InnerReadings.{pointAt, Readable}
 use Rattle.readings.proofs.Records.{sum-rows}
 
 pub part-readable : (t : List ℤ) → sound standard t ≡ true → (i : ℕ) → i < numAt t 0 → Readable (partOf standard t i)

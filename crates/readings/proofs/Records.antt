@@ -14,12 +14,13 @@ use Rattle.numbers.proofs.Integers.{eqZ, minus-fact}
 use Rattle.numbers.proofs.Sums.{sum-same, sum-zero, sum-plus, telescope}
 use Rattle.daybook.specs.Book.{Entry, fill}
 use Rattle.daybook.specs.Queries.{sumOf}
-use Rattle.daybook.proofs.Lists.{entryOn}
-use Rattle.daybook.proofs.Apart.{Apart, noentry, apart, recs-apart, Place, inside, under, over, place, entry-none}
+use Rattle.lists.specs.Lists.{entryOn}
+use Rattle.lists.proofs.Apart.{Apart, noentry, apart, recs-apart, Place, inside, under, over, place, entry-none}
 use Rattle.layout.specs.Layout.{numAt, pointFrom}
 use Rattle.point.proofs.Rows.{rowsAt}
-use Rattle.readings.specs.Readings.{Readable, daysBefore}
-use Rattle.readings.specs.Records.{recordOf, partBetween}
+use Rattle.readings.specs.InnerReadings.{Readable, daysPassed}
+use Rattle.point.specs.InnerTests.{recRow}
+use Rattle.readings.specs.InnerRecords.{partBetween}
 use Rattle.readings.proofs.Part.{part-well, recs-of}
 
 -- What a day has, where the first k days of its entry have g k together.
@@ -29,17 +30,17 @@ dayOf g (some x) d = g x (suc (d - x .start)) -ℤ g x (d - x .start)
 
 -- ---- how many of an entry's days lie before a day
 
-pub before-most : (s e d : ℕ) → s ≤ e → daysBefore s e d ≤ suc e - s
-unfolding daysBefore
+pub before-most : (s e d : ℕ) → s ≤ e → daysPassed s e d ≤ suc e - s
+unfolding daysPassed
 before-most s e d h = omega arith
 
-pub before-up : (s e x y : ℕ) → x ≤ y → daysBefore s e x ≤ daysBefore s e y
-unfolding daysBefore
+pub before-up : (s e x y : ℕ) → x ≤ y → daysPassed s e x ≤ daysPassed s e y
+unfolding daysPassed
 before-up s e x y h = omega arith
 
 -- none of the days x to y - 1 is one of them
-pub before-apart : (s e x y : ℕ) → x ≤ y → (leb y s || ltb e x) ≡ true → daysBefore s e x ≡ daysBefore s e y
-unfolding daysBefore
+pub before-apart : (s e x y : ℕ) → x ≤ y → (leb y s || ltb e x) ≡ true → daysPassed s e x ≡ daysPassed s e y
+unfolding daysPassed
 before-apart s e x y l h = go (leb y s) refl h
   where
     go : (t : Bool) → leb y s ≡ t → (t || ltb e x) ≡ true → min (x - s) (suc e - s) ≡ min (y - s) (suc e - s)
@@ -48,26 +49,26 @@ before-apart s e x y l h = go (leb y s) refl h
 
 module _ (x : Entry) (d : ℕ) where
   before-in : x .start ≤ d → d ≤ x .end
-      → (daysBefore (x .start) (x .end) (suc d) ≡ suc (d - x .start)) × (daysBefore (x .start) (x .end) d ≡ d - x .start)
-  unfolding daysBefore
+      → (daysPassed (x .start) (x .end) (suc d) ≡ suc (d - x .start)) × (daysPassed (x .start) (x .end) d ≡ d - x .start)
+  unfolding daysPassed
   before-in h k = (omega arith, omega arith)
 
-  before-under : d < x .start → daysBefore (x .start) (x .end) (suc d) ≡ daysBefore (x .start) (x .end) d
-  unfolding daysBefore
+  before-under : d < x .start → daysPassed (x .start) (x .end) (suc d) ≡ daysPassed (x .start) (x .end) d
+  unfolding daysPassed
   before-under h = omega arith
 
-  before-over : x .end < d → daysBefore (x .start) (x .end) (suc d) ≡ daysBefore (x .start) (x .end) d
-  unfolding daysBefore
+  before-over : x .end < d → daysPassed (x .start) (x .end) (suc d) ≡ daysPassed (x .start) (x .end) d
+  unfolding daysPassed
   before-over h = omega arith
 
 module _ (g : Entry → ℕ → ℤ) where
   -- no days, nothing
-  pub part-none : (x y : ℕ) (e : Entry) → daysBefore (e .start) (e .end) x ≡ daysBefore (e .start) (e .end) y
+  pub part-none : (x y : ℕ) (e : Entry) → daysPassed (e .start) (e .end) x ≡ daysPassed (e .start) (e .end) y
       → partBetween g x y e ≡ pos 0
   unfolding partBetween
   part-none x y e h =
-      ap (λ k. g e (daysBefore (e .start) (e .end) y) -ℤ g e k) h
-      ∙ eqZ _ (pos 0) (omega (arith, minus-fact (g e (daysBefore (e .start) (e .end) y)) (g e (daysBefore (e .start) (e .end) y))))
+      ap (λ k. g e (daysPassed (e .start) (e .end) y) -ℤ g e k) h
+      ∙ eqZ _ (pos 0) (omega (arith, minus-fact (g e (daysPassed (e .start) (e .end) y)) (g e (daysPassed (e .start) (e .end) y))))
 
   -- one day has what the first record has on it and what the others have
   day-step : {hi : ℕ} (x : Entry) {l : List Entry} → Apart hi (suc (x .end)) l → (d : ℕ)
@@ -75,7 +76,7 @@ module _ (g : Entry → ℕ → ℤ) where
   unfolding dayOf fill partBetween
   day-step x {l} r d = go (place x d)
     where
-      others : daysBefore (x .start) (x .end) (suc d) ≡ daysBefore (x .start) (x .end) d
+      others : daysPassed (x .start) (x .end) (suc d) ≡ daysPassed (x .start) (x .end) d
           → dayOf g (entryOn l d) d ≡ partBetween g d (suc d) x +ℤ dayOf g (entryOn l d) d
       others e = sym (ap (λ z. z +ℤ dayOf g (entryOn l d) d) (part-none d (suc d) x (sym e)) ∙ +ℤ-idl _)
 
@@ -96,7 +97,7 @@ module _ (g : Entry → ℕ → ℤ) where
   records-sum (apart {x = x} {l = l} b s e r) a n =
       sum-same _ _ a n (λ d h k. day-step x r d)
       ∙ sum-plus (λ d. partBetween g d (suc d) x) (λ d. dayOf g (entryOn l d) d) a n
-      ∙ ap₂ _+ℤ_ (telescope (λ d. g x (daysBefore (x .start) (x .end) d)) a n) (records-sum r a n)
+      ∙ ap₂ _+ℤ_ (telescope (λ d. g x (daysPassed (x .start) (x .end) d)) a n) (records-sum r a n)
 
 -- the sum over a list of rows
 pub sum-rows : {X : Type 0} (f : X → ℤ) (row : ℕ → X) (k n : ℕ) → sumOf f (rowsAt row k n) ≡ sumFrom (λ i. f (row i)) k n
@@ -106,11 +107,11 @@ sum-rows f row k (suc n) = ap (λ z. f (row k) +ℤ z) (sum-rows f row (suc k) n
 
 -- the days x to y - 1 of a readable part, by its rows
 pub days-by-rows : (g : Entry → ℕ → ℤ) {p : List ℤ} → Readable p → (x y : ℕ) → x ≤ y
-    → sumFrom (λ k. partBetween g x y (recordOf p k)) 0 (numAt p 6) ≡ sumFrom (λ d. dayOf g (entryOn (pointFrom p .recs) d) d) x (y - x)
+    → sumFrom (λ k. partBetween g x y (recRow p k)) 0 (numAt p 6) ≡ sumFrom (λ d. dayOf g (entryOn (pointFrom p .recs) d) d) x (y - x)
 days-by-rows g {p} r x y h =
     let e : x + (y - x) ≡ y = omega arith in
     sym
     (records-sum g (recs-apart (part-well r .recsOk)) x (y - x)
     ∙ ap (λ z. sumOf (partBetween g x z) (pointFrom p .recs)) e
     ∙ ap (sumOf (partBetween g x y)) (recs-of p)
-    ∙ sum-rows (partBetween g x y) (recordOf p) 0 (numAt p 6))
+    ∙ sum-rows (partBetween g x y) (recRow p) 0 (numAt p 6))

@@ -13,12 +13,12 @@ use Rattle.numbers.proofs.Naturals.{bias-is}
 use Rattle.numbers.proofs.Sums.{sum-one}
 use Rattle.numbers.proofs.Shares.{raisedPart, raised-partial, raised-near}
 use Rattle.daybook.specs.Book.{Entry, fill, dayShare}
-use Rattle.daybook.proofs.Apart.{Place, inside, under, over, place}
-use Rattle.daybook.proofs.Lists.{entryOn, pointOf}
-use Rattle.daybook.proofs.Well.{Recs, norec, rec}
+use Rattle.lists.proofs.Apart.{Place, inside, under, over, place}
+use Rattle.lists.specs.Lists.{entryOn, pointOf}
+use Rattle.lists.specs.InnerWell.{Recs, norec, rec}
 use Rattle.layout.specs.Layout.{pointFrom}
-use Rattle.readings.specs.Readings.{pointAt, Readable}
-use Rattle.readings.specs.Records.{partialOf}
+use Rattle.readings.specs.InnerReadings.{pointAt, Readable}
+use Rattle.readings.specs.InnerRecords.{partialOf}
 use Rattle.readings.proofs.Part.{part-well, RecordOk, first-ok}
 use Rattle.readings.proofs.Records.{dayOf}
 use Rattle.readings.proofs.Energy.{share-day}

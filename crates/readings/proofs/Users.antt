@@ -10,15 +10,15 @@ use borrow.Author.Tests.{leb-true, leb-false}
 use lib.Dec.{leb}
 use lib.IntN.{ℤ}
 use Rattle.daybook.specs.Queries.{active}
-use Rattle.daybook.proofs.Lists.{userOn, inSpan, offOn, pointOf}
-use Rattle.daybook.proofs.Registrations.{user-none, user-known}
-use Rattle.daybook.proofs.Steps.{overlaps, someOverlap}
+use Rattle.lists.specs.Lists.{userOn, inSpan, offOn, pointOf}
+use Rattle.lists.proofs.Registrations.{user-none, user-known}
+use Rattle.lists.specs.InnerSteps.{overlaps, someOverlap}
 use Rattle.layout.specs.Layout.{numAt, pointFrom}
 use Rattle.layout.proofs.Cells.{place-offs}
-use Rattle.point.specs.Tests.{regStart, regUser, noOff}
+use Rattle.point.specs.InnerTests.{regStart, regUser, noOff, regRow}
 use Rattle.point.proofs.Readers.{no-off-is}
-use Rattle.point.proofs.Rows.{rowsAt, regRow}
-use Rattle.readings.specs.Readings.{pointAt, Readable}
+use Rattle.point.proofs.Rows.{rowsAt}
+use Rattle.readings.specs.InnerReadings.{pointAt, Readable}
 use Rattle.readings.proofs.Part.{part-well, part-laid, regs-of}
 
 -- ---- the FRO, by a loop with the invariant that the registrations left decide the day

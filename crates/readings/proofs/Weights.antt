@@ -14,7 +14,7 @@ use Rattle.numbers.specs.Sums.{sumFrom, sumOver}
 use Rattle.numbers.proofs.Bools.{both}
 use Rattle.daybook.specs.Book.{Entry, Point, dayShare, filled}
 use Rattle.daybook.specs.Queries.{active, allFilled, dailyGas, meteredOf, atLeast0, weight}
-use Rattle.readings.specs.Readings.{filledDays}
+use Rattle.readings.specs.InnerReadings.{filledDays}
 use Rattle.readings.proofs.Days.{some-filled}
 
 -- ---- T

@@ -1,3 +1,3 @@
 -- What is read off one point's part of the table.
-pub mod Readings
-pub mod Records
+pub mod InnerReadings
+pub mod InnerRecords

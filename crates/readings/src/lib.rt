@@ -11,14 +11,14 @@ ghost use Rattle.numbers.specs.Sums.{sumFrom, sumOver};
 ghost use Rattle.daybook.specs.Book.{dayShare, filled};
 ghost use Rattle.daybook.specs.Queries.{active as isActive, allFilled, atLeast0, dailyGas, meteredOf, weight as weightOf};
 ghost use Rattle.layout.specs.Layout.{numAt};
-ghost use Rattle.point.specs.Tests.{regStart, regUser};
-ghost use Rattle.readings.specs.Readings.{pointAt, Readable, daysBefore, filledDays};
-ghost use Rattle.readings.specs.Records.{recordOf, partBetween, partialOf, countOf};
+ghost use Rattle.point.specs.InnerTests.{regStart, regUser, recRow};
+ghost use Rattle.readings.specs.InnerReadings.{pointAt, Readable, daysPassed, filledDays};
+ghost use Rattle.readings.specs.InnerRecords.{partBetween, partialOf, dayCount};
 
 // How many of the days start to end lie before day d.
-fn days_before(start: u64, end: u64, d: u64) -> u64
+fn days_passed(start: u64, end: u64, d: u64) -> u64
     requires { ⌜ (start ≤ end) × (end ≤ 39999) ⌝ }
-    ensures { λ r. ⌜ (r ≡ daysBefore start end d) × (r + start ≤ suc end) ⌝ }
+    ensures { λ r. ⌜ (r ≡ daysPassed start end d) × (r + start ≤ suc end) ⌝ }
 {
     if d <= start {
         return 0;
@@ -32,7 +32,7 @@ fn days_before(start: u64, end: u64, d: u64) -> u64
 // The energy of record k's days from x to y - 1, raised by 1,000,000.
 fn record_energy(p: &[i64], k: usize, x: u64, y: u64) -> u64
     requires { ⌜ Readable (now p) × (k < numAt (now p) 6) × (x ≤ y) ⌝ }
-    ensures { λ r. ⌜ (subℕ r 1000000 ≡ partBetween partialOf x y (recordOf (now (p .entry)) k)) × (r ≤ 2000000) ⌝ }
+    ensures { λ r. ⌜ (subℕ r 1000000 ≡ partBetween partialOf x y (recRow (now (p .entry)) k)) × (r ≤ 2000000) ⌝ }
 {
     let at = 48 + 4 * k;
     let start = point::bits_at(p, at);
@@ -40,8 +40,8 @@ fn record_energy(p: &[i64], k: usize, x: u64, y: u64) -> u64
     if (y <= start) | (end < x) {
         return 1000000;
     }
-    let i = days_before(start, end, x);
-    let j = days_before(start, end, y);
+    let i = days_passed(start, end, x);
+    let j = days_passed(start, end, y);
     let u = numbers::get_energy(p, at + 2);
     let n = end + 1 - start;
     numbers::partial_energy(u, n, j) + 1000000 - numbers::partial_energy(u, n, i)
@@ -65,7 +65,7 @@ pub fn energy_between(p: &[i64], x: u64, y: u64) -> u64
 // How many of the days x to y - 1 record k has.
 fn record_days(p: &[i64], k: usize, x: u64, y: u64) -> u64
     requires { ⌜ Readable (now p) × (k < numAt (now p) 6) × (x ≤ y) ⌝ }
-    ensures { λ r. ⌜ (pos r ≡ partBetween countOf x y (recordOf (now (p .entry)) k)) × (r ≤ 40000) ⌝ }
+    ensures { λ r. ⌜ (pos r ≡ partBetween dayCount x y (recRow (now (p .entry)) k)) × (r ≤ 40000) ⌝ }
 {
     let at = 48 + 4 * k;
     let start = point::bits_at(p, at);
@@ -73,7 +73,7 @@ fn record_days(p: &[i64], k: usize, x: u64, y: u64) -> u64
     if (y <= start) | (end < x) {
         return 0;
     }
-    days_before(start, end, y) - days_before(start, end, x)
+    days_passed(start, end, y) - days_passed(start, end, x)
 }
 
 // How many of the days x to y - 1 are filled.

@@ -1,2 +1,2 @@
 -- The numbers that the row writers take, as a record.
-pub mod Rows
+pub mod InnerRows

@@ -5,8 +5,8 @@ ghost use Prim.Native.Nat.{_+_, _*_, _<_, _≤_, _^_};
 ghost use lib.IntN.{pos, negsuc};
 ghost use lib.ListN.{length, set};
 ghost use Rattle.numbers.specs.Naturals.{energyOf};
-ghost use Rattle.layout.specs.Writes.{cleared, putRecord, appendRecord, cutRecords, appendRegistration, openSpan, closeSpan, setPending, clearPending, openPoint};
-ghost use Rattle.rows.specs.Rows.{recordOf};
+ghost use Rattle.layout.specs.InnerWrites.{cleared, putRecord, appendRecord, cutRecords, appendRegistration, openSpan, closeSpan, setPending, clearPending, openPoint};
+ghost use Rattle.rows.specs.InnerRows.{recordOf};
 
 // An energy, raised by 1,000,000.
 pub fn put_energy(p: &mut [i64], i: usize, u: u64)
@@ -45,23 +45,23 @@ pub fn clear(p: &mut [i64], a: usize, n: usize)
     }
 }
 
-// Record j: its days, its energy raised by 1,000,000, its quality.
-pub fn put_record(p: &mut [i64], j: usize, start: u64, end: u64, u: u64, quality: u64)
-    requires { ⌜ (52 + 4 * j ≤ length (now p)) × (start < 2 ^ 63) × (end < 2 ^ 63) × (u < 2 ^ 63) × (quality < 2 ^ 63) ⌝ }
-    ensures { λ _. ⌜ now (p .exit) ≡ putRecord (now (p .entry)) j (recordOf start end u quality) ⌝ }
+// Record j: its days, its energy raised by 1,000,000, its type.
+pub fn put_record(p: &mut [i64], j: usize, start: u64, end: u64, u: u64, type_: u64)
+    requires { ⌜ (52 + 4 * j ≤ length (now p)) × (start < 2 ^ 63) × (end < 2 ^ 63) × (u < 2 ^ 63) × («type_» < 2 ^ 63) ⌝ }
+    ensures { λ _. ⌜ now (p .exit) ≡ putRecord (now (p .entry)) j (recordOf start end u «type_») ⌝ }
 {
     let at = 48 + 4 * j;
     put_pair(p, at, start, end);
     put_energy(p, at + 2, u);
-    numbers::put(p, at + 3, quality);
+    numbers::put(p, at + 3, type_);
 }
 
 // One more record, after n.
-pub fn append_record(p: &mut [i64], n: usize, start: u64, end: u64, u: u64, quality: u64)
-    requires { ⌜ (52 + 4 * n ≤ length (now p)) × (start < 2 ^ 63) × (end < 2 ^ 63) × (u < 2 ^ 63) × (quality < 2 ^ 63) ⌝ }
-    ensures { λ _. ⌜ now (p .exit) ≡ appendRecord (now (p .entry)) n (recordOf start end u quality) ⌝ }
+pub fn append_record(p: &mut [i64], n: usize, start: u64, end: u64, u: u64, type_: u64)
+    requires { ⌜ (52 + 4 * n ≤ length (now p)) × (start < 2 ^ 63) × (end < 2 ^ 63) × (u < 2 ^ 63) × («type_» < 2 ^ 63) ⌝ }
+    ensures { λ _. ⌜ now (p .exit) ≡ appendRecord (now (p .entry)) n (recordOf start end u «type_») ⌝ }
 {
-    put_record(p, n, start, end, u, quality);
+    put_record(p, n, start, end, u, type_);
     numbers::put(p, 6, n as u64 + 1);
 }
 

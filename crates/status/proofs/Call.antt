@@ -14,22 +14,24 @@ use Rattle.calendar.specs.Calendar.{isDay}
 use Rattle.calendar.proofs.Dates.{within-natural, day-natural, up-to-natural}
 use Rattle.daybook.specs.declared.StatusNotice.{StatusNotice}
 use Rattle.daybook.specs.Notices.{least, Numbers, isMirn, isFlag, statusEarly, statusRows, status}
-use Rattle.daybook.proofs.Lists.{Lists}
-use Rattle.daybook.proofs.Steps.{lastEnd, statusLists}
-use Rattle.daybook.proofs.Rows.{above, least-first, least-skip}
-use Rattle.daybook.proofs.Bounds.{within-bounds}
-use Rattle.daybook.proofs.StatusStep.{status-clear, status-step, status-keeps}
-use Rattle.daybook.proofs.Switch.{offs-after-few}
-use Rattle.daybook.proofs.Well.{WellFormed}
-use Rattle.layout.specs.Layout.{standard, partOf, withPart, pointNumbers, pointFrom, registerOf}
+use Rattle.lists.specs.Lists.{Lists}
+use Rattle.lists.specs.InnerSteps.{lastEnd, statusLists}
+use Rattle.lists.proofs.Rows.{above, least-first, least-skip}
+use Rattle.lists.proofs.Bounds.{within-bounds}
+use Rattle.lists.proofs.StatusStep.{status-clear, status-step, status-keeps}
+use Rattle.lists.proofs.Switch.{offs-after-few}
+use Rattle.lists.specs.InnerWell.{WellFormed}
+use Rattle.daybook.specs.Book.{standard}
+use Rattle.layout.specs.Layout.{partOf, withPart, pointNumbers, pointFrom, registerOf}
 use Rattle.layout.specs.Sound.{sound}
 use Rattle.layout.proofs.Numbers.{few}
 use Rattle.layout.proofs.PartBlocks.{few-offs}
 use Rattle.layout.proofs.TableSound.{sound-lays, standard-fits}
 use Rattle.table.specs.Lookup.{indexOf}
 use Rattle.table.proofs.Calls.{call-unsound, gives}
-use Rattle.table.proofs.OnPart.{onPart, part-entered, part-refused, CallOn, on-early, on-missing, on-point}
-use Rattle.status.specs.Part.{rowsOf, switchedLists}
+use Rattle.table.specs.InnerTable.{onPart}
+use Rattle.table.proofs.OnPart.{part-entered, part-refused, CallOn, on-early, on-missing, on-point}
+use Rattle.status.specs.InnerParts.{statusRowsOf, switchedLists}
 use Rattle.status.specs.Status.{statusCall}
 
 -- ---- row 2
@@ -59,17 +61,17 @@ abbrev effectOf : ℕ → ℕ → Lists → Numbers × Lists
 effectOf day on q = ([], switchedLists day on q)
 
 unfoldable pub statusPart : ℕ → ℕ → List ℤ → Numbers × List ℤ
-statusPart day on p = onPart 0 (rowsOf day on) (effectOf day on) p
+statusPart day on p = onPart 0 (statusRowsOf day on) (effectOf day on) p
 
 -- the row that the code finds, and what it leaves of the part
-pub part-done : (day on : ℕ) (p : List ℤ) (r : ℕ) {u : List ℤ} → r ≡ least (rowsOf day on (pointFrom p))
+pub part-done : (day on : ℕ) (p : List ℤ) (r : ℕ) {u : List ℤ} → r ≡ least (statusRowsOf day on (pointFrom p))
     → u ≡ cond (eqb r 0) (pointNumbers 48 (switchedLists day on (pointFrom p))) p
     → (pos r ∷ [] ≡ statusPart day on p .0) × (u ≡ statusPart day on p .1)
 unfolding statusPart
 part-done day on p zero e f =
-    let w = gives (part-entered 0 (rowsOf day on) (effectOf day on) p (sym e)) in (w .0, f ∙ w .1)
+    let w = gives (part-entered 0 (statusRowsOf day on) (effectOf day on) p (sym e)) in (w .0, f ∙ w .1)
 part-done day on p (suc r) e f =
-    let w = gives (part-refused 0 (rowsOf day on) (effectOf day on) p r (sym e)) in
+    let w = gives (part-refused 0 (statusRowsOf day on) (effectOf day on) p r (sym e)) in
     (w .0, rw (ne-eqb (suc r) 0 (λ (z : suc r ≡ 0). omega arith)) at f ∙ w .1)
 
 -- ---- the call
@@ -86,7 +88,7 @@ module _ (t : List ℤ) (n : StatusNotice) where
   on = natOf (n .on)
 
   module _ (s : sound standard t ≡ true) where
-    call : CallOn (registerOf standard t) 0 (n .mirn) (statusEarly n) (rowsOf day on) (effectOf day on) (status n)
+    call : CallOn (registerOf standard t) 0 (n .mirn) (statusEarly n) (statusRowsOf day on) (effectOf day on) (status n)
     unfolding statusLists statusEarly above
     call =
         let ok : WellFormed standard (registerOf standard t) = sound-lays standard standard-fits t s .0 in

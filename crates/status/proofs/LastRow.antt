@@ -5,8 +5,8 @@ use mathlib.Core.List.{List, [], _∷_, _++_}
 use Prim.Native.Nat.{ℕ, zero, suc, _≤_}
 use native.Mathlib.Omega.{arith}
 use lib.ListN.{length, getD, take}
-use Rattle.daybook.proofs.Steps.{closed}
-use Rattle.daybook.proofs.Well.{Spans, nospan, still, ended}
+use Rattle.lists.specs.InnerSteps.{closed}
+use Rattle.lists.specs.InnerWell.{Spans, nospan, still, ended}
 use Rattle.layout.proofs.Cells.{noOff}
 
 pub closed-last : (d : ℕ) (l : List (ℕ × Option ℕ)) (k : ℕ) → length l ≡ suc k

@@ -14,18 +14,18 @@ use lib.IntN.{ℤ, pos}
 use Rattle.numbers.specs.Search.{maybe}
 use Rattle.daybook.specs.Book.{Entry, lastOf}
 use Rattle.daybook.specs.Notices.{least, cannotOff, cannotOn, statusRows}
-use Rattle.daybook.proofs.Lists.{Lists}
-use Rattle.daybook.proofs.Last.{last-none, last-at, split-last}
-use Rattle.daybook.proofs.Steps.{lastEnd, offsAfter, withOffs}
-use Rattle.daybook.proofs.Rows.{above, least-first, least-skip, least-none}
-use Rattle.daybook.proofs.Well.{Well}
+use Rattle.lists.specs.Lists.{Lists}
+use Rattle.lists.proofs.Last.{last-none, last-at, split-last}
+use Rattle.lists.specs.InnerSteps.{lastEnd, offsAfter, withOffs}
+use Rattle.lists.proofs.Rows.{above, least-first, least-skip, least-none}
+use Rattle.lists.specs.InnerWell.{Well}
 use Rattle.layout.specs.Layout.{onNumber, pointNumbers, numAt}
-use Rattle.layout.specs.Writes.{openSpan, closeSpan}
+use Rattle.layout.specs.InnerWrites.{openSpan, closeSpan}
 use Rattle.layout.proofs.Numbers.{few}
 use Rattle.layout.proofs.Cells.{noOff, noRec, cell-off, cell-on, cell-rec-end, place-offs, place-recs}
 use Rattle.layout.proofs.RowWrites.{open-span, close-span}
-use Rattle.point.specs.Tests.{untilOf}
-use Rattle.status.specs.Part.{filledFrom, cannotSwitch, rowsOf, switchedLists}
+use Rattle.point.specs.InnerTests.{untilOf}
+use Rattle.status.specs.InnerParts.{filledFrom, cannotSwitch, statusRowsOf, switchedLists}
 use Rattle.status.proofs.LastRow.{closed-last, on-day}
 
 -- ---- one span
@@ -131,20 +131,20 @@ module _ (day on : ℕ) (q : Lists) (b : Bool) (fourteen : b ≡ cannotSwitch da
   abbrev full : Bool
   full = eqb on 0 && leb 8 (length (q .offs))
 
-  pub row-fourteen : b ≡ true → 14 ≡ least (rowsOf day on q)
+  pub row-fourteen : b ≡ true → 14 ≡ least (statusRowsOf day on q)
   unfolding statusRows above
   row-fourteen h = sym (least-first 14 _ ((16, full) ∷ []) refl (sym fourteen ∙ h))
 
-  pub row-sixteen : b ≡ false → full ≡ true → 16 ≡ least (rowsOf day on q)
+  pub row-sixteen : b ≡ false → full ≡ true → 16 ≡ least (statusRowsOf day on q)
   unfolding statusRows above
   row-sixteen h k = sym (least-skip 14 _ ((16, full) ∷ []) (sym fourteen ∙ h) ∙ least-first 16 _ [] refl k)
 
-  pub row-none : b ≡ false → full ≡ false → 0 ≡ least (rowsOf day on q)
+  pub row-none : b ≡ false → full ≡ false → 0 ≡ least (statusRowsOf day on q)
   unfolding statusRows least
   row-none h k = sym (least-skip 14 _ ((16, full) ∷ []) (sym fourteen ∙ h) ∙ least-skip 16 _ [] k)
 
 -- where no row applies, there is room for a span that opens, and a span to close
-module _ (day on : ℕ) (q : Lists) (z : least (rowsOf day on q) ≡ 0) where
+module _ (day on : ℕ) (q : Lists) (z : least (statusRowsOf day on q) ≡ 0) where
   pub room-to-open : on ≡ 0 → length (q .offs) < 8
   unfolding statusRows
   room-to-open e =

@@ -1,3 +1,3 @@
 -- The call that says from which day on a point is off, or on again.
 pub mod Status
-pub mod Part
+pub mod InnerParts

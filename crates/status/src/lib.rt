@@ -13,7 +13,7 @@ ghost use Rattle.daybook.specs.Notices.{least, isMirn, isFlag, cannotOff, canno
 ghost use Rattle.daybook.specs.Calls.{noticeNumbers};
 ghost use Rattle.layout.specs.Layout.{pointNumbers, pointFrom};
 ghost use Rattle.layout.specs.Sound.{partSound};
-ghost use Rattle.status.specs.Part.{filledFrom, cannotSwitch, rowsOf, switchedLists};
+ghost use Rattle.status.specs.InnerParts.{filledFrom, cannotSwitch, statusRowsOf, switchedLists};
 ghost use Rattle.status.specs.Status.{statusCall};
 
 // Row 2.
@@ -78,7 +78,7 @@ fn cannot_switch(p: &[i64], day: u64, on: u64) -> bool
 // The row that sends the notice back, 0 if none does.
 fn refusal(p: &[i64], day: u64, on: u64) -> u64
     requires { ⌜ (partSound (now p) ≡ true) × (length (now p) ≡ 240) × (day ≤ 39999) ⌝ }
-    ensures { λ r. ⌜ r ≡ least (rowsOf day on (pointFrom (now (p .entry)))) ⌝ }
+    ensures { λ r. ⌜ r ≡ least (statusRowsOf day on (pointFrom (now (p .entry)))) ⌝ }
 {
     if cannot_switch(p, day, on) {
         return 14;
@@ -91,7 +91,7 @@ fn refusal(p: &[i64], day: u64, on: u64) -> u64
 
 // One more span, or the on day of the last.
 fn switch(p: &mut [i64], day: u64, on: u64)
-    requires { ⌜ (partSound (now p) ≡ true) × (length (now p) ≡ 240) × (day ≤ 39999) × (on ≤ 1) × (least (rowsOf day on (pointFrom (now p))) ≡ 0) ⌝ }
+    requires { ⌜ (partSound (now p) ≡ true) × (length (now p) ≡ 240) × (day ≤ 39999) × (on ≤ 1) × (least (statusRowsOf day on (pointFrom (now p))) ≡ 0) ⌝ }
     ensures { λ _. ⌜ now (p .exit) ≡ pointNumbers 48 (switchedLists day on (pointFrom (now (p .entry)))) ⌝ }
 {
     let n = numbers::get(p, 5) as usize;
@@ -105,7 +105,7 @@ fn switch(p: &mut [i64], day: u64, on: u64)
 // A notice on its point's part, which a refusal leaves as found.
 fn enter(p: &mut [i64], day: u64, on: u64) -> u64
     requires { ⌜ (partSound (now p) ≡ true) × (length (now p) ≡ 240) × (day ≤ 39999) × (on ≤ 1) ⌝ }
-    ensures { λ r. ⌜ (r ≡ least (rowsOf day on (pointFrom (now (p .entry))))) × (now (p .exit) ≡ cond (eqb r 0) (pointNumbers 48 (switchedLists day on (pointFrom (now (p .entry))))) (now (p .entry))) ⌝ }
+    ensures { λ r. ⌜ (r ≡ least (statusRowsOf day on (pointFrom (now (p .entry))))) × (now (p .exit) ≡ cond (eqb r 0) (pointNumbers 48 (switchedLists day on (pointFrom (now (p .entry))))) (now (p .entry))) ⌝ }
 {
     let row = refusal(p, day, on);
     if row == 0 {

@@ -12,13 +12,13 @@ use Rattle.numbers.specs.Naturals.{natOf}
 use Rattle.numbers.specs.Search.{maybe}
 use Rattle.daybook.specs.Book.{Book, Edition}
 use Rattle.daybook.specs.Notices.{Row, least, Numbers, decide}
-use Rattle.daybook.proofs.Lists.{Lists, Register, bookOf}
-use Rattle.daybook.proofs.Steps.{findLists, withLists, onLists}
-use Rattle.daybook.proofs.Rows.{decide-taken, decide-refused}
-use Rattle.daybook.proofs.Well.{WellFormed}
+use Rattle.lists.specs.Lists.{Lists, Register, bookOf}
+use Rattle.lists.specs.InnerSteps.{findLists, withLists, onLists}
+use Rattle.lists.proofs.Rows.{decide-taken, decide-refused}
+use Rattle.lists.specs.InnerWell.{WellFormed}
 use Rattle.layout.specs.Layout.{tableLength, partOf, withPart, pointNumbers, layout, pointFrom, registerOf, tableBook}
 use Rattle.layout.specs.Sound.{sound}
-use Rattle.layout.specs.Calls.{refused, leaves, onTable, ofTable}
+use Rattle.layout.specs.Calls.{refused, answerAndTable, onTable, ofTable}
 use Rattle.layout.proofs.Numbers.{Few}
 use Rattle.layout.proofs.Tables.{written-is}
 use Rattle.table.proofs.Found.{Found}
@@ -48,7 +48,7 @@ abbrev pub laidOver : Edition → List ℤ → Numbers × Register → Numbers �
 laidOver ed t w = (w .0, cond (refused (w .0)) t (layout ed (w .1) ++ drop tableLength t))
 
 module _ (ed : Edition) (t : List ℤ) where
-  pub leaves-is : (w : Numbers × Register) → WellFormed ed (w .1) → leaves ed t (w .0, bookOf (w .1)) ≡ laidOver ed t w
+  pub leaves-is : (w : Numbers × Register) → WellFormed ed (w .1) → answerAndTable ed t (w .0, bookOf (w .1)) ≡ laidOver ed t w
   leaves-is w ok = ap (λ u. (w .0, cond (refused (w .0)) t u)) (written-is ed ok t)
 
   -- a refusal leaves the table as found
@@ -86,7 +86,7 @@ module _ (k : ℕ) (m : ℤ) (early : List Row) (rows : Lists → List Row) (eff
 
   whole : onTable k step ed t ≡ laidOver ed t after
   unfolding onTable tableBook
-  whole = rw s (ap (leaves ed t) is ∙ leaves-is ed t after keeps)
+  whole = rw s (ap (answerAndTable ed t) is ∙ leaves-is ed t after keeps)
 
   pub call-refused : (n : ℕ) → row k m early rows effect (registerOf ed t) ≡ suc n → onTable k step ed t ≡ (pos (suc n) ∷ replicate k (pos 0), t)
   call-refused n e =

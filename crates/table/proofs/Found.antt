@@ -13,9 +13,9 @@ use borrow.Author.Tests.{eqb-true, eqb-false, eq-eqb, ne-eqb}
 use Rattle.numbers.proofs.Search.{First, found as found-at, first-tells, first-fails}
 use Rattle.numbers.specs.Search.{isSome}
 use Rattle.daybook.specs.Book.{Edition}
-use Rattle.daybook.proofs.Lists.{Lists, Register}
-use Rattle.daybook.proofs.Steps.{findLists, putLists, withLists}
-use Rattle.daybook.proofs.Well.{Well, Points, point, WellFormed}
+use Rattle.lists.specs.Lists.{Lists, Register}
+use Rattle.lists.specs.InnerSteps.{findLists, putLists, withLists}
+use Rattle.lists.specs.InnerWell.{Well, Points, point, WellFormed}
 use Rattle.layout.specs.Layout.{tableLength, stride, placeOf, Fits, partOf, withPart, pointNumbers, layout, numAt, pointFrom, pointsFrom, registerOf}
 use Rattle.layout.specs.Sound.{sound}
 use Rattle.layout.proofs.Numbers.{Few}

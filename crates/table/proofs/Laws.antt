@@ -17,11 +17,13 @@ use Rattle.numbers.proofs.Rows.{all-more, all-fails, all-done}
 use Rattle.numbers.proofs.Search.{from-none, from-hit, from-miss, from-bound}
 use Rattle.calendar.specs.Calendar.{within}
 use Rattle.daybook.specs.Notices.{isRange}
-use Rattle.layout.specs.Layout.{standard, placeOf, partOf, withPart, numAt, pointsFrom}
+use Rattle.daybook.specs.Book.{standard}
+use Rattle.layout.specs.Layout.{placeOf, partOf, withPart, numAt, pointsFrom}
 use Rattle.layout.specs.Sound.{zeros, partSound, mirnsDiffer, sound}
-use Rattle.layout.proofs.Mirns.{laterDiffer}
+use Rattle.layout.specs.InnerMirns.{laterDiffer}
 use Rattle.layout.proofs.TableSound.{Tested, tested}
-use Rattle.table.specs.Lookup.{bodySound, indexOf, lookUp}
+use Rattle.table.specs.InnerTable.{bodySound}
+use Rattle.table.specs.Lookup.{indexOf, lookUp}
 
 -- The part of point i as code lends it, and the table once it is back.
 abbrev pub lent : List ℤ → ℕ → List ℤ

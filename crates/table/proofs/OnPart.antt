@@ -12,13 +12,13 @@ use borrow.Author.Tests.{lt-ltb}
 use Rattle.numbers.specs.Naturals.{natOf}
 use Rattle.numbers.specs.Search.{maybe}
 use Rattle.numbers.proofs.Bools.{join}
-use Rattle.daybook.specs.Book.{Book}
+use Rattle.daybook.specs.Book.{Book, standard}
 use Rattle.daybook.specs.Notices.{Row, least, Numbers, decide}
-use Rattle.daybook.proofs.Lists.{Lists, Register, bookOf}
-use Rattle.daybook.proofs.Steps.{findLists, onLists}
-use Rattle.daybook.proofs.Well.{Well, WellFormed}
-use Rattle.daybook.proofs.Rows.{above, least-first, least-append-none, least-append-some, decide-taken, decide-refused}
-use Rattle.layout.specs.Layout.{standard, partOf, withPart, pointNumbers, pointFrom, registerOf}
+use Rattle.lists.specs.Lists.{Lists, Register, bookOf}
+use Rattle.lists.specs.InnerSteps.{findLists, onLists}
+use Rattle.lists.specs.InnerWell.{Well, WellFormed}
+use Rattle.lists.proofs.Rows.{above, least-first, least-append-none, least-append-some, decide-taken, decide-refused}
+use Rattle.layout.specs.Layout.{partOf, withPart, pointNumbers, pointFrom, registerOf}
 use Rattle.layout.specs.Sound.{partSound, sound}
 use Rattle.layout.specs.Calls.{onTable}
 use Rattle.layout.proofs.Numbers.{Few, few, length-point}
@@ -29,13 +29,9 @@ use Rattle.table.specs.Lookup.{indexOf}
 use Rattle.table.proofs.Laws.{lent, backIn, part-is, part-put, index-none, index-some}
 use Rattle.table.proofs.Found.{Found, found, missing}
 use Rattle.table.proofs.Calls.{call-refused, call-entered}
+use Rattle.table.specs.InnerTable.{onPart}
 
 -- ---- on the part
-
--- A call with k fields on a part: its rows and its effect, on the point's lists.
-unfoldable pub onPart : ℕ → (Lists → List Row) → (Lists → Numbers × Lists) → List ℤ → Numbers × List ℤ
-onPart k rows effect p =
-    let w : Numbers × Lists = effect (pointFrom p) in decide (least (rows (pointFrom p))) k p (w .0, pointNumbers 48 (w .1))
 
 module _ (k : ℕ) (rows : Lists → List Row) (effect : Lists → Numbers × Lists) (p : List ℤ) where
   abbrev enters : Numbers × List ℤ

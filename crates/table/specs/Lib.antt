@@ -1,2 +1,3 @@
 -- The look-up of a point by its MIRN.
 pub mod Lookup
+pub mod InnerTable

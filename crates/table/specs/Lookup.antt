@@ -9,16 +9,10 @@ use lib.ListN.{getD, drop}
 use Rattle.numbers.specs.Naturals.{natOf}
 use Rattle.numbers.specs.Rows.{all}
 use Rattle.numbers.specs.Search.{maybe, firstFrom}
-use Rattle.daybook.specs.Book.{Edition}
+use Rattle.daybook.specs.Book.{Edition, standard}
 use Rattle.daybook.specs.Notices.{isRange}
-use Rattle.layout.specs.Layout.{tableLength, standard, placeOf, partOf, numAt, pointsFrom}
+use Rattle.layout.specs.Layout.{tableLength, placeOf, partOf, numAt, pointsFrom}
 use Rattle.layout.specs.Sound.{zeros, partSound, mirnsDiffer, sound}
-
--- What is tested of a table that is long enough and does not say that it has too many points.
-unfoldable pub bodySound : List ℤ → Bool
-bodySound t =
-    isRange (getD t 1 (pos 0)) && isRange (getD t 2 (pos 0)) && zeros t 3 8 && all (λ i. partSound (partOf standard t i)) (numAt t 0)
-    && mirnsDiffer (pointsFrom standard (numAt t 0) (drop 8 t)) && zeros t (placeOf standard (numAt t 0)) tableLength
 
 -- The first point, of those in use, whose MIRN is m.
 unfoldable pub indexOf : Edition → List ℤ → ℕ → Option ℕ

@@ -1,5 +1,4 @@
 // The whole register table of the standard edition: is it sound, where does a point stand, and what are its numbers?
-// How far apart points are and how many there are is said here, in `part`, `place` and the two bounds below.
 ghost use mathlib.Core.Path.{_≡_};
 ghost use mathlib.Core.Bool.{not};
 ghost use Prim.Native.Nat.{suc, _+_, _-_, _*_, _<_, _≤_, _^_};
@@ -9,23 +8,12 @@ ghost use lib.IntN.{pos};
 ghost use Rattle.numbers.specs.Rows.{all};
 ghost use Rattle.numbers.specs.Search.{maybe};
 ghost use Rattle.daybook.specs.Notices.{isRange};
-ghost use Rattle.layout.specs.Layout.{standard, placeOf, partOf, numAt, pointsFrom};
+ghost use Rattle.daybook.specs.Book.{standard};
+ghost use Rattle.layout.specs.Layout.{placeOf, partOf, numAt, pointsFrom};
 ghost use Rattle.layout.specs.Sound.{partSound, mirnsDiffer, sound as tableSound};
-ghost use Rattle.layout.proofs.Mirns.{laterDiffer};
-ghost use Rattle.table.specs.Lookup.{bodySound, indexOf, lookUp};
-
-// The numbers of a register, and its points.
-pub const TABLE: usize = 7688;
-
-pub const POINTS: usize = 32;
-
-// Where point i starts.
-pub fn place(i: usize) -> usize
-    requires { ⌜ i ≤ 32 ⌝ }
-    ensures { λ r. ⌜ r ≡ placeOf standard i ⌝ }
-{
-    8 + 240 * i
-}
+ghost use Rattle.layout.specs.InnerMirns.{laterDiffer};
+ghost use Rattle.table.specs.InnerTable.{bodySound};
+ghost use Rattle.table.specs.Lookup.{indexOf, lookUp};
 
 // The numbers of point i.
 pub fn part(t: &[i64], i: usize) -> &[i64]

@@ -12,21 +12,23 @@ use borrow.Author.Tests.{eq-eqb, ne-eqb, le-leb, lt-leb}
 use Rattle.numbers.specs.Search.{maybe, isSome}
 use Rattle.daybook.specs.Book.{Pending}
 use Rattle.daybook.specs.Notices.{least, requestRows, withdrawRows}
-use Rattle.daybook.proofs.Lists.{Lists}
-use Rattle.daybook.proofs.Steps.{latestOf, withPendingLists}
-use Rattle.daybook.proofs.Well.{some-reg, Well}
-use Rattle.daybook.proofs.Rows.{above, least-first, least-skip}
+use Rattle.lists.specs.Lists.{Lists}
+use Rattle.lists.specs.InnerSteps.{latestOf, withPendingLists}
+use Rattle.lists.proofs.Registrations.{some-reg}
+use Rattle.lists.specs.InnerWell.{Well}
+use Rattle.lists.proofs.Rows.{above, least-first, least-skip}
 use Rattle.layout.specs.Layout.{numAt, pendingFrom, pointFrom, pointNumbers}
 use Rattle.layout.specs.Sound.{partSound}
-use Rattle.layout.specs.Writes.{setPending, clearPending}
+use Rattle.layout.specs.InnerWrites.{setPending, clearPending}
 use Rattle.layout.proofs.PartBlocks.{few-pending}
 use Rattle.layout.proofs.Numbers.{Few, few}
 use Rattle.layout.proofs.PartLays.{part-lays}
 use Rattle.layout.proofs.RowWrites.{set-pending, clear-pending}
-use Rattle.point.proofs.Rows.{regRow, regs-read, length-rows}
+use Rattle.point.specs.InnerTests.{regRow}
+use Rattle.point.proofs.Rows.{regs-read, length-rows}
 use Rattle.point.proofs.Registrations.{latest-user}
 use Rattle.table.proofs.OnPart.{part-entered, part-refused}
-use Rattle.transfer.specs.Parts.{requestRowsOf, requestEffect, requestPart, withdrawRowsOf, withdrawEffect, withdrawPart}
+use Rattle.transfer.specs.InnerParts.{requestRowsOf, requestEffect, requestPart, withdrawRowsOf, withdrawEffect, withdrawPart}
 
 -- another pending request fits the part
 pub pending-room : (o : Option Pending) (q : Lists) → Well 48 q → Few 48 (withPendingLists o q)

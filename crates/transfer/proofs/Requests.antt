@@ -14,17 +14,18 @@ use Rattle.calendar.specs.Calendar.{isDay, holidayList, allowablePeriod}
 use Rattle.calendar.proofs.Dates.{within-natural, up-to-natural, day-natural}
 use Rattle.daybook.specs.declared.TransferRequest.{TransferRequest}
 use Rattle.daybook.specs.Notices.{isMirn, isUser, isFlag, least, requestEarly, requestRows, request}
-use Rattle.daybook.proofs.Steps.{requestLists}
-use Rattle.daybook.proofs.Rows.{above, least-first, least-skip}
-use Rattle.daybook.proofs.Bounds.{within-bounds}
-use Rattle.daybook.proofs.TransferStep.{request-step, request-keeps}
-use Rattle.layout.specs.Layout.{standard, partOf, withPart}
+use Rattle.lists.specs.InnerSteps.{requestLists}
+use Rattle.lists.proofs.Rows.{above, least-first, least-skip}
+use Rattle.lists.proofs.Bounds.{within-bounds}
+use Rattle.lists.proofs.TransferStep.{request-step, request-keeps}
+use Rattle.daybook.specs.Book.{standard}
+use Rattle.layout.specs.Layout.{partOf, withPart}
 use Rattle.layout.specs.Sound.{sound}
 use Rattle.table.specs.Lookup.{indexOf}
 use Rattle.table.proofs.Calls.{call-unsound}
 use Rattle.table.proofs.OnPart.{PointCall, call-early, call-missing, call-at}
 use Rattle.transfer.specs.Transfer.{requestCall}
-use Rattle.transfer.specs.Parts.{requestRowsOf, requestEffect, requestPart}
+use Rattle.transfer.specs.InnerParts.{requestRowsOf, requestEffect, requestPart}
 use Rattle.transfer.proofs.Points.{pending-room}
 
 -- ---- row 2

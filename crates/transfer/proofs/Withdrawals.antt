@@ -13,17 +13,18 @@ use Rattle.numbers.proofs.Bools.{both}
 use Rattle.calendar.proofs.Dates.{within-natural}
 use Rattle.daybook.specs.declared.Withdrawal.{Withdrawal}
 use Rattle.daybook.specs.Notices.{isMirn, isUser, least, withdrawEarly, withdrawRows, withdraw}
-use Rattle.daybook.proofs.Steps.{withdrawLists}
-use Rattle.daybook.proofs.Rows.{above, least-first, least-skip}
-use Rattle.daybook.proofs.Bounds.{within-bounds}
-use Rattle.daybook.proofs.TransferStep.{withdraw-step, withdraw-keeps}
-use Rattle.layout.specs.Layout.{standard, partOf, withPart}
+use Rattle.lists.specs.InnerSteps.{withdrawLists}
+use Rattle.lists.proofs.Rows.{above, least-first, least-skip}
+use Rattle.lists.proofs.Bounds.{within-bounds}
+use Rattle.lists.proofs.TransferStep.{withdraw-step, withdraw-keeps}
+use Rattle.daybook.specs.Book.{standard}
+use Rattle.layout.specs.Layout.{partOf, withPart}
 use Rattle.layout.specs.Sound.{sound}
 use Rattle.table.specs.Lookup.{indexOf}
 use Rattle.table.proofs.Calls.{call-unsound}
 use Rattle.table.proofs.OnPart.{PointCall, call-early, call-missing, call-at}
 use Rattle.transfer.specs.Transfer.{withdrawCall}
-use Rattle.transfer.specs.Parts.{withdrawRowsOf, withdrawEffect, withdrawPart}
+use Rattle.transfer.specs.InnerParts.{withdrawRowsOf, withdrawEffect, withdrawPart}
 use Rattle.transfer.proofs.Points.{pending-room}
 
 -- ---- row 2

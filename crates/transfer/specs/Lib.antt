@@ -1,3 +1,3 @@
 -- The calls request and withdraw.
 pub mod Transfer
-pub mod Parts
+pub mod InnerParts

@@ -4,7 +4,7 @@ use lib.IntN.{ℤ}
 use Rattle.daybook.specs.declared.TransferRequest.{TransferRequest}
 use Rattle.daybook.specs.declared.Withdrawal.{Withdrawal}
 use Rattle.daybook.specs.Notices.{Numbers, request, withdraw}
-use Rattle.layout.specs.Layout.{standard}
+use Rattle.daybook.specs.Book.{standard}
 use Rattle.layout.specs.Calls.{onTable}
 
 -- request answers two fields, the first and the last day of the allowable period.

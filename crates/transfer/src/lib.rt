@@ -15,7 +15,7 @@ ghost use Rattle.daybook.specs.Notices.{isMirn, isUser, isFlag};
 ghost use Rattle.daybook.specs.Calls.{noticeNumbers, requestNumbers};
 ghost use Rattle.layout.specs.Sound.{partSound};
 ghost use Rattle.transfer.specs.Transfer.{requestCall, withdrawCall};
-ghost use Rattle.transfer.specs.Parts.{requestPart, withdrawPart};
+ghost use Rattle.transfer.specs.InnerParts.{requestPart, withdrawPart};
 
 fn withdrawal_in_range(n: Withdrawal) -> bool
     ensures { λ r. ⌜ r ≡ (isMirn (n .mirn) && isUser (n .user)) ⌝ }

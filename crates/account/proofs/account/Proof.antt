@@ -10,7 +10,7 @@ use borrow.Author.Tests.{not-true, not-false}
 use Rattle.numbers.specs.Naturals.{natOf}
 use Rattle.numbers.proofs.Naturals.{natural-read}
 use Rattle.daybook.specs.declared.AccountQuery.{AccountQuery}
-use Rattle.layout.specs.Layout.{standard}
+use Rattle.daybook.specs.Book.{standard}
 use Rattle.layout.specs.Sound.{sound}
 use Rattle.account.proofs.Call.{inRange, range-bounds, unsound-ends, range-ends, given-ends}
 use Rattle.account.proofs.account.Statement.{statement}

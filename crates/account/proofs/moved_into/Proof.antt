@@ -1,5 +1,5 @@
 use native.Mathlib.Omega.{arith}
-use Rattle.account.specs.Registrations.{movedInto}
+use Rattle.account.specs.InnerRegistrations.{movedInto}
 use Rattle.account.proofs.moved_into.Statement.{statement}
 use Rattle.account.proofs.moved_into.Tie as tie
 

@@ -6,9 +6,9 @@ use Rattle.numbers.specs.Sums.{sumFrom}
 use Rattle.numbers.proofs.Sums.{sum-none, sum-turn, sum-end}
 use Rattle.numbers.proofs.Integers.{raise}
 use Rattle.daybook.specs.Book.{dayShare}
-use Rattle.readings.specs.Readings.{pointAt}
+use Rattle.readings.specs.InnerReadings.{pointAt}
 use Rattle.readings.proofs.Part.{part-counted}
-use Rattle.account.specs.Registrations.{ownIn}
+use Rattle.account.specs.InnerRegistrations.{ownIn}
 use Rattle.account.proofs.Registrations.{own-by-rows}
 use borrow.Author.Needs.{needs}
 use Rattle.account.proofs.point_energy.Statement.{statement}

@@ -1,7 +1,7 @@
 use mathlib.Core.Path.{sym, ap, _∙_}
 use native.Mathlib.Omega.{arith}
 use Rattle.readings.proofs.Part.{part-counted}
-use Rattle.account.specs.Registrations.{movedInto}
+use Rattle.account.specs.InnerRegistrations.{movedInto}
 use Rattle.account.proofs.Registrations.{start-is, start-end}
 use borrow.Author.Needs.{needs}
 use Rattle.account.proofs.start_in.Statement.{statement}

@@ -7,9 +7,10 @@ use lib.IntN.{subℕ}
 use Rattle.numbers.specs.Sums.{sumFrom}
 use Rattle.numbers.proofs.Sums.{sum-none, sum-turn, sum-end}
 use Rattle.daybook.specs.Queries.{ownShare}
-use Rattle.layout.specs.Layout.{standard, partOf}
+use Rattle.daybook.specs.Book.{standard}
+use Rattle.layout.specs.Layout.{partOf}
 use Rattle.table.proofs.Laws.{sound-long}
-use Rattle.readings.specs.Readings.{pointAt, Readable}
+use Rattle.readings.specs.InnerReadings.{pointAt, Readable}
 use Rattle.readings.proofs.Points.{part-readable}
 use Rattle.account.proofs.Call.{table-sum}
 use borrow.Author.Needs.{sfits-of, needs}

@@ -8,9 +8,10 @@ use borrow.Author.Tests.{not-true, not-false}
 use Rattle.numbers.proofs.Naturals.{natural-read}
 use Rattle.numbers.specs.Naturals.{natOf}
 use Rattle.daybook.specs.Queries.{allocationInRange, weight, weights, total}
-use Rattle.layout.specs.Layout.{standard, tableBook}
+use Rattle.daybook.specs.Book.{standard}
+use Rattle.layout.specs.Layout.{tableBook}
 use Rattle.layout.specs.Sound.{sound}
-use Rattle.allocate.specs.Parts.{pointsOf, padded}
+use Rattle.allocate.specs.InnerParts.{pointsOf, padded}
 use Rattle.allocate.proofs.Given.{total-padded}
 use Rattle.allocate.proofs.Apportioned.{in-range-tells}
 use Rattle.allocate.proofs.Call.{sent-back, handed-out, call-unsound, call-range, call-weightless, call-given}

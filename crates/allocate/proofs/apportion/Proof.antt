@@ -10,10 +10,11 @@ use borrow.Author.Needs.{needs, sfits-of}
 use Rattle.numbers.proofs.Naturals.{natural-read}
 use Rattle.numbers.specs.Naturals.{natOf}
 use Rattle.daybook.specs.Queries.{atLeast0, tdmOf, nslOf, split, users}
-use Rattle.layout.specs.Layout.{standard, tableBook}
+use Rattle.daybook.specs.Book.{standard}
+use Rattle.layout.specs.Layout.{tableBook}
 use Rattle.table.proofs.Laws.{sound-long}
 use Rattle.allocate.specs.Allocate.{placed}
-use Rattle.allocate.specs.Parts.{pointsOf, padded, SharesBelow, totalTo, loadOf, givenOf}
+use Rattle.allocate.specs.InnerParts.{pointsOf, padded, SharesBelow, totalTo, loadOf, givenOf}
 use Rattle.allocate.proofs.Apportioned.{in-range-tells, in-range, load-is, fros-32, weigh-32, split-32, placed-long, shares-are, shares-small, totals-are}
 use Rattle.allocate.proofs.apportion.Statement.{statement}
 use Rattle.allocate.proofs.apportion.Tie as tie

@@ -5,7 +5,7 @@ use lib.ListN.{set}
 use borrow.Author.Needs.{needs}
 use Rattle.layout.specs.Layout.{numAt}
 use Rattle.table.proofs.Laws.{sound-long}
-use Rattle.readings.specs.Readings.{pointAt, Readable}
+use Rattle.readings.specs.InnerReadings.{pointAt, Readable}
 use Rattle.readings.proofs.Points.{partPoint, part-readable}
 use Rattle.allocate.proofs.Arrays.{filledTo, none-filled, one-filled, all-filled}
 use Rattle.allocate.proofs.fros.Statement.{statement}

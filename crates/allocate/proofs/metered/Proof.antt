@@ -8,7 +8,7 @@ use Rattle.numbers.proofs.Sums.{sum-none, sum-turn}
 use Rattle.daybook.specs.Queries.{meteredOf, tdmOf}
 use Rattle.layout.specs.Layout.{numAt}
 use Rattle.table.proofs.Laws.{sound-long}
-use Rattle.readings.specs.Readings.{pointAt, Readable}
+use Rattle.readings.specs.InnerReadings.{pointAt, Readable}
 use Rattle.readings.proofs.Points.{partPoint, part-readable, points-sum}
 use Rattle.allocate.proofs.metered.Statement.{statement}
 use Rattle.allocate.proofs.metered.Tie as tie

@@ -8,7 +8,7 @@ use borrow.Author.Needs.{needs, sfits-of}
 use Rattle.numbers.proofs.Naturals.{natural-read}
 use Rattle.numbers.specs.Naturals.{natOf}
 use Rattle.daybook.specs.Queries.{atLeast0}
-use Rattle.allocate.specs.Parts.{loadOf}
+use Rattle.allocate.specs.InnerParts.{loadOf}
 use Rattle.allocate.proofs.Loads.{net-load, load-natural}
 use Rattle.allocate.proofs.net_load.Statement.{statement}
 use Rattle.allocate.proofs.net_load.Tie as tie

@@ -7,7 +7,7 @@ use lib.ListN.{getD}
 use borrow.Author.Needs.{needs}
 use Rattle.numbers.proofs.Bools.{cond-small}
 use Rattle.layout.specs.Layout.{numAt}
-use Rattle.allocate.specs.Parts.{totalTo}
+use Rattle.allocate.specs.InnerParts.{totalTo}
 use Rattle.allocate.proofs.UserTotals.{total-none, total-step}
 use Rattle.allocate.proofs.total_of.Statement.{statement}
 use Rattle.allocate.proofs.total_of.Tie as tie

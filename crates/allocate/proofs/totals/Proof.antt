@@ -8,7 +8,7 @@ use borrow.Author.Needs.{sfits-of}
 use lib.ListN.{take, drop, set, replicate}
 use lib.IntN.{pos}
 use Rattle.daybook.specs.Queries.{users}
-use Rattle.allocate.specs.Parts.{totalTo}
+use Rattle.allocate.specs.InnerParts.{totalTo}
 use Rattle.allocate.proofs.UserTotals.{row-step}
 use borrow.Author.Needs.{needs}
 use Rattle.allocate.proofs.totals.Statement.{statement}

@@ -6,9 +6,9 @@ use borrow.Author.Needs.{needs}
 use Rattle.daybook.specs.Queries.{weight}
 use Rattle.layout.specs.Layout.{numAt}
 use Rattle.table.proofs.Laws.{sound-long}
-use Rattle.readings.specs.Readings.{pointAt, Readable}
+use Rattle.readings.specs.InnerReadings.{pointAt, Readable}
 use Rattle.readings.proofs.Points.{partPoint, part-readable}
-use Rattle.allocate.specs.Parts.{Below}
+use Rattle.allocate.specs.InnerParts.{Below}
 use Rattle.allocate.proofs.Arrays.{filledTo, none-filled, one-filled, all-filled, none-above, put-below}
 use Rattle.allocate.proofs.weights.Statement.{statement}
 use Rattle.allocate.proofs.weights.Tie as tie

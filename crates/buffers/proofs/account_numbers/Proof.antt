@@ -5,7 +5,7 @@ use mir.Val.{toZ, ofZ}
 use mir.Facts.{toZ-ofZ}
 use borrow.Author.Needs.{needs}
 use Rattle.daybook.specs.Calls.{accountNumbers}
-use Rattle.buffers.specs.Buffers.{bitsOf}
+use Rattle.buffers.specs.InnerBuffers.{bitsOf}
 use Rattle.buffers.proofs.account_numbers.Statement.{statement}
 use Rattle.buffers.proofs.account_numbers.Tie as tie
 

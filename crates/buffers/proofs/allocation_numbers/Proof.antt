@@ -8,7 +8,7 @@ use mir.Facts.{toZ-ofZ}
 use mathlib.Core.List.{_∷_}
 use lib.IntN.{pos}
 use lib.ListN.{length, getD, replicate}
-use Rattle.buffers.specs.Buffers.{bitsOf}
+use Rattle.buffers.specs.InnerBuffers.{bitsOf}
 use Rattle.buffers.proofs.Totals.{Filled, filled-two, filled-more, filled-all}
 use Rattle.buffers.proofs.allocation_numbers.Statement.{statement}
 use Rattle.buffers.proofs.allocation_numbers.Tie as tie

@@ -1,7 +1,7 @@
 use mathlib.Core.Path.{sym, ap}
 use borrow.Author.Needs.{needs}
 use Rattle.daybook.specs.Calls.{energyNumbers}
-use Rattle.buffers.specs.Buffers.{bitsOf}
+use Rattle.buffers.specs.InnerBuffers.{bitsOf}
 use Rattle.buffers.proofs.energy_numbers.Statement.{statement}
 use Rattle.buffers.proofs.energy_numbers.Tie as tie
 

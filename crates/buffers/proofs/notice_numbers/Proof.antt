@@ -1,7 +1,7 @@
 use mathlib.Core.Path.{sym, ap}
 use borrow.Author.Needs.{needs}
 use Rattle.daybook.specs.Calls.{noticeNumbers}
-use Rattle.buffers.specs.Buffers.{bitsOf}
+use Rattle.buffers.specs.InnerBuffers.{bitsOf}
 use Rattle.buffers.proofs.notice_numbers.Statement.{statement}
 use Rattle.buffers.proofs.notice_numbers.Tie as tie
 

@@ -1,7 +1,7 @@
 use mathlib.Core.Path.{sym, ap}
 use borrow.Author.Needs.{needs}
 use Rattle.daybook.specs.Calls.{requestNumbers}
-use Rattle.buffers.specs.Buffers.{bitsOf}
+use Rattle.buffers.specs.InnerBuffers.{bitsOf}
 use Rattle.buffers.proofs.request_numbers.Statement.{statement}
 use Rattle.buffers.proofs.request_numbers.Tie as tie
 

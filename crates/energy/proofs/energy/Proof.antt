@@ -1,12 +1,12 @@
 use Rattle.table.proofs.Calls.{gives}
 use Rattle.energy.proofs.Call.{energy-unsound, ranges-small, energy-range, energy-missing, lent-laid, energy-point}
-use Rattle.energy.proofs.Readings.{in-range-tells}
-use Rattle.energy.specs.Parts.{inRange, energyPart}
+use Rattle.energy.proofs.Raised.{in-range-tells}
+use Rattle.energy.specs.InnerParts.{inRange, energyPart}
 use Rattle.energy.specs.Energy.{energyCall}
 use Rattle.table.proofs.OnPart.{answered-at}
 use Rattle.table.proofs.Laws.{sound-long}
 use Rattle.layout.specs.Sound.{sound}
-use Rattle.layout.specs.Layout.{standard}
+use Rattle.daybook.specs.Book.{standard}
 use borrow.Author.Tests.{not-true, not-false}
 use native.Mathlib.Omega.{arith}
 use mathlib.Core.Bool.{true}

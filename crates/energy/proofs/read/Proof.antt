@@ -1,5 +1,5 @@
 use Rattle.numbers.proofs.Naturals.{natural-read, bias-read}
-use Rattle.energy.proofs.Readings.{reading-same}
+use Rattle.energy.proofs.Raised.{raised-same}
 use mathlib.Core.Path.{_∙_}
 use borrow.Author.Needs.{needs, sfits-of}
 use Rattle.energy.proofs.read.Statement.{statement}
@@ -11,12 +11,12 @@ returns c =
     let s = d .before .before .before in
     let n = s .before .before .before .before .before .before .args .n in
     let fits = s .struct-told6 .given in
-    reading-same n
+    raised-same n
     (d .before .before .natural .ensures .0 ∙ natural-read (n .mirn) (sfits-of (fits .0 .1)))
     (d .before .natural2 .ensures .0 ∙ natural-read (n .start) (sfits-of (fits .1 .0 .1)))
     (d .natural3 .ensures .0 ∙ natural-read (n .end) (sfits-of (fits .1 .1 .0 .1)))
     (c .before .before .bias .ensures ∙ bias-read (n .energy) (sfits-of (fits .1 .1 .1 .0 .1)))
-    (c .before .natural4 .ensures .0 ∙ natural-read (n .quality) (sfits-of (fits .1 .1 .1 .1 .0 .1)))
+    (c .before .natural4 .ensures .0 ∙ natural-read (n .«type_») (sfits-of (fits .1 .1 .1 .1 .0 .1)))
     (c .natural5 .ensures .0 ∙ natural-read (n .confirmed) (sfits-of (fits .1 .1 .1 .1 .1 .0 .1)))
 
 pub read-spec : {M : Type 1} → statement M

@@ -4,7 +4,7 @@ use native.Mathlib.Omega.{arith}
 use lib.ListN.{drop}
 use borrow.Author.Needs.{needs}
 use Rattle.layout.specs.Layout.{numAt, pointFrom}
-use Rattle.energy.specs.Parts.{rowIn}
+use Rattle.energy.specs.InnerParts.{rowIn}
 use Rattle.energy.proofs.Located.{row-hit, row-miss, row-end}
 use Rattle.energy.proofs.row_of.Statement.{statement}
 use Rattle.energy.proofs.row_of.Tie as tie

@@ -3,7 +3,8 @@ use mir.Facts.{toZ-ofZ}
 use borrow.Author.Needs.{needs}
 use Rattle.daybook.specs.Notices.{Numbers}
 use Rattle.account.specs.Account.{accountCall}
-use Rattle.buffers.specs.Buffers.{bitsOf, tableIn}
+use Rattle.buffers.specs.InnerBuffers.{bitsOf}
+use Rattle.buffers.specs.Buffers.{tableIn}
 use Rattle.buffers.proofs.Ends.{first-small, ended-reply}
 use Rattle.hub.proofs.Refusals.{account-small}
 use Rattle.hub.proofs.petlumas_account.Statement.{statement}

@@ -5,7 +5,8 @@ use mir.Facts.{toZ-ofZ}
 use borrow.Author.Needs.{needs}
 use Rattle.daybook.specs.Notices.{Numbers}
 use Rattle.energy.specs.Energy.{energyCall}
-use Rattle.buffers.specs.Buffers.{bitsOf, tableIn}
+use Rattle.buffers.specs.InnerBuffers.{bitsOf}
+use Rattle.buffers.specs.Buffers.{tableIn}
 use Rattle.buffers.proofs.Ends.{first-small, ended}
 use Rattle.hub.proofs.Refusals.{energy-small}
 use Rattle.hub.proofs.petlumas_energy.Statement.{statement}
@@ -19,14 +20,14 @@ abbrev given : tie.Start → Numbers × List ℤ
 given s =
     let a = s .args in
     energyCall (tableIn (a .register .now))
-    (record { mirn = a .mirn; start = a .start; end = a .end; energy = a .energy; quality = a .quality; confirmed = a .confirmed })
+    (record { mirn = a .mirn; start = a .start; end = a .end; energy = a .energy; «type_» = a .type-; confirmed = a .confirmed })
 
 -- the answer's numbers and the table, with each number of the notice read back from its bits
 gave : (c : tie.After-energy-numbers)
     → (c .energy-numbers .result ≡ bitsOf (given (start c) .0)) × (c .before .before .energy .last .0 ≡ given (start c) .1)
 gave c =
     let f = start c .fits in
-    let e = rw (toZ-ofZ (f .mirn), toZ-ofZ (f .start), toZ-ofZ (f .end), toZ-ofZ (f .energy), toZ-ofZ (f .quality), toZ-ofZ (f .confirmed), c .before .before .before .before .table-in .ensures .0) at (c .before .before .energy .ensures) in
+    let e = rw (toZ-ofZ (f .mirn), toZ-ofZ (f .start), toZ-ofZ (f .end), toZ-ofZ (f .energy), toZ-ofZ (f .type-), toZ-ofZ (f .confirmed), c .before .before .before .before .table-in .ensures .0) at (c .before .before .energy .ensures) in
     (c .energy-numbers .ensures ∙ ap bitsOf (e .0), e .1)
 
 finish-requires : tie.Need-finish-requires

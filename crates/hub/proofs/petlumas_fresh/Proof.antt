@@ -5,7 +5,8 @@ use mir.Facts.{toZ-ofZ}
 use borrow.Author.Needs.{needs}
 use Rattle.daybook.specs.Notices.{Numbers}
 use Rattle.opening.specs.Opening.{freshCall}
-use Rattle.buffers.specs.Buffers.{bitsOf, tableIn}
+use Rattle.buffers.specs.InnerBuffers.{bitsOf}
+use Rattle.buffers.specs.Buffers.{tableIn}
 use Rattle.buffers.proofs.Ends.{first-small, ended}
 use Rattle.hub.proofs.Refusals.{fresh-small}
 use Rattle.hub.proofs.petlumas_fresh.Statement.{statement}

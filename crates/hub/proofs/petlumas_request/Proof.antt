@@ -5,7 +5,8 @@ use mir.Facts.{toZ-ofZ}
 use borrow.Author.Needs.{needs}
 use Rattle.daybook.specs.Notices.{Numbers}
 use Rattle.transfer.specs.Transfer.{requestCall}
-use Rattle.buffers.specs.Buffers.{bitsOf, tableIn, holidaysIn}
+use Rattle.buffers.specs.InnerBuffers.{bitsOf}
+use Rattle.buffers.specs.Buffers.{tableIn, holidaysIn}
 use Rattle.buffers.proofs.Ends.{first-small, ended}
 use Rattle.hub.proofs.Refusals.{request-small}
 use Rattle.hub.proofs.Holidays.{first-513}

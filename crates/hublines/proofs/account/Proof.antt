@@ -1,21 +1,21 @@
 use mathlib.Core.Path.{refl}
 use native.Mathlib.Omega.{arith}
-use Rattle.hublines.specs.Lines.{accountLine}
+use Rattle.hublines.specs.Lines.{hubAccountLine}
 use Rattle.hublines.proofs.Lent.{nothing, miscounted, first-out, second-out, lent, account-outcome, account-lent}
 use borrow.Author.Needs.{needs}
 use Rattle.hublines.proofs.account.Statement.{statement}
 use Rattle.hublines.proofs.account.Tie as tie
 
 returns : tie.Need-returns
-unfolding accountLine
+unfolding hubAccountLine
 returns c = nothing _ _ _ (miscounted 5 (c .before .before .args .nums .now) (account-outcome (c .before .before .args .t .now) (c .before .before .args .nums .now)) (c .if1 .taken))
 
 returns-2 : tie.Need-returns-2
-unfolding accountLine
+unfolding hubAccountLine
 returns-2 c = nothing _ _ _ (first-out 5 (c .before .before .before .before .args .nums .now) (account-outcome (c .before .before .before .before .args .t .now) (c .before .before .before .before .args .nums .now)) (c .before .get .result) (c .before .before .if1 .left) (c .before .get .ensures .0) (c .if2 .taken))
 
 returns-3 : tie.Need-returns-3
-unfolding accountLine
+unfolding hubAccountLine
 returns-3 c = nothing _ _ _ (second-out 5 (c .before .before .before .before .before .before .args .nums .now) (account-outcome (c .before .before .before .before .before .before .args .t .now) (c .before .before .before .before .before .before .args .nums .now)) (c .before .before .before .get .result) (c .before .before .before .before .if1 .left) (c .before .before .before .get .ensures .0) (c .before .get2 .result) (c .before .before .if2 .left) (c .before .get2 .ensures .0) (c .if3 .taken))
 
 returns-4 : tie.Need-returns-4

@@ -1,25 +1,25 @@
 use mathlib.Core.Path.{refl}
 use native.Mathlib.Omega.{arith}
-use Rattle.hublines.specs.Lines.{energyLine}
+use Rattle.hublines.specs.Lines.{hubEnergyLine}
 use Rattle.hublines.proofs.Lent.{nothing, miscounted, first-out, second-out, lent, energy-outcome, energy-lent}
 use borrow.Author.Needs.{needs}
 use Rattle.hublines.proofs.energy.Statement.{statement}
 use Rattle.hublines.proofs.energy.Tie as tie
 
 returns : tie.Need-returns
-unfolding energyLine
+unfolding hubEnergyLine
 returns c = nothing _ _ _ (miscounted 8 (c .before .before .args .nums .now) (energy-outcome (c .before .before .args .t .now) (c .before .before .args .nums .now)) (c .if1 .taken))
 
 returns-2 : tie.Need-returns-2
-unfolding energyLine
+unfolding hubEnergyLine
 returns-2 c = nothing _ _ _ (first-out 8 (c .before .before .before .before .args .nums .now) (energy-outcome (c .before .before .before .before .args .t .now) (c .before .before .before .before .args .nums .now)) (c .before .get .result) (c .before .before .if1 .left) (c .before .get .ensures .0) (c .if2 .taken))
 
 returns-3 : tie.Need-returns-3
-unfolding energyLine
+unfolding hubEnergyLine
 returns-3 c = nothing _ _ _ (second-out 8 (c .before .before .before .before .before .before .args .nums .now) (energy-outcome (c .before .before .before .before .before .before .args .t .now) (c .before .before .before .before .before .before .args .nums .now)) (c .before .before .before .get .result) (c .before .before .before .before .if1 .left) (c .before .before .before .get .ensures .0) (c .before .get2 .result) (c .before .before .if2 .left) (c .before .get2 .ensures .0) (c .if3 .taken))
 
 returns-4 : tie.Need-returns-4
-unfolding energyLine
+unfolding hubEnergyLine
 returns-4 c =
     let a = c .before .before .before .before .before .before .before .before .before .before .before .before .before .before .before .before .args in
     let n = c .before .before .before .before .before .before .before .before .before .before .before .before .before .get in

@@ -5,13 +5,13 @@ use native.Mathlib.Omega.{arith}
 use lib.ListN.{length, drop}
 use borrow.Author.Needs.{needs}
 use borrow.Author.Tests.{not-true, not-false}
-use Rattle.journal.specs.Text.{digitsAfter, digitsOf}
+use Rattle.journal.specs.Text.{digitsAfter, valueOfDigits}
 use Rattle.journal.proofs.Text.{digit-bounds, digits-start, digits-more, digits-other, digits-large, digits-end, digits-missing}
 use Rattle.journal.proofs.magnitude.Statement.{statement}
 use Rattle.journal.proofs.magnitude.Tie as tie
 
 abbrev Inv-loop : tie.InvT-loop
-Inv-loop s at n₀ i₀ n i = (i ≤ length s) × (n ≤ 2 ^ 63 + 1) × (digitsAfter n (drop i s) ≡ digitsOf (drop at s))
+Inv-loop s at n₀ i₀ n i = (i ≤ length s) × (n ≤ 2 ^ 63 + 1) × (digitsAfter n (drop i s) ≡ valueOfDigits (drop at s))
 
 abbrev μ-loop : tie.MeasureT-loop
 μ-loop s at n₀ i₀ n i = length s - i

@@ -9,7 +9,7 @@ use Rattle.numbers.specs.Naturals.{biasOf}
 use Rattle.numbers.proofs.Naturals.{bias-read}
 use Rattle.numbers.proofs.Bools.{both}
 use Rattle.daybook.specs.Notices.{isRange}
-use Rattle.layout.specs.Writes.{cleared}
+use Rattle.layout.specs.InnerWrites.{cleared}
 use Rattle.table.proofs.Laws.{range-is}
 use Rattle.table.proofs.Calls.{gives}
 use Rattle.opening.proofs.CallNumbers.{bias-back, raised-small}

@@ -7,10 +7,10 @@ use Rattle.numbers.specs.Naturals.{natOf}
 use Rattle.numbers.specs.Search.{maybe}
 use Rattle.numbers.proofs.Naturals.{natural-read}
 use Rattle.daybook.specs.Notices.{factsOf}
-use Rattle.daybook.proofs.OpenStep.{facts-ok}
-use Rattle.layout.specs.Layout.{standard}
+use Rattle.lists.proofs.OpenStep.{facts-ok}
+use Rattle.daybook.specs.Book.{standard}
 use Rattle.layout.specs.Sound.{sound}
-use Rattle.layout.specs.Writes.{appendPoint}
+use Rattle.layout.specs.InnerWrites.{appendPoint}
 use Rattle.table.specs.Lookup.{indexOf}
 use Rattle.table.proofs.Laws.{sound-long}
 use Rattle.table.proofs.Calls.{gives}

@@ -1,12 +1,12 @@
 use mathlib.Core.Path.{ap}
 use native.Mathlib.Omega.{arith}
-use Rattle.journal.specs.Text.{countOf}
+use Rattle.journal.specs.Text.{takenCount}
 use borrow.Author.Needs.{needs}
 use Rattle.player.proofs.call.Statement.{statement}
 use Rattle.player.proofs.call.Tie as tie
 
 part-obey-end : tie.Need-part-obey-end
-part-obey-end c = omega (arith, ap countOf (c .before .before .before .n .given .1), c .before .before .before .before .before .before .take-numbers .ensures .1)
+part-obey-end c = omega (arith, ap takenCount (c .before .before .before .n .given .1), c .before .before .before .before .before .before .take-numbers .ensures .1)
 
 pub call-spec : {M : Type 1} → statement M
 call-spec =

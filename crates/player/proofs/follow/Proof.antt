@@ -1,4 +1,4 @@
-use Rattle.player.specs.Ready.{Ready, Sized}
+use Rattle.player.specs.InnerReady.{Ready, Sized}
 use borrow.Author.Needs.{needs}
 use Rattle.player.proofs.follow.Statement.{statement}
 use Rattle.player.proofs.follow.Tie as tie

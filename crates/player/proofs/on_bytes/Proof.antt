@@ -1,12 +1,12 @@
 use mathlib.Core.Path.{ap}
 use native.Mathlib.Omega.{arith}
-use Rattle.journal.specs.Text.{countOf}
+use Rattle.journal.specs.Text.{takenCount}
 use borrow.Author.Needs.{needs}
 use Rattle.player.proofs.on_bytes.Statement.{statement}
 use Rattle.player.proofs.on_bytes.Tie as tie
 
 part-answer-end : tie.Need-part-answer-end
-part-answer-end c = omega (arith, ap countOf (c .before .before .before .n .given .1), c .before .before .before .before .before .before .take-numbers .ensures .1)
+part-answer-end c = omega (arith, ap takenCount (c .before .before .before .n .given .1), c .before .before .before .before .before .before .take-numbers .ensures .1)
 
 pub on-bytes-spec : {M : Type 1} → statement M
 on-bytes-spec =

@@ -1,6 +1,6 @@
 use Prim.Native.Nat.{_-_, _≤_}
 use lib.ListN.{length}
-use Rattle.player.specs.Ready.{Ready, Sized}
+use Rattle.player.specs.InnerReady.{Ready, Sized}
 use borrow.Author.Needs.{needs}
 use Rattle.player.proofs.walk.Statement.{statement}
 use Rattle.player.proofs.walk.Tie as tie

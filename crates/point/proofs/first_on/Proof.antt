@@ -1,7 +1,7 @@
 use mathlib.Core.Path.{_≡_, sym, _∙_}
 use Prim.Native.Nat.{_≤_, _-_}
 use native.Mathlib.Omega.{arith}
-use Rattle.point.specs.Tests.{passed, firstOn}
+use Rattle.point.specs.InnerTests.{passed, firstOn}
 use Rattle.point.proofs.Loops.{passed-more, passed-end}
 use borrow.Author.Needs.{needs}
 use Rattle.point.proofs.first_on.Statement.{statement}

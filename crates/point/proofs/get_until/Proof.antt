@@ -3,7 +3,7 @@ use lib.IntN.{pos}
 use mathlib.Core.Path.{_∙_, ap}
 use mir.ValLaws.{toZ-ofZ}
 use mir.Syntax.{w64}
-use Rattle.point.specs.Tests.{untilOf}
+use Rattle.point.specs.InnerTests.{untilOf}
 use borrow.Author.Needs.{needs, sfits-of}
 use Rattle.point.proofs.get_until.Statement.{statement}
 use Rattle.point.proofs.get_until.Tie as tie

@@ -5,7 +5,7 @@ use native.Mathlib.Omega.{arith}
 use borrow.Author.Tests.{not-true, not-false}
 use Rattle.numbers.specs.Rows.{all}
 use Rattle.numbers.proofs.Rows.{all-none, all-more, all-fails, all-done}
-use Rattle.point.specs.Tests.{apart, apartAt, noOff}
+use Rattle.point.specs.InnerTests.{apart, apartAt, noOff}
 use borrow.Author.Needs.{needs}
 use Rattle.point.proofs.no_off.Statement.{statement}
 use Rattle.point.proofs.no_off.Tie as tie

@@ -3,7 +3,7 @@ use mathlib.Core.Bool.{true}
 use borrow.Author.Tests.{not-true, not-false}
 use Rattle.layout.specs.Sound.{countsSound, factsSound}
 use Rattle.layout.proofs.RowsSound.{facts-ok}
-use Rattle.point.specs.Tests.{factsAt}
+use Rattle.point.specs.InnerTests.{factsAt}
 use Rattle.point.proofs.Loops.{counted}
 use Rattle.point.proofs.Decides.{uncounted, tested}
 use borrow.Author.Needs.{needs}

@@ -1,4 +1,4 @@
-use Rattle.point.specs.Tests.{pendingOk}
+use Rattle.point.specs.InnerTests.{pendingOk}
 use borrow.Author.Needs.{needs}
 use Rattle.point.proofs.pending_ok.Statement.{statement}
 use Rattle.point.proofs.pending_ok.Tie as tie

@@ -2,7 +2,7 @@ use mathlib.Core.Path.{_≡_, sym}
 use mathlib.Core.Bool.{true}
 use borrow.Author.Tests.{not-true, not-false, eq-eqb, ne-eqb, lt-ltb, le-ltb}
 use Rattle.daybook.specs.Notices.{fitsKind}
-use Rattle.point.specs.Tests.{recInRange, recBetween, recOn}
+use Rattle.point.specs.InnerTests.{recInRange, recBetween, recOn}
 use Rattle.point.proofs.OnePass.{rec-out, rec-beside, rec-fits}
 use borrow.Author.Needs.{needs}
 use Rattle.point.proofs.record_ok.Statement.{statement}

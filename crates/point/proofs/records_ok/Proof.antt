@@ -5,7 +5,7 @@ use Prim.Native.Nat.{suc, _+_, _-_, _≤_}
 use native.Mathlib.Omega.{arith}
 use native.Mathlib.Numerals.{add-one}
 use borrow.Author.Tests.{not-true, not-false}
-use Rattle.point.specs.Tests.{rows, recEnd, recAt, recOn, recLeaves, recsOk}
+use Rattle.point.specs.InnerTests.{rows, recEnd, recAt, recOn, recLeaves, recsOk}
 use Rattle.point.proofs.Loops.{rows-pass, rows-fail, rows-end}
 use Rattle.point.proofs.OnePass.{passes, Awaits, Found, awaits-first, found-here, is-span, found-on, found-test, found-leaves}
 use borrow.Author.Needs.{needs}

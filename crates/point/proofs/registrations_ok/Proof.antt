@@ -6,7 +6,7 @@ use Prim.Native.Nat.{ℕ, suc, _≤_, _-_}
 use native.Mathlib.Omega.{arith}
 use borrow.Author.Tests.{not-true, not-false, eq-eqb, ne-eqb}
 use lib.IntN.{ℤ}
-use Rattle.point.specs.Tests.{rows, regStart, regUser, regOk, regAt, regLeaves, regsOk}
+use Rattle.point.specs.InnerTests.{rows, regStart, regUser, regOk, regAt, regLeaves, regsOk}
 use Rattle.point.proofs.Loops.{rows-pass, rows-fail, rows-end, reg-same, reg-test, small-start}
 use borrow.Author.Needs.{needs}
 use Rattle.point.proofs.registrations_ok.Statement.{statement}

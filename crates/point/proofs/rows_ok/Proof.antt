@@ -1,7 +1,7 @@
 use mathlib.Core.Path.{sym, _∙_}
 use mathlib.Core.Bool.{and-true, and-false}
 use borrow.Author.Tests.{not-true, not-false}
-use Rattle.point.specs.Tests.{rowsOk}
+use Rattle.point.specs.InnerTests.{rowsOk}
 use borrow.Author.Needs.{needs}
 use Rattle.point.proofs.rows_ok.Statement.{statement}
 use Rattle.point.proofs.rows_ok.Tie as tie

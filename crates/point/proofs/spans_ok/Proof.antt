@@ -3,14 +3,14 @@ use mathlib.Core.Path.{_≡_, sym, ap, _∙_}
 use Prim.Native.Nat.{suc, _≤_, _-_}
 use native.Mathlib.Omega.{arith}
 use borrow.Author.Tests.{not-true, not-false}
-use Rattle.point.specs.Tests.{rows, spanOk, spanAt, spanLeaves, spansOk}
+use Rattle.point.specs.InnerTests.{rows, spanOk, spanOkAt, spanLeaves, spansOk}
 use Rattle.point.proofs.Loops.{rows-pass, rows-fail, rows-end}
 use borrow.Author.Needs.{needs}
 use Rattle.point.proofs.spans_ok.Statement.{statement}
 use Rattle.point.proofs.spans_ok.Tie as tie
 
 abbrev Inv-loop : tie.InvT-loop
-Inv-loop p n lo₀ k₀ lo k = (k ≤ n) × (rows (spanAt p) (spanLeaves p) lo k (n - k) ≡ spansOk p n)
+Inv-loop p n lo₀ k₀ lo k = (k ≤ n) × (rows (spanOkAt p) (spanLeaves p) lo k (n - k) ≡ spansOk p n)
 
 abbrev μ-loop : tie.MeasureT-loop
 μ-loop p n lo₀ k₀ lo k = n - k

@@ -3,7 +3,7 @@ use mathlib.Core.List.{_++_}
 use Prim.Native.Nat.{_+_, _*_, _-_, _≤_}
 use native.Mathlib.Omega.{arith}
 use lib.ListN.{length, take, drop, length-set}
-use Rattle.printing.specs.Rows.{digitsOf}
+use Rattle.printing.specs.Rows.{hexDigits}
 use Rattle.printing.proofs.Rows.{digits-more, digits-end}
 use borrow.Author.Needs.{needs}
 use Rattle.printing.proofs.digits.Statement.{statement}
@@ -11,7 +11,7 @@ use Rattle.printing.proofs.digits.Tie as tie
 
 abbrev Inv-loop : tie.InvT-loop
 Inv-loop out₀ at bytes end₀ i₀ out end i =
-    (i ≤ length bytes) × (end ≡ at + 2 * i) × (length out ≡ length out₀) × (take end out ++ digitsOf (drop i bytes) ≡ take at out₀ ++ digitsOf bytes)
+    (i ≤ length bytes) × (end ≡ at + 2 * i) × (length out ≡ length out₀) × (take end out ++ hexDigits (drop i bytes) ≡ take at out₀ ++ hexDigits bytes)
 
 abbrev μ-loop : tie.MeasureT-loop
 μ-loop out₀ at bytes end₀ i₀ out end i = length bytes - i
@@ -23,7 +23,7 @@ loop-again : tie.Need-loop-again Inv-loop μ-loop
 loop-again c =
     let a = c .before .before .before .before .before .before .before .before .args in
     let l = c .before .before .before .before .before .loop in
-    (search needs, search needs, simp length-set (omega arith), digits-more (l .out) (a .bytes .now) (take (a .at) (a .out .now) ++ digitsOf (a .bytes .now)) (l .i) (l .end) (c .before .before .digit .result) (c .digit2 .result) (omega arith) (omega arith) (c .before .before .digit .ensures) (c .digit2 .ensures) (l .inv .3))
+    (search needs, search needs, simp length-set (omega arith), digits-more (l .out) (a .bytes .now) (take (a .at) (a .out .now) ++ hexDigits (a .bytes .now)) (l .i) (l .end) (c .before .before .digit .result) (c .digit2 .result) (omega arith) (omega arith) (c .before .before .digit .ensures) (c .digit2 .ensures) (l .inv .3))
 
 returns : tie.Need-returns Inv-loop μ-loop
 returns c =

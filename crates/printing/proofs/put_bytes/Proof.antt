@@ -2,7 +2,7 @@ use mathlib.Core.Path.{refl, _∙_}
 use mathlib.Core.List.{[], _∷_, _++_, append-assoc}
 use native.Mathlib.Omega.{arith}
 use lib.ListN.{take, length-set}
-use Rattle.printing.specs.Rows.{digitsOf}
+use Rattle.printing.specs.Rows.{hexDigits}
 use Rattle.printing.proofs.Rows.{one-more, two-more, none-is, some-are}
 use borrow.Author.Needs.{needs}
 use Rattle.printing.proofs.put_bytes.Statement.{statement}
@@ -17,7 +17,7 @@ returns-2 : tie.Need-returns-2
 returns-2 c =
     let a = c .before .before .before .before .before .before .before .args in
     let d = c .before .before .digits in
-    (search needs, record { from = omega arith; written = rw (some-are (a .bytes .now) (c .before .before .before .before .if1 .left)) (one-more (d .last .0) (take (a .at) (a .out .now) ++ digitsOf (a .bytes .now)) (d .result) (a .after) (omega arith) (d .ensures .1) ∙ append-assoc (take (a .at) (a .out .now)) (digitsOf (a .bytes .now)) (a .after ∷ [])) })
+    (search needs, record { from = omega arith; written = rw (some-are (a .bytes .now) (c .before .before .before .before .if1 .left)) (one-more (d .last .0) (take (a .at) (a .out .now) ++ hexDigits (a .bytes .now)) (d .result) (a .after) (omega arith) (d .ensures .1) ∙ append-assoc (take (a .at) (a .out .now)) (hexDigits (a .bytes .now)) (a .after ∷ [])) })
 
 pub put-bytes-spec : {M : Type 1} → statement M
 put-bytes-spec =

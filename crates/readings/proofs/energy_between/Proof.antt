@@ -5,7 +5,8 @@ use lib.IntN.{subℕ}
 use Rattle.numbers.specs.Sums.{sumFrom}
 use Rattle.numbers.proofs.Sums.{sum-none, sum-turn, sum-end}
 use Rattle.numbers.proofs.Integers.{raise}
-use Rattle.readings.specs.Records.{recordOf, partBetween, partialOf}
+use Rattle.point.specs.InnerTests.{recRow}
+use Rattle.readings.specs.InnerRecords.{partBetween, partialOf}
 use Rattle.readings.proofs.Part.{part-counted}
 use Rattle.readings.proofs.Energy.{energy-by-rows}
 use borrow.Author.Needs.{needs}
@@ -14,7 +15,7 @@ use Rattle.readings.proofs.energy_between.Tie as tie
 
 abbrev Inv-loop : tie.InvT-loop
 Inv-loop p x y n sum₀ k₀ sum k =
-    (k ≤ n) × (sum ≤ 2000000 * k) × (sumFrom (λ k. partBetween partialOf x y (recordOf p k)) 0 k ≡ subℕ sum (1000000 * k))
+    (k ≤ n) × (sum ≤ 2000000 * k) × (sumFrom (λ k. partBetween partialOf x y (recRow p k)) 0 k ≡ subℕ sum (1000000 * k))
 
 abbrev μ-loop : tie.MeasureT-loop
 μ-loop p x y n sum₀ k₀ sum k = n - k

@@ -5,7 +5,8 @@ use lib.IntN.{pos}
 use Rattle.numbers.specs.Sums.{sumFrom}
 use Rattle.numbers.proofs.Sums.{sum-none, count-turn}
 use Rattle.numbers.proofs.Integers.{pos-same}
-use Rattle.readings.specs.Records.{recordOf, partBetween, countOf}
+use Rattle.point.specs.InnerTests.{recRow}
+use Rattle.readings.specs.InnerRecords.{partBetween, dayCount}
 use Rattle.readings.proofs.Part.{part-counted}
 use Rattle.readings.proofs.Days.{filled-by-rows}
 use borrow.Author.Needs.{needs}
@@ -14,7 +15,7 @@ use Rattle.readings.proofs.filled_between.Tie as tie
 
 abbrev Inv-loop : tie.InvT-loop
 Inv-loop p x y n sum₀ k₀ sum k =
-    (k ≤ n) × (sum ≤ 40000 * k) × (sumFrom (λ k. partBetween countOf x y (recordOf p k)) 0 k ≡ pos sum)
+    (k ≤ n) × (sum ≤ 40000 * k) × (sumFrom (λ k. partBetween dayCount x y (recRow p k)) 0 k ≡ pos sum)
 
 abbrev μ-loop : tie.MeasureT-loop
 μ-loop p x y n sum₀ k₀ sum k = n - k

@@ -1,6 +1,6 @@
 use mathlib.Core.Path.{ap, _∙_}
 use lib.Dec.{eqb}
-use Rattle.readings.specs.Readings.{pointAt}
+use Rattle.readings.specs.InnerReadings.{pointAt}
 use Rattle.readings.proofs.Days.{one-filled}
 use borrow.Author.Needs.{needs}
 use Rattle.readings.proofs.filled_on.Statement.{statement}

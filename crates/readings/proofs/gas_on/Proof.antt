@@ -1,7 +1,7 @@
 use mathlib.Core.Path.{_≡_, sym, _∙_}
 use mathlib.Core.Bool.{true, false}
 use Rattle.daybook.specs.Book.{Point, filled}
-use Rattle.readings.specs.Readings.{pointAt}
+use Rattle.readings.specs.InnerReadings.{pointAt}
 use Rattle.readings.proofs.Weights.{Week, gas-day, gas-week, gas-before, gas-none, week-long}
 use borrow.Author.Needs.{needs}
 use Rattle.readings.proofs.gas_on.Statement.{statement}

@@ -3,7 +3,7 @@ use mathlib.Core.Bool.{_&&_}
 use lib.Dec.{eqb}
 use Rattle.daybook.specs.Book.{Point}
 use Rattle.daybook.specs.Queries.{active}
-use Rattle.readings.specs.Readings.{pointAt}
+use Rattle.readings.specs.InnerReadings.{pointAt}
 use Rattle.readings.proofs.Users.{kind-is}
 use Rattle.readings.proofs.Weights.{metered-gas, metered-none}
 use borrow.Author.Needs.{needs}

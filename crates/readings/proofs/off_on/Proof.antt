@@ -1,6 +1,6 @@
 use mathlib.Core.Path.{ap, _∙_}
 use mathlib.Core.Bool.{not}
-use Rattle.point.specs.Tests.{noOff}
+use Rattle.point.specs.InnerTests.{noOff}
 use Rattle.readings.proofs.Part.{part-counted}
 use Rattle.readings.proofs.Users.{off-is}
 use borrow.Author.Needs.{needs}

@@ -2,8 +2,9 @@ use Prim.Native.Nat.{_+_, _-_}
 use mathlib.Core.Path.{_≡_, sym, ap₂, _∙_}
 use native.Mathlib.Omega.{arith}
 use Rattle.daybook.specs.Book.{Entry}
-use Rattle.readings.specs.Readings.{daysBefore}
-use Rattle.readings.specs.Records.{recordOf, partialOf}
+use Rattle.readings.specs.InnerReadings.{daysPassed}
+use Rattle.point.specs.InnerTests.{recRow}
+use Rattle.readings.specs.InnerRecords.{partialOf}
 use Rattle.readings.proofs.Part.{part-counted, RecordOk, record-ok}
 use Rattle.readings.proofs.Records.{before-apart, part-none}
 use Rattle.readings.proofs.Energy.{Parts, parts-near, parts-are}
@@ -13,34 +14,30 @@ use Rattle.readings.proofs.record_energy.Tie as tie
 
 -- the record that is read, and its days before x and before y
 abbrev read : tie.Start → Entry
-read s = recordOf (s .args .p .now) (s .args .k)
+read s = recRow (s .args .p .now) (s .args .k)
 
 row : (s : tie.Start) → RecordOk (read s)
 row s = record-ok (s .pre .0) (s .args .k) (s .pre .1)
 
 starts : (c : tie.After-bits-at) → c .bits-at .result ≡ read (c .before) .start
-unfolding recordOf
 starts c = let h = row (c .before) in c .bits-at .ensures .same (omega arith)
 
 ends : (c : tie.After-bits-at2) → c .bits-at2 .result ≡ read (c .before .before) .end
-unfolding recordOf
 ends c = let h = row (c .before .before) in c .bits-at2 .ensures .same (omega arith)
 
-before-x : (c : tie.After-days-before)
+before-x : (c : tie.After-days-passed)
     → let s : tie.Start = c .before .before .before .before in
-    c .days-before .result ≡ daysBefore (read s .start) (read s .end) (s .args .x)
-unfolding recordOf
+    c .days-passed .result ≡ daysPassed (read s .start) (read s .end) (s .args .x)
 before-x c =
-    c .days-before .ensures .0
-    ∙ ap₂ (λ a b. daysBefore a b (c .before .before .before .before .args .x)) (starts (c .before .before .before)) (ends (c .before .before))
+    c .days-passed .ensures .0
+    ∙ ap₂ (λ a b. daysPassed a b (c .before .before .before .before .args .x)) (starts (c .before .before .before)) (ends (c .before .before))
 
-before-y : (c : tie.After-days-before2)
+before-y : (c : tie.After-days-passed2)
     → let s : tie.Start = c .before .before .before .before .before in
-    c .days-before2 .result ≡ daysBefore (read s .start) (read s .end) (s .args .y)
-unfolding recordOf
+    c .days-passed2 .result ≡ daysPassed (read s .start) (read s .end) (s .args .y)
 before-y c =
-    c .days-before2 .ensures .0
-    ∙ ap₂ (λ a b. daysBefore a b (c .before .before .before .before .before .args .y)) (starts (c .before .before .before .before)) (ends (c .before .before .before))
+    c .days-passed2 .ensures .0
+    ∙ ap₂ (λ a b. daysPassed a b (c .before .before .before .before .before .args .y)) (starts (c .before .before .before .before)) (ends (c .before .before .before))
 
 mul-at : tie.Need-mul-at
 mul-at c = let h = part-counted (c .pre .0) in search needs
@@ -58,7 +55,6 @@ bits-at-requires-2 : tie.Need-bits-at-requires-2
 bits-at-requires-2 c κs = let h = part-counted (c .before .pre .0) in search needs
 
 returns : tie.Need-returns
-unfolding recordOf
 returns c =
     let g = c .before in
     let s = g .before .before in
@@ -67,13 +63,11 @@ returns c =
     let h = rw (starts (g .before), ends g) at (c .if1 .taken) in
     (sym (part-none partialOf x y (read s) (before-apart (read s .start) (read s .end) x y (s .pre .2) h)), search needs)
 
-days-before-requires : tie.Need-days-before-requires
-unfolding recordOf
-days-before-requires c κs = let h = row (c .before .before .before) in omega (arith, starts (c .before .before), ends (c .before))
+days-passed-requires : tie.Need-days-passed-requires
+days-passed-requires c κs = let h = row (c .before .before .before) in omega (arith, starts (c .before .before), ends (c .before))
 
-days-before-requires-2 : tie.Need-days-before-requires-2
-unfolding recordOf
-days-before-requires-2 c κs =
+days-passed-requires-2 : tie.Need-days-passed-requires-2
+days-passed-requires-2 c κs =
     let h = row (c .before .before .before .before) in omega (arith, starts (c .before .before .before), ends (c .before .before))
 
 add-get-energy : tie.Need-add-get-energy
@@ -83,31 +77,27 @@ get-energy-requires : tie.Need-get-energy-requires
 get-energy-requires c κs = let h = part-counted (c .before .before .before .before .before .pre .0) in search needs
 
 add-n : tie.Need-add-n
-unfolding recordOf
 add-n c =
     let g = c .before .before .before .before in
     let h = row (g .before .before) in let e = ends g in search needs
 
 partial-energy-requires : tie.Need-partial-energy-requires
-unfolding recordOf
 partial-energy-requires c κs =
     let g = c .before .before .before .before in
     let h = row (g .before .before) in omega (arith, starts (g .before), ends g)
 
 partial-energy-requires-2 : tie.Need-partial-energy-requires-2
-unfolding recordOf
 partial-energy-requires-2 c κs =
     let g = c .before .before .before .before .before in
     let h = row (g .before .before) in omega (arith, starts (g .before), ends g)
 
 -- what is at hand where the two parts have been read
 parts : (c : tie.After-partial-energy2)
-    → let d : tie.After-days-before2 = c .before .before .before in
+    → let d : tie.After-days-passed2 = c .before .before .before in
     let s : tie.Start = d .before .before .before .before .before in
     Parts (read s) (s .args .x) (s .args .y) (c .before .before .get-energy .result)
     (d .before .before .before .bits-at2 .result + 1 - d .before .before .before .before .bits-at .result)
-    (d .before .days-before .result) (d .days-before2 .result) (c .partial-energy2 .result) (c .before .partial-energy .result)
-unfolding recordOf
+    (d .before .days-passed .result) (d .days-passed2 .result) (c .partial-energy2 .result) (c .before .partial-energy .result)
 parts c =
     let d = c .before .before .before in
     record {
@@ -137,8 +127,8 @@ record-energy-spec =
     add-bits-at
     bits-at-requires-2
     returns
-    days-before-requires
-    days-before-requires-2
+    days-passed-requires
+    days-passed-requires-2
     add-get-energy
     get-energy-requires
     add-n

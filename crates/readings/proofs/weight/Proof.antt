@@ -5,7 +5,7 @@ use borrow.Author.Tests.{not-true, not-false}
 use lib.Dec.{eqb}
 use Rattle.daybook.specs.Book.{Point}
 use Rattle.daybook.specs.Queries.{active}
-use Rattle.readings.specs.Readings.{pointAt}
+use Rattle.readings.specs.InnerReadings.{pointAt}
 use Rattle.readings.proofs.Part.{part-counted}
 use Rattle.readings.proofs.Users.{kind-is, base-is, base-few}
 use Rattle.readings.proofs.Weights.{weight-none, weight-base, weight-measured, weight-shown}

@@ -1,4 +1,4 @@
-use Rattle.layout.specs.Writes.{appendRecord}
+use Rattle.layout.specs.InnerWrites.{appendRecord}
 use borrow.Author.Needs.{needs}
 use Rattle.rows.proofs.append_record.Statement.{statement}
 use Rattle.rows.proofs.append_record.Tie as tie

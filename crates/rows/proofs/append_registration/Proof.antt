@@ -1,4 +1,4 @@
-use Rattle.layout.specs.Writes.{appendRegistration}
+use Rattle.layout.specs.InnerWrites.{appendRegistration}
 use borrow.Author.Needs.{needs}
 use Rattle.rows.proofs.append_registration.Statement.{statement}
 use Rattle.rows.proofs.append_registration.Tie as tie

@@ -2,7 +2,7 @@ use mathlib.Core.Path.{_≡_, _∙_}
 use Prim.Native.Nat.{_≤_, _-_}
 use native.Mathlib.Omega.{arith}
 use lib.ListN.{length}
-use Rattle.layout.specs.Writes.{cleared}
+use Rattle.layout.specs.InnerWrites.{cleared}
 use Rattle.layout.proofs.Blocks.{cleared-none, cleared-more}
 use borrow.Author.Needs.{needs}
 use Rattle.rows.proofs.clear.Statement.{statement}

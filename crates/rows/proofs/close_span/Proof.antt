@@ -1,4 +1,4 @@
-use Rattle.layout.specs.Writes.{closeSpan}
+use Rattle.layout.specs.InnerWrites.{closeSpan}
 use borrow.Author.Needs.{needs}
 use Rattle.rows.proofs.close_span.Statement.{statement}
 use Rattle.rows.proofs.close_span.Tie as tie

@@ -1,4 +1,4 @@
-use Rattle.layout.specs.Writes.{cutRecords}
+use Rattle.layout.specs.InnerWrites.{cutRecords}
 use borrow.Author.Needs.{needs}
 use Rattle.rows.proofs.cut_records.Statement.{statement}
 use Rattle.rows.proofs.cut_records.Tie as tie

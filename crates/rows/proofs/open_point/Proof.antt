@@ -1,4 +1,4 @@
-use Rattle.layout.specs.Writes.{openPoint}
+use Rattle.layout.specs.InnerWrites.{openPoint}
 use borrow.Author.Needs.{needs}
 use Rattle.rows.proofs.open_point.Statement.{statement}
 use Rattle.rows.proofs.open_point.Tie as tie

@@ -1,4 +1,4 @@
-use Rattle.layout.specs.Writes.{openSpan}
+use Rattle.layout.specs.InnerWrites.{openSpan}
 use borrow.Author.Needs.{needs}
 use Rattle.rows.proofs.open_span.Statement.{statement}
 use Rattle.rows.proofs.open_span.Tie as tie

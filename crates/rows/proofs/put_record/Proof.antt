@@ -1,4 +1,4 @@
-use Rattle.layout.specs.Writes.{putRecord}
+use Rattle.layout.specs.InnerWrites.{putRecord}
 use borrow.Author.Needs.{needs}
 use Rattle.rows.proofs.put_record.Statement.{statement}
 use Rattle.rows.proofs.put_record.Tie as tie

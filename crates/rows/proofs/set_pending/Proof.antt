@@ -1,4 +1,4 @@
-use Rattle.layout.specs.Writes.{setPending}
+use Rattle.layout.specs.InnerWrites.{setPending}
 use borrow.Author.Needs.{needs}
 use Rattle.rows.proofs.set_pending.Statement.{statement}
 use Rattle.rows.proofs.set_pending.Tie as tie

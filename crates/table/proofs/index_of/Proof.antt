@@ -2,7 +2,8 @@ use Prim.Native.Nat.{_≤_, _-_}
 use mathlib.Core.Path.{_≡_, sym, _∙_}
 use borrow.Author.Needs.{needs}
 use Rattle.numbers.specs.Search.{firstFrom}
-use Rattle.layout.specs.Layout.{standard, numAt}
+use Rattle.daybook.specs.Book.{standard}
+use Rattle.layout.specs.Layout.{numAt}
 use Rattle.table.specs.Lookup.{indexOf}
 use Rattle.table.proofs.Laws.{mirnAt, index-start, index-hit, index-miss, index-end}
 use Rattle.table.proofs.index_of.Statement.{statement}

@@ -4,7 +4,8 @@ use mathlib.Core.Bool.{true}
 use borrow.Author.Needs.{needs}
 use Rattle.numbers.specs.Rows.{all}
 use Rattle.numbers.proofs.Rows.{all-none}
-use Rattle.layout.specs.Layout.{standard, placeOf, numAt}
+use Rattle.daybook.specs.Book.{standard}
+use Rattle.layout.specs.Layout.{placeOf, numAt}
 use Rattle.table.proofs.Laws.{differAt, later-fails, later-more, later-done}
 use Rattle.table.proofs.later_differ.Statement.{statement}
 use Rattle.table.proofs.later_differ.Tie as tie

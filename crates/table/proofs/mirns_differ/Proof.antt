@@ -5,8 +5,9 @@ use borrow.Author.Needs.{needs}
 use borrow.Author.Tests.{not-true, not-false}
 use Rattle.numbers.specs.Rows.{all}
 use Rattle.numbers.proofs.Rows.{all-none, all-more, all-fails, all-done}
-use Rattle.layout.specs.Layout.{standard}
-use Rattle.layout.proofs.Mirns.{laterDiffer, differ-is}
+use Rattle.daybook.specs.Book.{standard}
+use Rattle.layout.specs.InnerMirns.{laterDiffer}
+use Rattle.layout.proofs.Mirns.{differ-is}
 use Rattle.table.proofs.mirns_differ.Statement.{statement}
 use Rattle.table.proofs.mirns_differ.Tie as tie
 

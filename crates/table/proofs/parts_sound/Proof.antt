@@ -6,7 +6,8 @@ use borrow.Author.Needs.{needs}
 use borrow.Author.Tests.{not-true, not-false}
 use Rattle.numbers.specs.Rows.{all}
 use Rattle.numbers.proofs.Rows.{all-none, all-more, all-fails, all-done}
-use Rattle.layout.specs.Layout.{standard, partOf}
+use Rattle.daybook.specs.Book.{standard}
+use Rattle.layout.specs.Layout.{partOf}
 use Rattle.layout.specs.Sound.{partSound}
 use Rattle.table.proofs.parts_sound.Statement.{statement}
 use Rattle.table.proofs.parts_sound.Tie as tie

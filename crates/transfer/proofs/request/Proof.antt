@@ -7,14 +7,14 @@ use Rattle.numbers.specs.Naturals.{natOf}
 use Rattle.numbers.specs.Search.{maybe}
 use Rattle.numbers.proofs.Naturals.{natural-read}
 use Rattle.calendar.specs.Calendar.{holidayList, allowablePeriod}
-use Rattle.layout.specs.Layout.{standard}
+use Rattle.daybook.specs.Book.{standard}
 use Rattle.layout.specs.Sound.{sound}
 use Rattle.table.specs.Lookup.{indexOf}
 use Rattle.table.proofs.Calls.{gives}
 use Rattle.table.proofs.Laws.{sound-long}
 use Rattle.table.proofs.OnPart.{lent-sound, answered-at}
 use Rattle.transfer.specs.Transfer.{requestCall}
-use Rattle.transfer.specs.Parts.{requestPart}
+use Rattle.transfer.specs.InnerParts.{requestPart}
 use Rattle.transfer.proofs.Requests.{inRange, request-bounds, request-unsound, request-range, request-holidays, request-missing, request-point}
 use Rattle.transfer.proofs.request.Statement.{statement}
 use Rattle.transfer.proofs.request.Tie as tie

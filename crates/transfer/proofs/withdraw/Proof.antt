@@ -6,14 +6,14 @@ use borrow.Author.Needs.{sfits-of, needs}
 use Rattle.numbers.specs.Naturals.{natOf}
 use Rattle.numbers.specs.Search.{maybe}
 use Rattle.numbers.proofs.Naturals.{natural-read}
-use Rattle.layout.specs.Layout.{standard}
+use Rattle.daybook.specs.Book.{standard}
 use Rattle.layout.specs.Sound.{sound}
 use Rattle.table.specs.Lookup.{indexOf}
 use Rattle.table.proofs.Calls.{gives}
 use Rattle.table.proofs.Laws.{sound-long}
 use Rattle.table.proofs.OnPart.{lent-sound, answered-at}
 use Rattle.transfer.specs.Transfer.{withdrawCall}
-use Rattle.transfer.specs.Parts.{withdrawPart}
+use Rattle.transfer.specs.InnerParts.{withdrawPart}
 use Rattle.transfer.proofs.Withdrawals.{inRange, withdrawal-user, withdraw-unsound, withdraw-range, withdraw-missing, withdraw-point}
 use Rattle.transfer.proofs.withdraw.Statement.{statement}
 use Rattle.transfer.proofs.withdraw.Tie as tie

@@ -1,0 +1,54 @@
+-- What the functions behind allocate say: of arrays of 32, a place for each point and 0 past the last one.
+use mathlib.Core.Path.{_≡_}
+use mathlib.Core.Bool.{true, cond}
+use mathlib.Core.List.{List, _∷_, _++_, map}
+use Prim.Native.Nat.{ℕ, zero, suc, _+_, _-_, _≤_, _<_}
+use lib.Dec.{eqb}
+use lib.IntN.{ℤ, pos, subℕ, _-ℤ_}
+use lib.ListN.{length, getD, replicate}
+use Rattle.daybook.specs.declared.AllocationQuery.{AllocationQuery}
+use Rattle.numbers.specs.Naturals.{natOf}
+use Rattle.daybook.specs.Book.{Point, Book, standard}
+use Rattle.daybook.specs.Notices.{Numbers}
+use Rattle.daybook.specs.Queries.{allocationInRange, nslOf, weights, total, pointShares, totalOf, users}
+use Rattle.layout.specs.Layout.{numAt, tableBook}
+use Rattle.layout.specs.Sound.{sound}
+
+abbrev pub pointsOf : List ℤ → List Point
+pointsOf t = tableBook standard t .points
+
+-- Numbers of points, in an array of 32.
+unfoldable pub padded : List ℕ → List ℕ
+padded l = l ++ replicate (32 - length l) 0
+
+-- What User u has of the first k shares, where us names the Users.
+unfoldable pub totalTo : List ℕ → List ℤ → ℕ → ℕ → ℕ
+totalTo us xs u zero = 0
+totalTo us xs u (suc k) = totalTo us xs u k + cond (eqb (getD us k 0) u) (numAt xs k) 0
+
+-- The load before it is cut at 0, from TDM raised by 1,000,000 for each point.
+abbrev pub loadOf : AllocationQuery → ℕ → ℕ → ℤ
+loadOf n tdm raised = n .tdq -ℤ subℕ tdm raised -ℤ n .uag -ℤ n .clp
+
+-- Every number of an array is at most `most`; every one of the first 32 of a table is.
+abbrev pub Below : ℕ → List ℕ → Type 0
+Below most l = (k : ℕ) → getD l k 0 ≤ most
+
+abbrev pub SharesBelow : ℕ → List ℤ → Type 0
+SharesBelow most l = (k : ℕ) → k < 32 → numAt l k ≤ most
+
+-- What a given allocation answers, and what it gives the answer table.
+unfoldable pub givenOf : AllocationQuery → Book → Numbers × List ℤ
+givenOf q B = (
+  pos (nslOf q B) ∷ map (λ u. totalOf (natOf (q .gasday)) u (B .points) (pointShares q B)) users,
+  pointShares q B ++ replicate (32 - length (B .points)) (pos 0),
+)
+
+-- The tests before the split were passed: ws are the weights, and s is their sum.
+pub record MaySplit (t : List ℤ) (q : AllocationQuery) (ws : List ℕ) (s room : ℕ) : Type 0 where
+  pub isSound : sound standard t ≡ true
+  pub inRange : allocationInRange q room ≡ true
+  pub weigh : ws ≡ padded (weights q (tableBook standard t))
+  pub sum : s ≡ total ws
+  pub some : 0 < s
+  pub few : s ≤ 1920320000

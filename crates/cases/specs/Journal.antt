@@ -1,0 +1,59 @@
+-- Calls as a journal writes them, numbers in document 01's order, and what the day book answers to a list of them.
+use mathlib.Core.List.{List, [], _∷_, map}
+use Prim.Native.Nat.{ℕ}
+use lib.IntN.{ℤ, pos}
+use Rattle.numbers.specs.Rows.{all}
+use Rattle.numbers.specs.Search.{firstFrom, lastBelow}
+use Rattle.numbers.specs.Sums.{sumFrom}
+use Rattle.numbers.specs.Shares.{floorPart, partialEnergy, share}
+use Rattle.calendar.specs.Calendar.{allowablePeriod, businessDayBefore, businessDayAfter, listed, holidayList}
+use Rattle.daybook.specs.Book.{Edition, fromOn, fill, withEntries, withOff, withFro, withPending, lastOf, gather, recordAt, records, begins, registrationAt, registrations, latest, spanAt, spans, lastFilled, appendDay, dayShare}
+use Rattle.daybook.specs.Notices.{least, Numbers, decide, find, put, withPoint, onPoint, freshRows, fresh, factsOf, opened, openingRows, opening, which, entryOf, energyEarly, offWithin, energyRows, laterStarts, entered, enter, energy, statusEarly, statusRows, switched, status, requestEarly, requestRows, request, withdrawEarly, withdrawRows, withdraw}
+use Rattle.daybook.specs.Queries.{sumOf, ownShare, accountOf, accountRows, account, someFilled, allFilled, dailyGas, meteredOf, tdmOf, nslOf, weight, weights, total, split, pointShares, totalOf, allocateRows, allocate}
+use Rattle.daybook.specs.Calls.{Call, fresh!, open!, energy!, status!, request!, withdraw!, account!, allocate!, State, Answer, step, answers}
+
+abbrev pub Fresh : ℤ → ℤ → Call
+Fresh r s = fresh! (record { nondaily = r; daily = s })
+
+abbrev pub Open : ℕ → ℕ → ℕ → ℕ → ℤ → Call
+Open m k u i b = open! (record { mirn = pos m; kind = pos k; user = pos u; install = pos i; base = b })
+
+-- an actual reading, not confirmed
+abbrev pub Energy : ℕ → ℕ → ℕ → ℤ → Call
+Energy m s e x =
+    energy! (record { mirn = pos m; start = pos s; end = pos e; energy = x; «type_» = pos 0; confirmed = pos 0 })
+
+abbrev pub Status : ℕ → ℕ → ℕ → Call
+Status m d on = status! (record { mirn = pos m; day = pos d; on = pos on })
+
+-- without a no-change statement; an empty list means weekends only
+abbrev pub Request : ℕ → ℕ → ℕ → List ℤ → Call
+Request m u d holidays = request! (record { mirn = pos m; user = pos u; proposed = pos d; nochange = pos 0 }) holidays
+
+abbrev pub Withdraw : ℕ → ℕ → Call
+Withdraw m u = withdraw! (record { mirn = pos m; user = pos u })
+
+abbrev pub Account : ℕ → ℕ → ℕ → Call
+Account u a b = account! (record { user = pos u; from = pos a; to = pos b })
+
+-- with no unaccounted gas or linepack change, and an answer table of 32 numbers
+abbrev pub Allocate : ℕ → ℕ → ℕ → ℕ → Call
+Allocate g a b tdq =
+    allocate! (record { gasday = pos g; from = pos a; to = pos b; tdq = pos tdq; uag = pos 0; clp = pos 0 }) 32
+
+abbrev numbers : List Answer → List Numbers
+numbers [] = []
+numbers (a ∷ l) = a .0 ∷ numbers l
+
+-- Each call's numbers, the refusal first. To unfold this definition is to unfold the whole day book.
+unfoldable pub answersFrom : State → List Call → List Numbers
+unfolding all firstFrom lastBelow sumFrom floorPart partialEnergy share allowablePeriod businessDayBefore businessDayAfter listed holidayList fromOn fill withEntries withOff withFro withPending lastOf gather recordAt records begins registrationAt registrations latest spanAt spans lastFilled appendDay dayShare least decide find put withPoint onPoint freshRows fresh factsOf opened openingRows opening which entryOf energyEarly offWithin energyRows laterStarts entered enter energy statusEarly statusRows switched status requestEarly requestRows request withdrawEarly withdrawRows withdraw sumOf ownShare accountOf accountRows account someFilled allFilled dailyGas meteredOf tdmOf nslOf weight weights total split pointShares totalOf allocateRows allocate step answers
+answersFrom S calls = numbers (answers calls S)
+
+-- From nothing: what stands in the book before fresh does not matter.
+abbrev pub answersOf : Edition → List Call → List Numbers
+answersOf ed calls = answersFrom (record { edition = ed; book = record { nondaily = pos 0; daily = pos 0; points = [] } }) calls
+
+-- answers of numbers that are not negative
+abbrev pub naturals : List (List ℕ) → List Numbers
+naturals l = map (map pos) l

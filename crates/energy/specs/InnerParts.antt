@@ -1,0 +1,121 @@
+-- What the functions of this crate say of a notice's numbers and of its point's part.
+use mathlib.Core.Path.{_≡_}
+use mathlib.Core.Bool.{Bool, true, _&&_, cond}
+use mathlib.Core.List.{List, [], _∷_}
+use Prim.Native.Nat.{ℕ, suc, _≤_}
+use lib.Dec.{leb, eqb}
+use lib.IntN.{ℤ, pos}
+use lib.ListN.{length}
+use Rattle.numbers.specs.Naturals.{natOf, biasOf, energyOf}
+use Rattle.daybook.specs.declared.EnergyNotice.{EnergyNotice}
+use Rattle.daybook.specs.Book.{Entry, standard}
+use Rattle.daybook.specs.Notices.{Row, Numbers, append, whichNumber, removed, Outcome, outcomeOf, outcomeNumbers}
+use Rattle.lists.specs.Lists.{Lists, Register}
+use Rattle.lists.specs.InnerSteps.{latestOf, whichIn, recsAfter, regsAfter, pendingAfter, enterLists, energyListsRows}
+use Rattle.lists.specs.InnerWell.{Well}
+use Rattle.layout.specs.Layout.{pointNumbers, pointFrom, numAt}
+use Rattle.layout.specs.Sound.{withRecs}
+use Rattle.rows.specs.InnerRows.{recordOf}
+use Rattle.table.specs.InnerTable.{onPart}
+use Rattle.energy.specs.declared.RaisedNotice.{RaisedNotice}
+use Rattle.energy.specs.declared.Kept.{Kept}
+use Rattle.energy.specs.declared.Settled.{Settled}
+
+-- ---- a notice's numbers as naturals
+
+-- Its energy is raised by 1,000,000.
+abbrev pub raisedNotice : EnergyNotice → RaisedNotice
+raisedNotice n =
+    record {
+      mirn = natOf (n .mirn);
+      start = natOf (n .start);
+      end = natOf (n .end);
+      energy = biasOf (n .energy);
+      «type_» = natOf (n .«type_»);
+      confirmed = natOf (n .confirmed);
+    }
+
+-- And back.
+abbrev pub noticeOf : RaisedNotice → EnergyNotice
+noticeOf x =
+    record {
+      mirn = pos (x .mirn);
+      start = pos (x .start);
+      end = pos (x .end);
+      energy = energyOf (x .energy);
+      «type_» = pos (x .«type_»);
+      confirmed = pos (x .confirmed);
+    }
+
+-- What it enters on each of its days.
+abbrev pub entryFrom : RaisedNotice → Entry
+entryFrom x = recordOf (x .start) (x .end) (x .energy) (x .«type_»)
+
+-- Row 2.
+abbrev pub inRange : RaisedNotice → Bool
+inRange x =
+    leb 1 (x .mirn) && leb (x .mirn) 9999999999 && leb (x .start) 39999 && leb (x .end) 39999 && leb (x .energy) 2000000
+    && leb (x .«type_») 2 && leb (x .confirmed) 1
+
+-- The same, with its bounds for arithmetic.
+pub record InRange (x : RaisedNotice) : Type 0 where
+  pub tested : inRange x ≡ true
+  pub mirnLow : 1 ≤ x .mirn
+  pub mirnHigh : x .mirn ≤ 9999999999
+  pub startOk : x .start ≤ 39999
+  pub endOk : x .end ≤ 39999
+  pub energyOk : x .energy ≤ 2000000
+  pub typeOk : x .«type_» ≤ 2
+  pub confirmedOk : x .confirmed ≤ 1
+
+-- ---- the part of a point
+
+-- The part of the standard edition that is the layout of its own lists, which are well-formed; counts, for arithmetic.
+pub record Laid (p : List ℤ) : Type 0 where
+  pub well : Well 48 (pointFrom p)
+  pub is : pointNumbers 48 (pointFrom p) ≡ p
+  pub long : length p ≡ 240
+  pub someRegs : 1 ≤ numAt p 4
+  pub fewRegs : numAt p 4 ≤ 8
+  pub fewOffs : numAt p 5 ≤ 8
+  pub fewRecs : numAt p 6 ≤ 48
+
+-- The index of the record that starts on day d, how many there are if none does.
+unfoldable pub rowIn : List Entry → ℕ → ℕ
+rowIn [] d = 0
+rowIn (x ∷ l) d = cond (eqb (x .start) d) 0 (suc (rowIn l d))
+
+-- A register with these ranges, each raised by 1,000,000.
+abbrev pub registerWith : ℕ → ℕ → Register
+registerWith nondaily daily = record { nondaily = energyOf nondaily; daily = energyOf daily; points = [] }
+
+-- The rows that the point decides.
+unfoldable pub energyRowsOf : RaisedNotice → ℕ → ℕ → Lists → List Row
+energyRowsOf x nondaily daily q = energyListsRows standard (noticeOf x) (registerWith nondaily daily) q
+
+-- ---- the part after the notice
+
+-- The entry goes onto the records.
+abbrev pub recorded : Entry → Lists → Lists
+recorded x q = withRecs (recsAfter (whichIn q x) x (q .recs)) q
+
+pub record Recorded (p : List ℤ) (x : RaisedNotice) (k : Kept) (p′ : List ℤ) : Type 0 where
+  pub whichIs : k .which ≡ whichNumber (whichIn (pointFrom p) (entryFrom x))
+  pub removedIs : k .removed ≡ removed (whichIn (pointFrom p) (entryFrom x)) (x .start) (pointFrom p .recs)
+  pub partIs : p′ ≡ pointNumbers 48 (recorded (entryFrom x) (pointFrom p))
+
+-- What the pending request comes to. Which of the three the notice is does not matter to it.
+abbrev pub outcomeAt : RaisedNotice → Lists → Outcome
+outcomeAt x q = outcomeOf append (entryFrom x) (latestOf (q .regs) .0) (q .pending)
+
+abbrev pub settledLists : Outcome → ℕ → Lists → Lists
+settledLists o end q =
+    record { facts = q .facts; regs = regsAfter o end (q .regs); offs = q .offs; recs = q .recs; pending = pendingAfter o (q .pending) }
+
+pub record SettledTo (p : List ℤ) (x : RaisedNotice) (s : Settled) (p′ : List ℤ) : Type 0 where
+  pub numbersAre : s .user ∷ s .lapsed ∷ [] ≡ outcomeNumbers (outcomeAt x (pointFrom p))
+  pub partIs : p′ ≡ pointNumbers 48 (settledLists (outcomeAt x (pointFrom p)) (x .end) (pointFrom p))
+
+-- The whole notice, on its point's part: its four fields and what it leaves.
+unfoldable pub energyPart : RaisedNotice → ℕ → ℕ → List ℤ → Numbers × List ℤ
+energyPart x nondaily daily p = onPart 4 (energyRowsOf x nondaily daily) (enterLists (entryFrom x)) p

@@ -1,0 +1,217 @@
+-- fresh and open: on the book's days they are the steps on the lists, and they keep the register well-formed.
+use mathlib.Core.Path.{_≡_, refl, sym, _∙_, ap, ap₂}
+use mathlib.Core.Bool.{Bool, true, false, cond, true≢false}
+use mathlib.Core.Option.{Option, none, some, Option·none-ne-some}
+use mathlib.Core.List.{List, [], _∷_, _++_, map, map-append}
+use Prim.Native.Nat.{ℕ, _≤_, _<_}
+use native.Mathlib.Omega.{arith}
+use lib.Dec.{eqb}
+use lib.ListN.{length, length-append, length-map}
+use lib.IntN.{ℤ, pos, negsuc}
+use lib.Signed.{leZ}
+use borrow.Author.Tests.{leb-true, leb-false, le-leb, eqb-false, ne-eqb}
+use Rattle.numbers.proofs.Bools.{both}
+use Rattle.numbers.specs.Naturals.{natOf}
+use Rattle.numbers.specs.Search.{maybe, isSome}
+use Rattle.calendar.specs.Calendar.{within}
+use Rattle.daybook.specs.declared.Ranges.{Ranges}
+use Rattle.daybook.specs.declared.Opening.{Opening}
+use Rattle.daybook.specs.Book.{Point, Book, Edition, fromOn}
+use Rattle.daybook.specs.Notices.{least, Numbers, decide, isRange, find, freshRows, fresh, factsOf, opened, openingRows, opening}
+use Rattle.lists.specs.Lists.{Lists, Register, userOn, offOn, entryOn, pointOf, bookOf}
+use Rattle.lists.specs.InnerSteps.{findLists, freshLists, openedLists, openingLists}
+use Rattle.lists.specs.InnerWell.{Regs, noreg, reg, starts, nospan, norec, nopending, FactsOk, Well, Points, nopoint, point, WellFormed}
+use Rattle.lists.proofs.Rows.{least-none, decide-map, decide-map-where, decide-keeps}
+use Rattle.lists.proofs.Points.{find-is}
+use Rattle.lists.proofs.Bounds.{within-bounds, both-hold}
+
+-- ---- fresh
+
+-- What holds of the ranges of a fresh that isn't sent back.
+pub record FreshClear (n : Ranges) : Type 0 where
+  pub nondailyOk : isRange (n .nondaily) ≡ true
+  pub dailyOk : isRange (n .daily) ≡ true
+
+pub fresh-clear : (n : Ranges) → least (freshRows n) ≡ 0 → FreshClear n
+unfolding freshRows
+fresh-clear n z =
+    let b : (isRange (n .nondaily) ≡ true) × (isRange (n .daily) ≡ true) = both-hold _ _ (least-none 1 _ [] z .0) in
+    record { nondailyOk = b .0; dailyOk = b .1 }
+
+-- fresh on the days is fresh on the lists.
+pub fresh-step : (n : Ranges) (R : Register) → fresh n (bookOf R) ≡ (freshLists n R .0, bookOf (freshLists n R .1))
+unfolding fresh freshLists bookOf
+fresh-step n R = decide-map bookOf _ 0 R ([], record { nondaily = n .nondaily; daily = n .daily; points = [] })
+
+-- No points, with ranges that aren't sent back, are well-formed.
+no-points : (ed : Edition) (n : Ranges) → FreshClear n
+    → WellFormed ed (record { nondaily = n .nondaily; daily = n .daily; points = [] })
+no-points ed n clear =
+    record { nondailyOk = clear .nondailyOk; dailyOk = clear .dailyOk; pointsFew = omega arith; pointsOk = nopoint }
+
+-- fresh keeps a register well-formed.
+pub fresh-keeps : {ed : Edition} (n : Ranges) {R : Register} → WellFormed ed R → WellFormed ed (freshLists n R .1)
+unfolding freshLists
+fresh-keeps {ed} n {R} ok = decide-keeps 0 R _ (WellFormed ed) _ ok (λ z. no-points ed n (fresh-clear n z))
+
+-- A fresh that isn't sent back makes a well-formed register of any.
+pub fresh-makes : (ed : Edition) (n : Ranges) (R : Register) → least (freshRows n) ≡ 0 → WellFormed ed (freshLists n R .1)
+unfolding freshLists decide
+fresh-makes ed n R z = rw z (no-points ed n (fresh-clear n z))
+
+-- ---- open
+
+-- What holds of an opening that isn't sent back, where `known` says whether its MIRN is among the points and `count` is
+-- how many points there are.
+pub record OpenClear (ed : Edition) (n : Opening) (known : Bool) (count : ℕ) : Type 0 where
+  pub mirnLow : 1 ≤ natOf (n .mirn)
+  pub mirnHigh : natOf (n .mirn) ≤ 9999999999
+  pub kindOk : natOf (n .kind) ≤ 1
+  pub userLow : 1 ≤ natOf (n .user)
+  pub userHigh : natOf (n .user) ≤ 16
+  pub installOk : natOf (n .install) ≤ 39999
+  pub baseOk : within (negsuc 0) (pos 10000) (n .base) ≡ true
+  pub new : known ≡ false
+  pub room : count < ed .points
+
+pub open-clear : (ed : Edition) (n : Opening) (known : Bool) (count : ℕ) → least (openingRows ed n known count) ≡ 0
+    → OpenClear ed n known count
+unfolding openingRows
+open-clear ed n known count z =
+    let two = least-none 1 _ _ z in
+    let five = least-none 4 known _ (two .1) in
+    let sixteen = least-none 15 _ [] (five .1) in
+    let base = both-hold _ _ (two .0) in
+    let install = both _ _ (base .0) in
+    let user = both _ _ (install .0) in
+    let kind = both _ _ (user .0) in
+    let m = within-bounds 1 9999999999 (n .mirn) (kind .0) in
+    let u = within-bounds 1 16 (n .user) (user .1) in
+    record {
+      mirnLow = m .0;
+      mirnHigh = m .1;
+      kindOk = within-bounds 0 1 (n .kind) (kind .1) .1;
+      userLow = u .0;
+      userHigh = u .1;
+      installOk = within-bounds 0 39999 (n .install) (install .1) .1;
+      baseOk = base .1;
+      new = five .0;
+      room = leb-false (ed .points) count (sixteen .0);
+    }
+
+-- A base load that isn't sent back, -1 read as 1,000, is at most 10,000.
+base-bound : (z : ℤ) → within (negsuc 0) (pos 10000) z ≡ true → cond (leZ (pos 0) z) (natOf z) 1000 ≤ 10000
+base-bound (pos b) e = rw (le-leb 0 b (omega arith)) (leb-true b 10000 e)
+base-bound (negsuc b) e = omega arith
+
+-- Its facts are in range.
+pub facts-ok : {ed : Edition} {n : Opening} {known : Bool} {count : ℕ} → OpenClear ed n known count → FactsOk (factsOf n)
+unfolding factsOf
+facts-ok {n = n} clear =
+    record {
+      mirnLow = clear .mirnLow;
+      mirnHigh = clear .mirnHigh;
+      kindOk = clear .kindOk;
+      installOk = clear .installOk;
+      baseOk = base-bound (n .base) (clear .baseOk);
+    }
+
+-- The point of the new lists is the book's new point.
+pub opened-is : (n : Opening) → pointOf (openedLists n) ≡ opened n
+unfolding pointOf openedLists opened userOn offOn entryOn fromOn
+opened-is n = refl
+
+-- open on the days is open on the lists.
+pub open-step : (ed : Edition) (n : Opening) (R : Register)
+    → opening ed n (bookOf R) ≡ (openingLists ed n R .0, bookOf (openingLists ed n R .1))
+unfolding opening openingLists bookOf
+open-step ed n R =
+    ap (λ rows. decide (least rows) 0 (bookOf R) ([], withPoints (map pointOf (R .points) ++ (opened n ∷ [])))) rows-is
+    ∙ decide-map-where bookOf _ 0 R _ _ (λ z. ap {B = Numbers × Book} (λ ps. ([], withPoints ps)) points-is)
+  where
+    withPoints : List Point → Book
+    withPoints ps = record { nondaily = R .nondaily; daily = R .daily; points = ps }
+
+    found : (o : Option Lists) → isSome (maybe none (λ q. some (pointOf q)) o) ≡ isSome o
+    found none = refl
+    found (some q) = refl
+
+    known-is : isSome (find (natOf (n .mirn)) (map pointOf (R .points))) ≡ isSome (findLists (natOf (n .mirn)) (R .points))
+    known-is = ap isSome (find-is (natOf (n .mirn)) (R .points)) ∙ found (findLists (natOf (n .mirn)) (R .points))
+
+    rows-is : openingRows ed n (isSome (find (natOf (n .mirn)) (map pointOf (R .points)))) (length (map pointOf (R .points)))
+        ≡ openingRows ed n (isSome (findLists (natOf (n .mirn)) (R .points))) (length (R .points))
+    rows-is = ap₂ (openingRows ed n) known-is (length-map (R .points) pointOf)
+
+    points-is : map pointOf (R .points) ++ (opened n ∷ []) ≡ map pointOf (R .points ++ (openedLists n ∷ []))
+    points-is =
+        ap (λ p. map pointOf (R .points) ++ (p ∷ [])) (sym (opened-is n))
+        ∙ sym (map-append pointOf (R .points) (openedLists n ∷ []))
+
+-- A new point is well-formed: one registration from the install day on, and nothing else.
+pub opened-well : {ed : Edition} {n : Opening} {known : Bool} {count : ℕ} (room : ℕ) → OpenClear ed n known count
+    → Well room (openedLists n)
+unfolding openedLists factsOf
+opened-well {n = n} room clear =
+    record {
+      factsOk = facts-ok clear;
+      regsOk = registered;
+      regsStart = starts refl;
+      regsFew = omega arith;
+      offsOk = nospan;
+      offsFew = omega arith;
+      recsOk = norec;
+      recsFew = omega arith;
+      pendingOk = nopending;
+    }
+  where
+    registered : Regs 0 (natOf (n .install)) ((natOf (n .install), natOf (n .user)) ∷ [])
+    registered =
+        reg {lo = natOf (n .install)} {x = (natOf (n .install), natOf (n .user))} (omega arith) (omega arith) (clear .userLow)
+        (clear .userHigh) (ne-eqb 0 (natOf (n .user)) (omega arith)) noreg
+
+-- A MIRN that isn't among the points, nor that of a point behind them, isn't among them all.
+find-last : (m : ℕ) (qs : List Lists) (q : Lists) → findLists m qs ≡ none → eqb m (q .facts .mirn) ≡ false
+    → findLists m (qs ++ (q ∷ [])) ≡ none
+unfolding findLists
+find-last m [] q e h = rw h
+find-last m (x ∷ xs) q e h = go (eqb m (x .facts .mirn)) e (λ f. find-last m xs q f h)
+  where
+    go : (t : Bool) → cond t (some x) (findLists m xs) ≡ none → (findLists m xs ≡ none → findLists m (xs ++ (q ∷ [])) ≡ none)
+        → cond t (some x) (findLists m (xs ++ (q ∷ []))) ≡ none
+    go true e ih = e
+    go false e ih = ih e
+
+-- A point whose MIRN is new may come last.
+pub points-append : {room : ℕ} {qs : List Lists} {q : Lists} → Points room qs → Well room q
+    → findLists (q .facts .mirn) qs ≡ none → Points room (qs ++ (q ∷ []))
+unfolding findLists
+points-append nopoint w e = point w refl nopoint
+points-append {room} {q = q} (point {q = x} {qs = xs} v d r) w e =
+    go (eqb (q .facts .mirn) (x .facts .mirn)) refl e (points-append r w)
+  where
+    go : (t : Bool) → eqb (q .facts .mirn) (x .facts .mirn) ≡ t → cond t (some x) (findLists (q .facts .mirn) xs) ≡ none
+        → (findLists (q .facts .mirn) xs ≡ none → Points room (xs ++ (q ∷ []))) → Points room (x ∷ xs ++ (q ∷ []))
+    go true h e ih = absurd (Option·none-ne-some x (sym e))
+    go false h e ih =
+        let other : ¬ (q .facts .mirn ≡ x .facts .mirn) = eqb-false _ _ h in
+        point v (find-last (x .facts .mirn) xs q d (ne-eqb (x .facts .mirn) (q .facts .mirn) (omega arith))) (ih e)
+
+-- open keeps a register well-formed.
+pub open-keeps : (ed : Edition) (n : Opening) {R : Register} → WellFormed ed R → WellFormed ed (openingLists ed n R .1)
+unfolding openingLists openedLists factsOf
+open-keeps ed n {R} ok = decide-keeps 0 R _ (WellFormed ed) _ ok (λ z. after (open-clear ed n _ _ z))
+  where
+    missing : (o : Option Lists) → isSome o ≡ false → o ≡ none
+    missing none e = refl
+    missing (some q) e = absurd (true≢false e)
+
+    after : OpenClear ed n (isSome (findLists (natOf (n .mirn)) (R .points))) (length (R .points))
+        → WellFormed ed (record { nondaily = R .nondaily; daily = R .daily; points = R .points ++ (openedLists n ∷ []) })
+    after clear =
+        record {
+          nondailyOk = ok .nondailyOk;
+          dailyOk = ok .dailyOk;
+          pointsFew = simp length-append (omega arith);
+          pointsOk = points-append (ok .pointsOk) (opened-well (ed .records) clear) (missing _ (clear .new));
+        }
