@@ -1,33 +1,57 @@
--- Where a list of calls through the hub begins: the bytes that an accepted petlumas_fresh left. Assumes nothing.
-use mathlib.Core.Path.{_≡_, refl}
+-- Where a list of calls through the hub begins: the bytes that a petlumas_fresh that returned 0 left. Assumes nothing.
+use mathlib.Core.Path.{_≡_, refl, sym, ap, subst}
 use mathlib.Core.Bool.{Bool, true, false, cond}
 use mathlib.Core.List.{List, [], _∷_}
-use Prim.Native.Nat.{ℕ, zero, suc, _≤_}
+use Prim.Native.Nat.{ℕ, zero, suc, _*_, _≤_}
 use native.Mathlib.Omega.{arith}
 use lib.Dec.{leb}
 use lib.IntN.{ℤ, pos}
-use lib.ListN.{length}
+use lib.ListN.{length, getD}
 use borrow.Author.Tests.{leb-true, leb-false}
+use Rattle.numbers.specs.Naturals.{sameZ}
 use Rattle.daybook.specs.declared.Ranges.{Ranges}
 use Rattle.daybook.specs.Notices.{Numbers, least, decide, freshRows, fresh}
 use Rattle.layout.specs.Layout.{tableLength, tableBook, withBook}
 use Rattle.daybook.specs.Book.{standard}
 use Rattle.layout.specs.Calls.{answerAndTable}
 use Rattle.opening.specs.Opening.{freshCall}
-use Rattle.buffers.specs.Buffers.{withNumbers, tableIn}
-use Rattle.history.specs.Lists.{freshState}
+use Rattle.buffers.specs.Buffers.{withNumbers, tableIn, replied, written}
+use Rattle.history.specs.Runs.{freshState}
 use Rattle.history.proofs.Steps as OnTables
 use Rattle.history.proofs.Runs.{fresh-begins}
-use Rattle.bytelists.proofs.Back.{bytes-length, table-whole, table-none, table-back}
+use Rattle.bytelists.specs.ByteLists.{petlumas-fresh, byteStep}
+use Rattle.bytelists.proofs.Back.{table-whole, table-none}
 use Rattle.bytelists.proofs.Left.{written-length}
-use Rattle.bytelists.proofs.Steps.{Holds}
+use Rattle.bytelists.proofs.Steps.{Holds, table-put}
+
+-- A result of 0 says that the refusal is 0 and that the bytes were written.
+returned-zero : (w : Numbers × List ℤ) (b answer : List ℕ) → written w b answer .0 ≡ pos 0
+    → (getD (w .0) 0 (pos 0) ≡ pos 0) × (written w b answer .1 .0 ≡ withNumbers (w .1) b)
+unfolding written replied
+returned-zero w b answer = go (leb (8 * length (w .0)) (length answer))
+  where
+    refusal : ℤ
+    refusal = getD (w .0) 0 (pos 0)
+
+    result : Bool → ℤ
+    result was = cond {A = ℤ × List ℕ} was (refusal, withNumbers (w .0) answer) (cond (sameZ refusal (pos 1)) (pos 1) (pos 2), answer) .0
+
+    never : (z : Bool) → cond z (pos 1) (pos 2) ≡ pos 0 → ⊥
+    never true e = let k : _≡_ {A = ℕ} 0 1 = cc in omega arith
+    never false e = let k : _≡_ {A = ℕ} 0 2 = cc in omega arith
+
+    go : (was : Bool) → result was ≡ pos 0
+        → (refusal ≡ pos 0) × (cond (sameZ (result was) (pos 0)) (withNumbers (w .1) b) b ≡ withNumbers (w .1) b)
+    go true e = (e, ap (λ z. cond (sameZ z (pos 0)) (withNumbers (w .1) b) b) e)
+    go false e = absurd (never (sameZ refusal (pos 1)) e)
 
 -- An accepted fresh found a table that is long enough, and wrote the empty book over it.
-record Accepted (t v : List ℤ) (n : Ranges) : Type 0 where
+record Accepted (t : List ℤ) (w : Numbers × List ℤ) (n : Ranges) : Type 0 where
+  answer : w .0 ≡ pos 0 ∷ []
   long : tableLength ≤ length t
-  is : v ≡ withBook standard t (freshState n .book)
+  is : w .1 ≡ withBook standard t (freshState n .book)
 
-accepted-is : (t : List ℤ) (n : Ranges) → freshCall t n .0 ≡ pos 0 ∷ [] → Accepted t (freshCall t n .1) n
+accepted-is : (t : List ℤ) (n : Ranges) → getD (freshCall t n .0) 0 (pos 0) ≡ pos 0 → Accepted t (freshCall t n) n
 unfolding freshCall fresh decide
 accepted-is t n = go (leb tableLength (length t)) refl (least (freshRows n))
   where
@@ -35,34 +59,31 @@ accepted-is t n = go (leb tableLength (length t)) refl (least (freshRows n))
     given long row =
         cond long (answerAndTable standard t (decide row 0 (tableBook standard t) ([], freshState n .book))) (pos 1 ∷ [], t)
 
-    go : (long : Bool) → leb tableLength (length t) ≡ long → (row : ℕ) → given long row .0 ≡ pos 0 ∷ [] → Accepted t (given long row .1) n
-    go true h zero e = record { long = leb-true tableLength (length t) h; is = refl }
-    go true h (suc r) e = let k : _≡_ {A = ℕ} 0 1 = cc in absurd (omega arith)
-    go false h row e = let k : _≡_ {A = ℕ} 0 1 = cc in absurd (omega arith)
+    go : (long : Bool) → leb tableLength (length t) ≡ long → (row : ℕ) → getD (given long row .0) 0 (pos 0) ≡ pos 0
+        → Accepted t (given long row) n
+    go true h zero e = record { answer = refl; long = leb-true tableLength (length t) h; is = refl }
+    go true h (suc r) e = let k : suc r ≡ 0 = cc in absurd (omega arith)
+    go false h row e = let k : _≡_ {A = ℕ} 1 0 = cc in absurd (omega arith)
 
-module _ (b₀ : List ℕ) (n : Ranges) (accepted : freshCall (tableIn b₀) n .0 ≡ pos 0 ∷ []) where
-  abbrev v : List ℤ
-  v = freshCall (tableIn b₀) n .1
+pub fresh-holds : (b₀ answer : List ℕ) (n : Ranges) → byteStep (petlumas-fresh n) answer b₀ .0 .0 ≡ pos 0
+    → Holds (byteStep (petlumas-fresh n) answer b₀ .1) (freshState n)
+unfolding byteStep
+fresh-holds b₀ answer n returned =
+    let (refusal, bytes) = returned-zero (freshCall t n) b₀ answer returned in
+    let a : Accepted t (freshCall t n) n = accepted-is t n refusal in
+    let h : OnTables.Holds (freshCall t n .1) (freshState n .book) = fresh-begins t n (a .answer) in
+    let long : length (freshCall t n .1) ≡ tableLength =
+    written-length t _ (freshState n .book) (h .isSound) (h .book) (a .is) (table-whole b₀ (enough (a .long))) in
+    subst (λ b. Holds b (freshState n)) (sym bytes)
+    (subst (λ B. Holds (withNumbers (freshCall t n .1) b₀) (record { edition = standard; book = B })) (h .book)
+    (table-put (freshCall t n .1) b₀ (h .isSound) long (enough (a .long))))
+  where
+    t : List ℤ
+    t = tableIn b₀
 
-  h : OnTables.Holds v (freshState n .book)
-  h = fresh-begins (tableIn b₀) n accepted
-
-  a : Accepted (tableIn b₀) v n
-  a = accepted-is (tableIn b₀) n accepted
-
-  enough : 61504 ≤ length b₀
-  enough = go (leb 61504 (length b₀)) refl
-    where
-      go : (x : Bool) → leb 61504 (length b₀) ≡ x → 61504 ≤ length b₀
-      go true e = leb-true 61504 (length b₀) e
-      go false e = absurd (omega (arith, a .long, table-none b₀ (leb-false 61504 (length b₀) e)))
-
-  long : length v ≡ tableLength
-  long = written-length (tableIn b₀) v (freshState n .book) (h .isSound) (h .book) (a .is) (table-whole b₀ enough)
-
-  -- the bytes left are the table's that fresh left
-  pub fresh-back : tableIn (withNumbers (freshCall (tableIn b₀) n .1) b₀) ≡ freshCall (tableIn b₀) n .1
-  fresh-back = table-back v b₀ (h .isSound) long enough
-
-  pub fresh-holds : Holds (withNumbers (freshCall (tableIn b₀) n .1) b₀)
-  fresh-holds = record { long = omega (arith, bytes-length v b₀, enough); isSound = rw fresh-back (h .isSound) }
+    enough : tableLength ≤ length t → 61504 ≤ length b₀
+    enough k = go (leb 61504 (length b₀)) refl
+      where
+        go : (x : Bool) → leb 61504 (length b₀) ≡ x → 61504 ≤ length b₀
+        go true e = leb-true 61504 (length b₀) e
+        go false e = absurd (omega (arith, k, table-none b₀ (leb-false 61504 (length b₀) e)))

@@ -39,28 +39,28 @@ written-length t v B s e w h =
     sum : (x y n : ℕ) → x ≡ tableLength → y ≡ n - tableLength → n ≡ tableLength → x + y ≡ tableLength
     sum x y n a b c = omega arith
 
--- The book's answer and state after a notice.
-abbrev pub noted : Numbers × Book → Answer × State
-noted w = ((w .0, []), record { edition = standard; book = w .1 })
-
 -- What a notice's answer and the table left, w, are beside the table t that it was lent.
 pub record Left (t : List ℤ) (w : Numbers × List ℤ) : Type 0 where
   pub isSound : sound standard (w .1) ≡ true
   pub long : length (w .1) ≡ tableLength
   pub sentBack : refused (w .0) ≡ true → w .1 ≡ t
 
-pub notice-leaves : (t : List ℤ) → length t ≡ tableLength → (w : Numbers × List ℤ) (x : Numbers × Book) → w ≡ answerAndTable standard t x
-    → Follows ((w .0, []), w .1) (noted x) → Left t w
+-- from the book's answer and state, x
+pub notice-leaves : (t : List ℤ) → length t ≡ tableLength → (w : Numbers × List ℤ) (x : Answer × State)
+    → w ≡ answerAndTable standard t (x .0 .0, x .1 .book) → Follows ((w .0, []), w .1) x → Left t w
 notice-leaves t h w x e f =
     record {
       isSound = f .isSound;
-      long = go (refused (x .0)) (ap (λ (v : Numbers × List ℤ). v .1) e);
+      long = go (refused (x .0 .0)) (ap (λ (v : Numbers × List ℤ). v .1) e);
       sentBack = λ k. ap (λ (v : Numbers × List ℤ). v .1) e ∙ back (ap (λ (v : Numbers × List ℤ). refused (v .0)) (sym e) ∙ k);
     }
   where
-    go : (b : Bool) → w .1 ≡ cond b t (withBook standard t (x .1)) → length (w .1) ≡ tableLength
-    go true k = ap length k ∙ h
-    go false k = written-length t (w .1) (x .1) (f .isSound) (ap (λ (v : Answer × State). v .1 .book) (f .same)) k h
+    after : List ℤ
+    after = withBook standard t (x .1 .book)
 
-    back : refused (x .0) ≡ true → cond (refused (x .0)) t (withBook standard t (x .1)) ≡ t
-    back k = ap (λ b. cond b t (withBook standard t (x .1))) k
+    go : (b : Bool) → w .1 ≡ cond b t after → length (w .1) ≡ tableLength
+    go true k = ap length k ∙ h
+    go false k = written-length t (w .1) (x .1 .book) (f .isSound) (ap (λ (v : Answer × State). v .1 .book) (f .same)) k h
+
+    back : refused (x .0 .0) ≡ true → cond (refused (x .0 .0)) t after ≡ t
+    back k = ap (λ b. cond b t after) k

@@ -1,4 +1,5 @@
--- The claim about every list of calls: the calls follow the book, what a sound table's book adds up to, and both together.
+-- The claim about every list of calls: the calls follow the book, what a sound table's book adds up to, and both
+-- together. And what one call leaves as it was.
 pub mod Steps
 pub mod Runs
 pub mod Accounts
@@ -7,3 +8,4 @@ pub mod Allocations
 pub mod Points
 pub mod SoundTables
 pub mod Theorem
+pub mod Frames

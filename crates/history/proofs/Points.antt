@@ -19,10 +19,10 @@ use Rattle.layout.proofs.TableSound.{sound-lays, standard-fits}
 use Rattle.history.specs.Agreement.{pointNo, OneUser}
 use Rattle.history.proofs.Accounts.{installed-user, filled-installed}
 
-first-well : {room : ℕ} {q : Lists} {qs : List Lists} → Points room (q ∷ qs) → Well room q
+pub first-well : {room : ℕ} {q : Lists} {qs : List Lists} → Points room (q ∷ qs) → Well room q
 first-well (point w n r) = w
 
-others : {room : ℕ} {q : Lists} {qs : List Lists} → Points room (q ∷ qs) → Points room qs
+pub others : {room : ℕ} {q : Lists} {qs : List Lists} → Points room (q ∷ qs) → Points room qs
 others (point w n r) = r
 
 module _ (t : List ℤ) where

@@ -19,7 +19,7 @@ use Rattle.daybook.specs.Book.{standard}
 use Rattle.layout.specs.Sound.{sound}
 use Rattle.layout.specs.Calls.{answerAndTable}
 use Rattle.opening.specs.Opening.{freshCall}
-use Rattle.history.specs.Lists.{tableStep, tableRun, tableAnswers, freshState}
+use Rattle.history.specs.Runs.{tableStep, tableRun, tableAnswers, freshState}
 use Rattle.history.proofs.Steps.{Holds, written-holds, stateOf, Follows, step-agrees}
 
 -- The table that the calls leave is sound, and the book is left and answers the same.

@@ -36,7 +36,7 @@ use Rattle.status.specs.Status.{statusCall}
 use Rattle.transfer.specs.Transfer.{requestCall, withdrawCall}
 use Rattle.account.specs.Account.{accountCall}
 use Rattle.allocate.specs.Allocate.{allocateCall}
-use Rattle.history.specs.Lists.{tableStep}
+use Rattle.history.specs.Runs.{tableStep}
 
 -- A sound table whose book is B.
 pub record Holds (t : List ℤ) (B : Book) : Type 0 where
@@ -57,10 +57,10 @@ written-holds {R} ok t =
 -- ---- the six notices
 
 -- A step of the book that is a step of well-formed lists, and that leaves the book where it is sent back.
-record Notice (step : Book → Numbers × Book) (lists : Register → Numbers × Register) : Type 0 where
-  is : (R : Register) → WellFormed standard R → step (bookOf R) ≡ (lists R .0, bookOf (lists R .1))
-  keeps : (R : Register) → WellFormed standard R → WellFormed standard (lists R .1)
-  sentBack : (B : Book) → refused (step B .0) ≡ true → step B .1 ≡ B
+pub record Notice (step : Book → Numbers × Book) (lists : Register → Numbers × Register) : Type 0 where
+  pub is : (R : Register) → WellFormed standard R → step (bookOf R) ≡ (lists R .0, bookOf (lists R .1))
+  pub keeps : (R : Register) → WellFormed standard R → WellFormed standard (lists R .1)
+  pub sentBack : (B : Book) → refused (step B .0) ≡ true → step B .1 ≡ B
 
 decide-sent-back : (r k : ℕ) (B : Book) (w : Numbers × Book) → refused (decide r k B w .0) ≡ true → decide r k B w .1 ≡ B
 unfolding decide
@@ -72,27 +72,27 @@ unfolding fresh
 fresh-notice n =
     record { is = λ R ok. fresh-step n R; keeps = λ R ok. fresh-keeps n ok; sentBack = λ B. decide-sent-back _ 0 B _ }
 
-open-notice : (n : Opening) → Notice (opening standard n) (openingLists standard n)
+pub open-notice : (n : Opening) → Notice (opening standard n) (openingLists standard n)
 unfolding opening
 open-notice n =
     record { is = λ R ok. open-step standard n R; keeps = λ R ok. open-keeps standard n ok; sentBack = λ B. decide-sent-back _ 0 B _ }
 
-energy-notice : (n : EnergyNotice) → Notice (energy standard n) (energyLists standard n)
+pub energy-notice : (n : EnergyNotice) → Notice (energy standard n) (energyLists standard n)
 unfolding energy onPoint
 energy-notice n =
     record { is = energy-step standard n; keeps = λ R ok. energy-keeps standard n ok; sentBack = λ B. decide-sent-back _ 4 B _ }
 
-status-notice : (n : StatusNotice) → Notice (status n) (statusLists n)
+pub status-notice : (n : StatusNotice) → Notice (status n) (statusLists n)
 unfolding status onPoint
 status-notice n =
     record { is = status-step n; keeps = λ R ok. status-keeps n ok; sentBack = λ B. decide-sent-back _ 0 B _ }
 
-request-notice : (n : TransferRequest) (holidays : List ℤ) → Notice (request n holidays) (requestLists n holidays)
+pub request-notice : (n : TransferRequest) (holidays : List ℤ) → Notice (request n holidays) (requestLists n holidays)
 unfolding request onPoint
 request-notice n holidays =
     record { is = request-step n holidays; keeps = λ R ok. request-keeps n holidays ok; sentBack = λ B. decide-sent-back _ 2 B _ }
 
-withdraw-notice : (n : Withdrawal) → Notice (withdraw n) (withdrawLists n)
+pub withdraw-notice : (n : Withdrawal) → Notice (withdraw n) (withdrawLists n)
 unfolding withdraw onPoint
 withdraw-notice n =
     record { is = withdraw-step n; keeps = λ R ok. withdraw-keeps n ok; sentBack = λ B. decide-sent-back _ 0 B _ }
@@ -117,11 +117,11 @@ module _ (t : List ℤ) (s : sound standard t ≡ true) where
   B = tableBook standard t
 
   -- what a sound table makes of a notice: the book's step
-  on-sound : (k : ℕ) (step : Book → Numbers × Book) → onTable k step standard t ≡ answerAndTable standard t (step B)
+  pub on-sound : (k : ℕ) (step : Book → Numbers × Book) → onTable k step standard t ≡ answerAndTable standard t (step B)
   unfolding onTable
   on-sound k step = rw s
 
-  fresh-sound : (n : Ranges) → freshCall t n ≡ answerAndTable standard t (fresh n B)
+  pub fresh-sound : (n : Ranges) → freshCall t n ≡ answerAndTable standard t (fresh n B)
   unfolding freshCall
   fresh-sound n = rw (le-leb tableLength (length t) (sound-long t s .0))
 

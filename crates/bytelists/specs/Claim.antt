@@ -1,0 +1,27 @@
+-- The claim about every list of calls through the hub.
+use mathlib.Core.Path.{_≡_}
+use mathlib.Core.List.{List}
+use Prim.Native.Nat.{ℕ}
+use lib.IntN.{pos}
+use Rattle.daybook.specs.declared.Ranges.{Ranges}
+use Rattle.buffers.specs.Buffers.{tableIn}
+use Rattle.history.specs.Runs.{freshState}
+use Rattle.history.specs.Agreement.{Agrees}
+use Rattle.bytelists.specs.ByteLists.{LentCall, petlumas-fresh, byteStep, byteRun, replies, bookRun, bookReplies}
+
+-- Lend any bytes b₀ and any answer buffer to petlumas_fresh, with any two ranges n. If it returns 0, then lend the
+-- bytes that it left, b, to any calls of the hub, one after the other, with any numbers and with buffers of any bytes. Of the
+-- table in the register's bytes after the last call and the day book given the same calls all that `Agrees` says holds.
+-- Each call returns what the book's answer begins with, and leaves the bytes of the book's numbers in its answer buffer
+-- and, for an allocation, in its answer table; the book decides a request by the holidays that its bytes spell. A call
+-- whose answer buffer is too short for the book's answer returns 2, and leaves the book and its buffers as they were.
+--
+-- The calls here are definitions. The contracts of the hub's exported functions equate what each returns and leaves
+-- with them, for every register, all numbers and buffers: petlumas_fresh, petlumas_open, petlumas_energy, petlumas_status,
+-- petlumas_request, petlumas_withdraw and petlumas_allocate with `written`, petlumas_account with `replied`. A request
+-- borrows its holidays, an account and an allocation the register, without changing them.
+abbrev pub EveryHubList : Type 0
+EveryHubList =
+    (b₀ answer : List ℕ) (n : Ranges) → byteStep (petlumas-fresh n) answer b₀ .0 .0 ≡ pos 0 → (hs : List LentCall)
+    → let b : List ℕ = byteStep (petlumas-fresh n) answer b₀ .1 in
+    Agrees (tableIn (byteRun hs b)) (bookRun hs (freshState n) .book) × (replies hs b ≡ bookReplies hs (freshState n))

@@ -1,0 +1,50 @@
+-- What a call that writes a point leaves as it was, for any table and numbers.
+use mathlib.Core.Path.{_≡_}
+use mathlib.Core.Bool.{Bool, false, _&&_, _||_}
+use mathlib.Core.List.{List}
+use Prim.Native.Nat.{ℕ, _+_}
+use lib.Dec.{leb, ltb, eqb}
+use lib.IntN.{ℤ, pos}
+use lib.ListN.{length, getD}
+use Rattle.numbers.specs.Naturals.{natOf}
+use Rattle.numbers.specs.Search.{maybe}
+use Rattle.daybook.specs.declared.Opening.{Opening}
+use Rattle.daybook.specs.declared.EnergyNotice.{EnergyNotice}
+use Rattle.daybook.specs.declared.StatusNotice.{StatusNotice}
+use Rattle.daybook.specs.declared.TransferRequest.{TransferRequest}
+use Rattle.daybook.specs.declared.Withdrawal.{Withdrawal}
+use Rattle.daybook.specs.Book.{standard}
+use Rattle.layout.specs.Layout.{stride, placeOf, numAt}
+use Rattle.table.specs.Lookup.{indexOf}
+use Rattle.opening.specs.Opening.{openCall}
+use Rattle.energy.specs.Energy.{energyCall}
+use Rattle.status.specs.Status.{statusCall}
+use Rattle.transfer.specs.Transfer.{requestCall, withdrawCall}
+
+-- Does place k lie in the part of point i?
+abbrev pub inPart : ℕ → ℕ → Bool
+inPart i k = leb (placeOf standard i) k && ltb k (placeOf standard i + stride standard)
+
+-- In the part of the point of this MIRN, if there is one?
+abbrev pub ofPoint : List ℤ → ℤ → ℕ → Bool
+ofPoint t mirn k = maybe false (λ i. inPart i k) (indexOf standard t (natOf mirn))
+
+-- In the part of one more point, or the count of points?
+abbrev pub ofNewPoint : List ℤ → ℕ → Bool
+ofNewPoint t k = eqb k 0 || inPart (numAt t 0) k
+
+-- The table t′ is as long as t, and has the same number at every place but the call's own.
+pub record Framed (own : ℕ → Bool) (t t′ : List ℤ) : Type 0 where
+  pub sameLength : length t′ ≡ length t
+  pub outside : (k : ℕ) → own k ≡ false → getD t′ k (pos 0) ≡ getD t k (pos 0)
+
+-- A notice leaves every number outside its own point's part as it was, an opening every number but those of the new
+-- point's part and the count of points.
+pub record Frames : Type 0 where
+  pub opening : (t : List ℤ) (n : Opening) → Framed (ofNewPoint t) t (openCall t n .1)
+  pub energy : (t : List ℤ) (n : EnergyNotice) → Framed (ofPoint t (n .mirn)) t (energyCall t n .1)
+  pub status : (t : List ℤ) (n : StatusNotice) → Framed (ofPoint t (n .mirn)) t (statusCall t n .1)
+  pub request :
+      (t : List ℤ) (n : TransferRequest) (holidays : List ℤ)
+      → Framed (ofPoint t (n .mirn)) t (requestCall t n holidays .1)
+  pub withdraw : (t : List ℤ) (n : Withdrawal) → Framed (ofPoint t (n .mirn)) t (withdrawCall t n .1)
