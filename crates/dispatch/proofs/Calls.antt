@@ -11,7 +11,8 @@ use Rattle.journal.specs.declared.Command.{Command}
 use Rattle.journal.specs.declared.Command.the-variants.{Fresh, Open, Energy, Status, Request, Withdraw, Account, Allocate, Date, Look, Table, Poke, Lend, Room, Hub, Unknown}
 use Rattle.journal.proofs.Command.{the-type}
 use Rattle.answers.specs.Lines.{LineResult, Played}
-use Rattle.dispatch.specs.Calls.{noticeLine, onLent, callLine}
+use Rattle.dispatch.specs.InnerCalls.{noticeLine}
+use Rattle.dispatch.specs.Calls.{onLent, callLine}
 
 -- the numbers of the calls that are no notices
 abbrev others : List ℕ

@@ -1,2 +1,3 @@
 -- Which line each call is.
 pub mod Calls
+pub mod InnerCalls

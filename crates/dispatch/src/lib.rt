@@ -2,7 +2,8 @@
 ghost use Prim.Native.Nat.{_+_, _≤_};
 ghost use lib.ListN.{length};
 ghost use Rattle.answers.specs.Lines.{Played};
-ghost use Rattle.dispatch.specs.Calls.{noticeLine, callLine};
+ghost use Rattle.dispatch.specs.InnerCalls.{noticeLine};
+ghost use Rattle.dispatch.specs.Calls.{callLine};
 use journal::Command;
 
 // A notice, on the numbers that it is lent.

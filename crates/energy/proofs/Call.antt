@@ -8,7 +8,8 @@ use lib.Dec.{leb}
 use lib.IntN.{ℤ, pos}
 use lib.ListN.{getD, replicate}
 use borrow.Author.Tests.{leb-true}
-use Rattle.numbers.specs.Naturals.{natOf, biasOf}
+use Rattle.numbers.specs.Naturals.{natOf}
+use Rattle.numbers.specs.InnerEnergies.{biasOf}
 use Rattle.numbers.specs.Search.{maybe}
 use Rattle.numbers.proofs.Bools.{both}
 use Rattle.numbers.proofs.Naturals.{bias-is}
@@ -20,7 +21,8 @@ use Rattle.lists.specs.InnerWell.{WellFormed}
 use Rattle.lists.proofs.Rows.{above}
 use Rattle.lists.proofs.EnergyStep.{energy-step, energy-keeps, energy-clear, enter-keeps}
 use Rattle.daybook.specs.Book.{standard}
-use Rattle.layout.specs.Layout.{partOf, withPart, registerOf}
+use Rattle.layout.specs.Layout.{partOf, registerOf}
+use Rattle.layout.specs.InnerWrites.{withPart}
 use Rattle.layout.specs.Sound.{sound}
 use Rattle.layout.proofs.Numbers.{few}
 use Rattle.layout.proofs.TableSound.{sound-lays, standard-fits}

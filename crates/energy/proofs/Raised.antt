@@ -6,7 +6,8 @@ use Prim.Native.Nat.{ℕ, suc, _-_, _≤_, _<_}
 use native.Mathlib.Omega.{arith}
 use lib.Dec.{leb, ltb}
 use borrow.Author.Tests.{leb-true, le-leb, ltb-true, ltb-false, lt-ltb}
-use Rattle.numbers.specs.Naturals.{natOf, biasOf, energyOf}
+use Rattle.numbers.specs.Naturals.{natOf}
+use Rattle.numbers.specs.InnerEnergies.{biasOf, energyOf}
 use Rattle.numbers.proofs.Bools.{both}
 use Rattle.numbers.proofs.Naturals.{natOf-is, bias-is}
 use Rattle.calendar.proofs.Dates.{within-natural, day-natural, up-to-natural}

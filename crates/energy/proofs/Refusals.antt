@@ -9,7 +9,7 @@ use lib.Dec.{leb, ltb, eqb}
 use lib.ListN.{length}
 use lib.IntN.{ℤ}
 use borrow.Author.Tests.{le-leb, lt-leb, ltb-true, ltb-false, lt-ltb, le-ltb, eqb-true, eqb-false, eq-eqb, ne-eqb, not-false}
-use Rattle.numbers.specs.Naturals.{energyOf}
+use Rattle.numbers.specs.InnerEnergies.{energyOf}
 use Rattle.numbers.specs.Search.{maybe, isSome}
 use Rattle.daybook.specs.Book.{Entry}
 use Rattle.daybook.specs.Notices.{least, replacement, recut, whichNumber, whichOf, entryOf, fitsKind, beyond, energyRows}

@@ -6,7 +6,8 @@ use Prim.Native.Nat.{ℕ, suc, _≤_}
 use lib.Dec.{leb, eqb}
 use lib.IntN.{ℤ, pos}
 use lib.ListN.{length}
-use Rattle.numbers.specs.Naturals.{natOf, biasOf, energyOf}
+use Rattle.numbers.specs.Naturals.{natOf}
+use Rattle.numbers.specs.InnerEnergies.{biasOf, energyOf}
 use Rattle.daybook.specs.declared.EnergyNotice.{EnergyNotice}
 use Rattle.daybook.specs.Book.{Entry, standard}
 use Rattle.daybook.specs.Notices.{Row, Numbers, append, whichNumber, removed, Outcome, outcomeOf, outcomeNumbers}

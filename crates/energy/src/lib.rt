@@ -5,7 +5,7 @@ use daybook::EnergyNotice;
 ghost use mathlib.Core.Path.{_≡_};
 ghost use mathlib.Core.Bool.{not};
 ghost use Prim.Native.Nat.{_≤_};
-ghost use Rattle.numbers.specs.Naturals.{energyOf};
+ghost use Rattle.numbers.specs.InnerEnergies.{energyOf};
 ghost use Rattle.numbers.specs.Search.{isSome};
 ghost use Rattle.daybook.specs.Notices.{least, beyond};
 ghost use Rattle.daybook.specs.Calls.{energyNumbers};

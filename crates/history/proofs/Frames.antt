@@ -21,10 +21,10 @@ use Rattle.lists.specs.Lists.{Lists, Register}
 use Rattle.lists.specs.InnerSteps.{findLists, putLists, withLists, onLists, openedLists, openingLists, energyLists, statusLists, requestLists, withdrawLists}
 use Rattle.lists.proofs.Rows.{decide-keeps}
 use Rattle.lists.specs.InnerWell.{Points, WellFormed}
-use Rattle.layout.specs.Layout.{tableLength, placeOf, partOf, withPart, pointNumbers, layout, numAt, registerOf, tableBook}
+use Rattle.layout.specs.Layout.{tableLength, placeOf, partOf, pointNumbers, layout, numAt, registerOf, tableBook}
+use Rattle.layout.specs.InnerWrites.{withPart, appendRegistration, openPoint, appendPoint}
 use Rattle.layout.specs.Sound.{sound}
 use Rattle.layout.specs.Calls.{refused, answerAndTable, onTable}
-use Rattle.layout.specs.InnerWrites.{appendRegistration, openPoint, appendPoint}
 use Rattle.layout.proofs.Numbers.{Few, few, length-point}
 use Rattle.layout.proofs.Parts.{part-ends, with-part-length, with-part-front, with-part-past}
 use Rattle.layout.proofs.PartBlocks.{snoc-length}

@@ -13,7 +13,8 @@ use lib.ListN.{length, take, drop, length-append, length-drop, take-append-drop}
 use lib.Seq.{length-take-le, take-at, drop-at, take-append-le, take-take, take-nil, drop-append-add, drop-drop}
 use lib.IntN.{ℤ}
 use Rattle.daybook.specs.Book.{Edition}
-use Rattle.layout.specs.Layout.{tableLength, stride, placeOf, Fits, partOf, withPart}
+use Rattle.layout.specs.Layout.{tableLength, stride, placeOf, Fits, partOf}
+use Rattle.layout.specs.InnerWrites.{withPart}
 
 -- a later point starts past the end of an earlier one
 pub next-place : (ed : Edition) (i j : ℕ) → i < j → placeOf ed i + stride ed ≤ placeOf ed j

@@ -11,7 +11,8 @@ use lib.IntN.{ℤ, pos}
 use Rattle.daybook.specs.Book.{Edition}
 use Rattle.lists.specs.Lists.{Lists, Register}
 use Rattle.lists.specs.InnerWell.{Points, nopoint, point}
-use Rattle.layout.specs.Layout.{tableLength, stride, placeOf, Fits, partOf, withPart, pad, pointNumbers, pointsNumbers, layout}
+use Rattle.layout.specs.Layout.{tableLength, stride, placeOf, Fits, partOf, pad, pointNumbers, pointsNumbers, layout}
+use Rattle.layout.specs.InnerWrites.{withPart}
 use Rattle.layout.proofs.Numbers.{length-pad, Few, few as few-of, length-point}
 use Rattle.layout.proofs.Blocks.{zerosOf}
 

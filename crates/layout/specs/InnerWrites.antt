@@ -1,10 +1,14 @@
 -- What each row writer leaves in a point's part p, and an opening in the table: numbers set at places, nothing of lists.
-use mathlib.Core.List.{List}
+use mathlib.Core.List.{List, _++_}
 use Prim.Native.Nat.{ℕ, zero, suc, _+_, _-_, _*_}
 use lib.IntN.{ℤ, pos, negsuc}
-use lib.ListN.{set}
+use lib.ListN.{set, take, drop}
 use Rattle.daybook.specs.Book.{Entry, Facts, Edition}
-use Rattle.layout.specs.Layout.{partOf, withPart}
+use Rattle.layout.specs.Layout.{stride, placeOf, partOf}
+
+-- The table with p for the numbers of point i.
+unfoldable pub withPart : Edition → List ℤ → ℕ → List ℤ → List ℤ
+withPart ed t i p = take (placeOf ed i) t ++ (p ++ drop (placeOf ed i + stride ed) t)
 
 -- The places a to a + n - 1 set to 0.
 unfoldable pub cleared : List ℤ → ℕ → ℕ → List ℤ

@@ -30,10 +30,6 @@ Fits ed = placeOf ed (ed .points) ≤ tableLength
 unfoldable pub partOf : Edition → List ℤ → ℕ → List ℤ
 partOf ed t i = take (stride ed) (drop (placeOf ed i) t)
 
--- The table with p for the numbers of point i.
-unfoldable pub withPart : Edition → List ℤ → ℕ → List ℤ → List ℤ
-withPart ed t i p = take (placeOf ed i) t ++ (p ++ drop (placeOf ed i + stride ed) t)
-
 -- ---- from lists to numbers
 
 -- Unused places are 0.

@@ -10,7 +10,8 @@ use lib.Signed.{ltZ, nonNeg, mag}
 use mir.Val.{Fits, SFits, toZ, ofZ}
 use mir.ValLaws.{toZ-ofZ, toZ-pos}
 use mir.Syntax.{w64}
-use Rattle.numbers.specs.Naturals.{natOf, biasOf, energyOf, sameZ}
+use Rattle.numbers.specs.Naturals.{natOf, sameZ}
+use Rattle.numbers.specs.InnerEnergies.{biasOf, energyOf}
 use Rattle.numbers.proofs.Integers.{up, dn, eqZ, add-fact, sub-fact}
 
 -- what the machine reads of x's bits

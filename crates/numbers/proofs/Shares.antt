@@ -8,7 +8,7 @@ use native.Mathlib.Numerals.{add-one}
 use borrow.Author.Tests.{leb-true, leb-false}
 use lib.Dec.{leb}
 use lib.IntN.{ℤ, pos, subℕ, _-ℤ_, _*ℤ_, +ℤ-idr}
-use Rattle.numbers.specs.Naturals.{energyOf}
+use Rattle.numbers.specs.InnerEnergies.{energyOf}
 use Rattle.numbers.specs.Sums.{sumFrom}
 use Rattle.numbers.specs.Shares.{floorDiv, floorPart, partialEnergy, share}
 use Rattle.numbers.proofs.Integers.{up, dn, eqZ, sub-fact, minus-fact, mul-fact, sub-minus, raised-same}

@@ -4,3 +4,4 @@ pub mod Rows
 pub mod Sums
 pub mod Shares
 pub mod Search
+pub mod InnerEnergies

@@ -9,15 +9,6 @@ abbrev pub natOf : ℤ → ℕ
 natOf (pos n) = n
 natOf (negsuc n) = 2 ^ 63
 
--- An energy from -1,000,000 to 1,000,000, raised by 1,000,000. Any other number is the marker.
-abbrev pub biasOf : ℤ → ℕ
-biasOf (pos n) = cond (leb n 1000000) (n + 1000000) (2 ^ 63)
-biasOf (negsuc n) = cond (ltb n 1000000) (999999 - n) (2 ^ 63)
-
--- And back: the energy that u is raised from.
-abbrev pub energyOf : ℕ → ℤ
-energyOf u = subℕ u 1000000
-
 -- Are two numbers equal?
 abbrev pub sameZ : ℤ → ℤ → Bool
 sameZ (pos a) (pos b) = eqb a b

@@ -5,7 +5,8 @@ ghost use mathlib.Core.Path.{_≡_};
 ghost use Prim.Native.Nat.{_+_, _-_, _<_, _≤_, _^_};
 ghost use lib.ListN.{length, getD, set};
 ghost use lib.IntN.{pos, subℕ};
-ghost use Rattle.numbers.specs.Naturals.{natOf, biasOf, energyOf};
+ghost use Rattle.numbers.specs.Naturals.{natOf};
+ghost use Rattle.numbers.specs.InnerEnergies.{biasOf, energyOf};
 ghost use Rattle.numbers.specs.Shares.{partialEnergy};
 
 // A number as a natural; a negative one as the marker 2^63.

@@ -12,7 +12,8 @@ use mir.Val.{SFits}
 use mir.ValLaws.{toZ-ofZ}
 use mir.Syntax.{w64}
 use borrow.Author.Tests.{le-leb, leb-true, ltb-true}
-use Rattle.numbers.specs.Naturals.{natOf, biasOf, energyOf}
+use Rattle.numbers.specs.Naturals.{natOf}
+use Rattle.numbers.specs.InnerEnergies.{biasOf, energyOf}
 use Rattle.numbers.proofs.Naturals.{rd, bias-is, natural-read}
 use Rattle.numbers.proofs.Bools.{both}
 use Rattle.calendar.specs.Calendar.{within, isDay}
@@ -20,8 +21,7 @@ use Rattle.calendar.proofs.Dates.{within-natural, day-natural, up-to-natural}
 use Rattle.daybook.specs.declared.Opening.{Opening}
 use Rattle.daybook.specs.Notices.{isMirn, isFlag, isUser, factsOf}
 use Rattle.daybook.specs.Book.{standard}
-use Rattle.layout.specs.Layout.{withPart}
-use Rattle.layout.specs.InnerWrites.{openPoint, appendPoint}
+use Rattle.layout.specs.InnerWrites.{withPart, openPoint, appendPoint}
 use Rattle.table.proofs.Laws.{part-is, part-put, within-raised, lent, backIn}
 
 -- a range is written back as it was read

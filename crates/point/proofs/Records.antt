@@ -7,7 +7,7 @@ use native.Mathlib.Omega.{arith}
 use borrow.Author.Tests.{leb-true, ltb-true, ltb-false, le-leb, lt-leb, eqb-true, eq-eqb}
 use lib.Dec.{leb, ltb}
 use lib.IntN.{ℤ, pos, negsuc}
-use Rattle.numbers.specs.Naturals.{biasOf}
+use Rattle.numbers.specs.InnerEnergies.{biasOf}
 use Rattle.numbers.proofs.Bools.{both, join}
 use Rattle.calendar.specs.Calendar.{within}
 use Rattle.lists.proofs.Apart.{fits-le}

@@ -8,7 +8,7 @@ use Prim.Native.Nat.{ℕ, zero, suc, _+_, _*_, _≤_, _<_, _^_}
 use lib.Dec.{leb, ltb, eqb}
 use lib.ListN.{length, getD}
 use lib.IntN.{ℤ, pos, negsuc}
-use Rattle.numbers.specs.Naturals.{biasOf}
+use Rattle.numbers.specs.InnerEnergies.{biasOf}
 use Rattle.numbers.specs.Rows.{all}
 use Rattle.daybook.specs.Book.{Facts, Entry}
 use Rattle.daybook.specs.Notices.{fitsKind}

@@ -5,7 +5,7 @@ use mathlib.Core.List.{List}
 use Prim.Native.Nat.{ℕ, suc, _+_, _-_, _≤_, _<_}
 use native.Mathlib.Omega.{arith}
 use lib.IntN.{ℤ, pos, subℕ, _-ℤ_}
-use Rattle.numbers.specs.Naturals.{biasOf, energyOf}
+use Rattle.numbers.specs.InnerEnergies.{biasOf, energyOf}
 use Rattle.numbers.specs.Search.{maybe}
 use Rattle.numbers.specs.Shares.{partialEnergy, share}
 use Rattle.numbers.specs.Sums.{sumFrom}

@@ -5,7 +5,7 @@ use mathlib.Core.List.{List}
 use Prim.Native.Nat.{ℕ, suc, _+_, _-_, _≤_, _<_}
 use native.Mathlib.Omega.{arith}
 use lib.IntN.{ℤ, subℕ, _-ℤ_}
-use Rattle.numbers.specs.Naturals.{biasOf, energyOf}
+use Rattle.numbers.specs.InnerEnergies.{biasOf, energyOf}
 use Rattle.numbers.specs.Shares.{partialEnergy}
 use Rattle.numbers.specs.Sums.{sumFrom}
 use Rattle.numbers.proofs.Integers.{up, dn, sub-fact, sub-minus, raise, sub-near}

@@ -1,6 +1,6 @@
 -- The numbers that the row writers take, as a record.
 use Prim.Native.Nat.{ℕ}
-use Rattle.numbers.specs.Naturals.{energyOf}
+use Rattle.numbers.specs.InnerEnergies.{energyOf}
 use Rattle.daybook.specs.Book.{Entry}
 
 -- A record from its days, its energy raised by 1,000,000 and its type.

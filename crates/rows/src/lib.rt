@@ -4,7 +4,7 @@ ghost use mathlib.Core.Path.{_≡_};
 ghost use Prim.Native.Nat.{_+_, _*_, _<_, _≤_, _^_};
 ghost use lib.IntN.{pos, negsuc};
 ghost use lib.ListN.{length, set};
-ghost use Rattle.numbers.specs.Naturals.{energyOf};
+ghost use Rattle.numbers.specs.InnerEnergies.{energyOf};
 ghost use Rattle.layout.specs.InnerWrites.{cleared, putRecord, appendRecord, cutRecords, appendRegistration, openSpan, closeSpan, setPending, clearPending, openPoint};
 ghost use Rattle.rows.specs.InnerRows.{recordOf};
 

@@ -22,7 +22,8 @@ use Rattle.lists.proofs.StatusStep.{status-clear, status-step, status-keeps}
 use Rattle.lists.proofs.Switch.{offs-after-few}
 use Rattle.lists.specs.InnerWell.{WellFormed}
 use Rattle.daybook.specs.Book.{standard}
-use Rattle.layout.specs.Layout.{partOf, withPart, pointNumbers, pointFrom, registerOf}
+use Rattle.layout.specs.Layout.{partOf, pointNumbers, pointFrom, registerOf}
+use Rattle.layout.specs.InnerWrites.{withPart}
 use Rattle.layout.specs.Sound.{sound}
 use Rattle.layout.proofs.Numbers.{few}
 use Rattle.layout.proofs.PartBlocks.{few-offs}

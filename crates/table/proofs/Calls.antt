@@ -16,7 +16,8 @@ use Rattle.lists.specs.Lists.{Lists, Register, bookOf}
 use Rattle.lists.specs.InnerSteps.{findLists, withLists, onLists}
 use Rattle.lists.proofs.Rows.{decide-taken, decide-refused}
 use Rattle.lists.specs.InnerWell.{WellFormed}
-use Rattle.layout.specs.Layout.{tableLength, partOf, withPart, pointNumbers, layout, pointFrom, registerOf, tableBook}
+use Rattle.layout.specs.Layout.{tableLength, partOf, pointNumbers, layout, pointFrom, registerOf, tableBook}
+use Rattle.layout.specs.InnerWrites.{withPart}
 use Rattle.layout.specs.Sound.{sound}
 use Rattle.layout.specs.Calls.{refused, answerAndTable, onTable, ofTable}
 use Rattle.layout.proofs.Numbers.{Few}

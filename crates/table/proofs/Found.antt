@@ -16,7 +16,8 @@ use Rattle.daybook.specs.Book.{Edition}
 use Rattle.lists.specs.Lists.{Lists, Register}
 use Rattle.lists.specs.InnerSteps.{findLists, putLists, withLists}
 use Rattle.lists.specs.InnerWell.{Well, Points, point, WellFormed}
-use Rattle.layout.specs.Layout.{tableLength, stride, placeOf, Fits, partOf, withPart, pointNumbers, layout, numAt, pointFrom, pointsFrom, registerOf}
+use Rattle.layout.specs.Layout.{tableLength, stride, placeOf, Fits, partOf, pointNumbers, layout, numAt, pointFrom, pointsFrom, registerOf}
+use Rattle.layout.specs.InnerWrites.{withPart}
 use Rattle.layout.specs.Sound.{sound}
 use Rattle.layout.proofs.Numbers.{Few}
 use Rattle.layout.proofs.Cells.{cell-mirn}

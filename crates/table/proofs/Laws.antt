@@ -10,7 +10,8 @@ use lib.ListN.{getD, length, take, drop, length-take, length-drop}
 use lib.Seq.{drop-drop}
 use lib.IntN.{ℤ, pos, negsuc}
 use borrow.Author.Tests.{le-leb, lt-leb, eq-eqb, ne-eqb, leb-true, leb-false, ltb-true}
-use Rattle.numbers.specs.Naturals.{natOf, biasOf}
+use Rattle.numbers.specs.Naturals.{natOf}
+use Rattle.numbers.specs.InnerEnergies.{biasOf}
 use Rattle.numbers.specs.Rows.{all}
 use Rattle.numbers.specs.Search.{maybe, firstFrom}
 use Rattle.numbers.proofs.Rows.{all-more, all-fails, all-done}
@@ -18,7 +19,8 @@ use Rattle.numbers.proofs.Search.{from-none, from-hit, from-miss, from-bound}
 use Rattle.calendar.specs.Calendar.{within}
 use Rattle.daybook.specs.Notices.{isRange}
 use Rattle.daybook.specs.Book.{standard}
-use Rattle.layout.specs.Layout.{placeOf, partOf, withPart, numAt, pointsFrom}
+use Rattle.layout.specs.Layout.{placeOf, partOf, numAt, pointsFrom}
+use Rattle.layout.specs.InnerWrites.{withPart}
 use Rattle.layout.specs.Sound.{zeros, partSound, mirnsDiffer, sound}
 use Rattle.layout.specs.InnerMirns.{laterDiffer}
 use Rattle.layout.proofs.TableSound.{Tested, tested}

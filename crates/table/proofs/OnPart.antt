@@ -18,7 +18,8 @@ use Rattle.lists.specs.Lists.{Lists, Register, bookOf}
 use Rattle.lists.specs.InnerSteps.{findLists, onLists}
 use Rattle.lists.specs.InnerWell.{Well, WellFormed}
 use Rattle.lists.proofs.Rows.{above, least-first, least-append-none, least-append-some, decide-taken, decide-refused}
-use Rattle.layout.specs.Layout.{partOf, withPart, pointNumbers, pointFrom, registerOf}
+use Rattle.layout.specs.Layout.{partOf, pointNumbers, pointFrom, registerOf}
+use Rattle.layout.specs.InnerWrites.{withPart}
 use Rattle.layout.specs.Sound.{partSound, sound}
 use Rattle.layout.specs.Calls.{onTable}
 use Rattle.layout.proofs.Numbers.{Few, few, length-point}

@@ -18,7 +18,8 @@ use Rattle.lists.proofs.Rows.{above, least-first, least-skip}
 use Rattle.lists.proofs.Bounds.{within-bounds}
 use Rattle.lists.proofs.TransferStep.{withdraw-step, withdraw-keeps}
 use Rattle.daybook.specs.Book.{standard}
-use Rattle.layout.specs.Layout.{partOf, withPart}
+use Rattle.layout.specs.Layout.{partOf}
+use Rattle.layout.specs.InnerWrites.{withPart}
 use Rattle.layout.specs.Sound.{sound}
 use Rattle.table.specs.Lookup.{indexOf}
 use Rattle.table.proofs.Calls.{call-unsound}

@@ -1,7 +1,7 @@
 use native.Mathlib.Nat.{sub-zero}
 use lib.ListN.{take}
 use Rattle.queries.specs.Lines.{accountLine, allocateLine, lookLine}
-use Rattle.dispatch.specs.Calls.{noticeLine}
+use Rattle.dispatch.specs.InnerCalls.{noticeLine}
 use Rattle.dispatch.proofs.Calls.{on-lent, on-lent-kept, goes-on}
 use borrow.Author.Needs.{needs}
 use Rattle.dispatch.proofs.answer.Statement.{statement}

@@ -5,7 +5,7 @@ use native.Mathlib.Omega.{arith}
 use borrow.Author.Needs.{needs, sfits-of}
 use borrow.Author.Tests.{not-true, not-false}
 use lib.ListN.{set}
-use Rattle.numbers.specs.Naturals.{biasOf}
+use Rattle.numbers.specs.InnerEnergies.{biasOf}
 use Rattle.numbers.proofs.Naturals.{bias-read}
 use Rattle.numbers.proofs.Bools.{both}
 use Rattle.daybook.specs.Notices.{isRange}

@@ -9,7 +9,8 @@ use Rattle.numbers.specs.Naturals.{natOf}
 use Rattle.numbers.specs.Search.{maybe}
 use Rattle.numbers.proofs.Naturals.{natural-read}
 use Rattle.daybook.specs.Book.{standard}
-use Rattle.layout.specs.Layout.{partOf, withPart}
+use Rattle.layout.specs.Layout.{partOf}
+use Rattle.layout.specs.InnerWrites.{withPart}
 use Rattle.layout.specs.Sound.{sound}
 use Rattle.table.specs.Lookup.{indexOf}
 use Rattle.table.proofs.Laws.{lent, sound-long}
