@@ -17,12 +17,12 @@ use Rattle.calendar.proofs.Dates.{within-natural, day-natural, days-order}
 use Rattle.daybook.specs.declared.AccountQuery.{AccountQuery}
 use Rattle.daybook.specs.Notices.{decide, least, isUser}
 use Rattle.daybook.specs.Queries.{ownShare, accountOf, accountRows, account}
-use Rattle.lists.proofs.Rows.{above, least-first, least-skip}
 use Rattle.daybook.specs.Book.{standard}
+use Rattle.lists.proofs.Rows.{above, least-first, least-skip}
 use Rattle.layout.specs.Layout.{partOf, numAt, tableBook}
 use Rattle.layout.specs.Sound.{sound}
-use Rattle.readings.specs.InnerReadings.{pointAt}
 use Rattle.table.proofs.Calls.{query-unsound, query-sound}
+use Rattle.readings.specs.InnerReadings.{pointAt}
 use Rattle.readings.proofs.Points.{points-sum}
 use Rattle.account.specs.Account.{accountCall}
 

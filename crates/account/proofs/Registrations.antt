@@ -13,8 +13,8 @@ use Rattle.numbers.proofs.Sums.{sum-same, sum-if, sum-split}
 use Rattle.daybook.specs.Book.{dayShare}
 use Rattle.daybook.specs.Queries.{ownShare}
 use Rattle.lists.specs.Lists.{userOn, pointOf}
-use Rattle.lists.proofs.Registrations.{user-before, user-since}
 use Rattle.lists.specs.InnerWell.{Regs, reg}
+use Rattle.lists.proofs.Registrations.{user-before, user-since}
 use Rattle.layout.specs.Layout.{numAt, pointFrom}
 use Rattle.point.specs.InnerTests.{regStart, regUser, regRow}
 use Rattle.point.proofs.Rows.{rowsAt}

@@ -1,3 +1,3 @@
--- What a User's account is told.
+-- What account answers.
 pub mod Account
 pub mod InnerRegistrations

@@ -8,9 +8,10 @@ ghost use Prim.Native.Nat.{_-_, _<_, _≤_};
 ghost use lib.IntN.{subℕ};
 ghost use lib.Signed.{leZ};
 ghost use Rattle.numbers.specs.Sums.{sumFrom};
+ghost use Rattle.numbers.specs.Answers.{refused};
 ghost use Rattle.calendar.specs.Calendar.{isDay};
 ghost use Rattle.daybook.specs.Book.{dayShare, standard};
-ghost use Rattle.daybook.specs.Calls.{accountNumbers};
+ghost use Rattle.daybook.specs.Calls.{accountNumbers, accountRefused};
 ghost use Rattle.daybook.specs.Notices.{isUser};
 ghost use Rattle.daybook.specs.Queries.{ownShare, accountOf};
 ghost use Rattle.layout.specs.Layout.{numAt, tableBook};
@@ -103,7 +104,7 @@ fn table_energy(t: &[i64], user: u64, a: u64, b: u64) -> i64
 
 // On any table and any numbers.
 pub fn account(t: &[i64], n: AccountQuery) -> AccountAnswer
-    ensures { λ r. ⌜ accountNumbers r ≡ accountCall (now (t .entry)) n ⌝ }
+    ensures { λ r. ⌜ (accountNumbers r ≡ accountCall (now (t .entry)) n) × (accountRefused r ≡ refused (accountNumbers r)) ⌝ }
 {
     if !table::sound(t) {
         return AccountAnswer::Refused(1);

@@ -10,8 +10,8 @@ use borrow.Author.Tests.{eq-eqb, ne-eqb}
 use Rattle.daybook.specs.declared.AllocationQuery.{AllocationQuery}
 use Rattle.daybook.specs.Notices.{Numbers, least, decide}
 use Rattle.daybook.specs.Queries.{allocationInRange, weights, total, allocateRows, allocate}
-use Rattle.lists.proofs.Rows.{above, least-first, least-skip, decide-taken, decide-refused}
 use Rattle.daybook.specs.Book.{standard}
+use Rattle.lists.proofs.Rows.{above, least-first, least-skip, decide-taken, decide-refused}
 use Rattle.layout.specs.Layout.{tableBook}
 use Rattle.layout.specs.Sound.{sound}
 use Rattle.table.proofs.Calls.{query-unsound, query-sound}

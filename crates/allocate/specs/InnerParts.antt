@@ -6,8 +6,8 @@ use Prim.Native.Nat.{ℕ, zero, suc, _+_, _-_, _≤_, _<_}
 use lib.Dec.{eqb}
 use lib.IntN.{ℤ, pos, subℕ, _-ℤ_}
 use lib.ListN.{length, getD, replicate}
-use Rattle.daybook.specs.declared.AllocationQuery.{AllocationQuery}
 use Rattle.numbers.specs.Naturals.{natOf}
+use Rattle.daybook.specs.declared.AllocationQuery.{AllocationQuery}
 use Rattle.daybook.specs.Book.{Point, Book, standard}
 use Rattle.daybook.specs.Notices.{Numbers}
 use Rattle.daybook.specs.Queries.{allocationInRange, nslOf, weights, total, pointShares, totalOf, users}

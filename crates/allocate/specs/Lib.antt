@@ -1,3 +1,3 @@
--- What an allocation is told, and what it leaves of the answer table.
+-- What allocate answers, and what it leaves of the answer table.
 pub mod Allocate
 pub mod InnerParts

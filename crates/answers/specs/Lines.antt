@@ -1,7 +1,7 @@
 -- What each notice of a journal does on the numbers of its line: the row that it prints, and the register after it. A line with
 -- another count of numbers is no call, and does nothing.
 use mathlib.Core.Bool.{cond, _&&_}
-use mathlib.Core.List.{List, [], _∷_}
+use mathlib.Core.List.{List, []}
 use mathlib.Core.Option.{Option, none, some}
 use mathlib.Core.Path.{_≡_}
 use Prim.Native.Nat.{ℕ, _+_, _≤_}
@@ -10,16 +10,16 @@ use lib.IntN.{ℤ, pos}
 use lib.ListN.{length, drop, getD}
 use Rattle.numbers.specs.Naturals.{natOf}
 use Rattle.numbers.specs.Search.{maybe}
-use Rattle.opening.specs.Opening.{freshCall, openCall}
-use Rattle.energy.specs.Energy.{energyCall}
-use Rattle.status.specs.Status.{statusCall}
-use Rattle.transfer.specs.Transfer.{requestCall, withdrawCall}
 use Rattle.daybook.specs.declared.Ranges.{Ranges}
 use Rattle.daybook.specs.declared.Opening.{Opening}
 use Rattle.daybook.specs.declared.EnergyNotice.{EnergyNotice}
 use Rattle.daybook.specs.declared.StatusNotice.{StatusNotice}
 use Rattle.daybook.specs.declared.TransferRequest.{TransferRequest}
 use Rattle.daybook.specs.declared.Withdrawal.{Withdrawal}
+use Rattle.opening.specs.Opening.{freshCall, openCall}
+use Rattle.energy.specs.Energy.{energyCall}
+use Rattle.status.specs.Status.{statusCall}
+use Rattle.transfer.specs.Transfer.{requestCall, withdrawCall}
 use Rattle.printing.specs.Rows.{rowOf, Printed}
 
 abbrev pub LineResult : Type 0

@@ -1,12 +1,10 @@
 -- The calls on bytes, 8 a number, little endian. A buffer may be longer than its numbers; the bytes past them stay.
 use mathlib.Core.Bool.{cond}
-use mathlib.Core.List.{List, map}
+use mathlib.Core.List.{List}
 use Prim.Native.Nat.{ℕ, _*_, _/_}
 use lib.Dec.{leb}
 use lib.IntN.{ℤ, pos}
 use lib.ListN.{length, getD, replicate}
-use mir.Syntax.{w64}
-use mir.Val.{ofZ}
 use Rattle.numbers.specs.Naturals.{sameZ}
 use Rattle.words.specs.Tables.{decodedInto, encodedInto}
 use Rattle.daybook.specs.Notices.{Numbers}

@@ -12,8 +12,8 @@ use borrow.Author.Tests.{le-leb, lt-leb}
 use Rattle.words.specs.Tables.{decodedInto, encodedInto}
 use Rattle.words.proofs.Tables.{length-decoded, length-encoded}
 use Rattle.words.proofs.Back.{decoded-encoded-at}
-use Rattle.layout.specs.Layout.{tableLength}
 use Rattle.daybook.specs.Book.{standard}
+use Rattle.layout.specs.Layout.{tableLength}
 use Rattle.layout.specs.Sound.{sound}
 use Rattle.buffers.specs.Buffers.{numbersIn, withNumbers, tableIn}
 use Rattle.bytelists.proofs.Fits.{AllFit, fit-at, sound-fits}

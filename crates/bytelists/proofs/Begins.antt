@@ -11,14 +11,14 @@ use borrow.Author.Tests.{leb-true, leb-false}
 use Rattle.numbers.specs.Naturals.{sameZ}
 use Rattle.daybook.specs.declared.Ranges.{Ranges}
 use Rattle.daybook.specs.Notices.{Numbers, least, decide, freshRows, fresh}
-use Rattle.layout.specs.Layout.{tableLength, tableBook, withBook}
 use Rattle.daybook.specs.Book.{standard}
+use Rattle.layout.specs.Layout.{tableLength, tableBook, withBook}
 use Rattle.layout.specs.Calls.{answerAndTable}
 use Rattle.opening.specs.Opening.{freshCall}
-use Rattle.buffers.specs.Buffers.{withNumbers, tableIn, replied, written}
 use Rattle.history.specs.Runs.{freshState}
 use Rattle.history.proofs.Steps as OnTables
 use Rattle.history.proofs.Runs.{fresh-begins}
+use Rattle.buffers.specs.Buffers.{withNumbers, tableIn, replied, written}
 use Rattle.bytelists.specs.ByteLists.{petlumas-fresh, byteStep}
 use Rattle.bytelists.proofs.Back.{table-whole, table-none}
 use Rattle.bytelists.proofs.Left.{written-length}

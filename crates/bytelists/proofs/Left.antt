@@ -6,6 +6,7 @@ use Prim.Native.Nat.{ℕ, _+_, _-_}
 use native.Mathlib.Omega.{arith}
 use lib.IntN.{ℤ}
 use lib.ListN.{length, drop, length-append, length-drop}
+use Rattle.numbers.specs.Answers.{refused}
 use Rattle.daybook.specs.Book.{Book, standard}
 use Rattle.daybook.specs.Notices.{Numbers}
 use Rattle.daybook.specs.Calls.{State, Answer}
@@ -13,7 +14,7 @@ use Rattle.lists.specs.Lists.{Register}
 use Rattle.lists.specs.InnerWell.{WellFormed}
 use Rattle.layout.specs.Layout.{tableLength, layout, registerOf, tableBook, withBook}
 use Rattle.layout.specs.Sound.{sound}
-use Rattle.layout.specs.Calls.{refused, answerAndTable}
+use Rattle.layout.specs.Calls.{answerAndTable}
 use Rattle.layout.proofs.Tables.{written-is}
 use Rattle.layout.proofs.TableSound.{sound-lays, standard-fits}
 use Rattle.layout.proofs.PointParts.{all-few-of, layout-length}

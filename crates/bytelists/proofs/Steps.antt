@@ -9,22 +9,23 @@ use lib.Dec.{leb}
 use lib.IntN.{ℤ, pos}
 use lib.ListN.{length, getD}
 use Rattle.numbers.specs.Naturals.{sameZ}
+use Rattle.numbers.specs.Answers.{refused}
 use Rattle.numbers.proofs.Bools.{cond-same}
 use Rattle.words.specs.Tables.{encodedInto}
 use Rattle.daybook.specs.Notices.{Numbers, opening, energy, status, request, withdraw}
 use Rattle.daybook.specs.Calls.{State, Answer, step}
-use Rattle.layout.specs.Layout.{tableLength}
 use Rattle.daybook.specs.Book.{standard}
+use Rattle.layout.specs.Layout.{tableLength}
 use Rattle.layout.specs.Sound.{sound}
-use Rattle.layout.specs.Calls.{refused, answerAndTable}
+use Rattle.layout.specs.Calls.{answerAndTable}
 use Rattle.opening.specs.Opening.{openCall}
 use Rattle.energy.specs.Energy.{energyCall}
 use Rattle.status.specs.Status.{statusCall}
 use Rattle.transfer.specs.Transfer.{requestCall, withdrawCall}
-use Rattle.buffers.specs.Buffers.{holidaysIn, withNumbers, tableIn, replied, written}
 use Rattle.history.specs.Runs.{tableStep}
 use Rattle.history.proofs.Steps as OnTables
 use Rattle.history.proofs.Steps.{stateOf, on-sound, fresh-sound, step-agrees}
+use Rattle.buffers.specs.Buffers.{holidaysIn, withNumbers, tableIn, replied, written}
 use Rattle.bytelists.specs.ByteLists.{HubCall, petlumas-fresh, petlumas-open, petlumas-energy, petlumas-status, petlumas-request, petlumas-withdraw, petlumas-account, petlumas-allocate, secondBuffer, Reply, registerWritten, byteStep, callIn, bookStep}
 use Rattle.bytelists.proofs.Back.{bytes-length, table-whole, table-back}
 use Rattle.bytelists.proofs.Left.{Left, notice-leaves}

@@ -4,9 +4,9 @@ use mathlib.Core.List.{List}
 use Prim.Native.Nat.{ℕ}
 use lib.IntN.{pos}
 use Rattle.daybook.specs.declared.Ranges.{Ranges}
-use Rattle.buffers.specs.Buffers.{tableIn}
 use Rattle.history.specs.Runs.{freshState}
 use Rattle.history.specs.Agreement.{Agrees}
+use Rattle.buffers.specs.Buffers.{tableIn}
 use Rattle.bytelists.specs.ByteLists.{LentCall, petlumas-fresh, byteStep, byteRun, replies, bookRun, bookReplies}
 
 -- Lend any bytes b₀ and any answer buffer to petlumas_fresh, with any two ranges n. If it returns 0, then lend the

@@ -10,9 +10,9 @@ use lib.Dec.{leb, ltb, eqb}
 use lib.IntN.{ℤ, pos, negsuc}
 use lib.Signed.{leZ, ltZ}
 use lib.ListN.{getD}
-use Rattle.numbers.proofs.Bools.{both, cond-small}
 use Rattle.numbers.specs.Naturals.{natOf}
 use Rattle.numbers.specs.Rows.{all}
+use Rattle.numbers.proofs.Bools.{both, cond-small}
 use Rattle.numbers.proofs.Rows.{all-at}
 use Rattle.calendar.specs.Calendar.{within, isDay, leap, monthLength, daysBefore, newYear, dayOf, isDate, dateCall}
 

@@ -1,6 +1,6 @@
 -- Days, dates and business days (document 01, "Days and units"). A day is counted from 1 January 1970 = 0; calls take 0
 -- to 39,999, which is 7 July 2079.
-use mathlib.Core.Bool.{Bool, false, not, _&&_, _||_, cond}
+use mathlib.Core.Bool.{Bool, true, false, not, _&&_, _||_, cond}
 use mathlib.Core.Option.{Option, none, some}
 use mathlib.Core.List.{List, [], _∷_}
 use Prim.Native.Nat.{ℕ, zero, suc, _+_, _-_, _%_}
@@ -62,6 +62,11 @@ isDate y m d =
 abbrev pub dateNumbers : DateAnswer → List ℤ
 dateNumbers (OnDay d) = pos 0 ∷ pos (d .0) ∷ []
 dateNumbers (Refused r) = pos r ∷ pos 0 ∷ []
+
+-- Which case an answer is: its numbers alone do not tell Refused(0) from day 0, so that the contract says this too.
+abbrev pub dateRefused : DateAnswer → Bool
+dateRefused (OnDay d) = false
+dateRefused (Refused r) = true
 
 -- The date call: any other date gets 2.
 unfoldable pub dateCall : ℤ → ℤ → ℤ → List ℤ

@@ -9,7 +9,8 @@ ghost use lib.ListN.{length, getD};
 ghost use lib.Signed.{ltZ};
 ghost use Rattle.numbers.specs.Rows.{all};
 ghost use Rattle.numbers.specs.Search.{firstFrom, lastBelow};
-ghost use Rattle.calendar.specs.Calendar.{isDay, leap, daysBefore, monthLength, dayOf, dateNumbers, dateCall, weekend, holidayList, listed, businessDay, businessDayBefore, businessDayAfter, allowablePeriod, reachedDay, periodDays};
+ghost use Rattle.numbers.specs.Answers.{refused};
+ghost use Rattle.calendar.specs.Calendar.{isDay, leap, daysBefore, monthLength, dayOf, dateNumbers, dateRefused, dateCall, weekend, holidayList, listed, businessDay, businessDayBefore, businessDayAfter, allowablePeriod, reachedDay, periodDays};
 
 // A day, counted from 1 January 1970 = 0.
 pub struct Day(pub u64);
@@ -94,7 +95,7 @@ fn day_of(year: u64, month: u64, day: u64) -> u64
 
 // The date call: the day of a date from 1 January 1970 to 7 July 2079, and 2 for any other.
 pub fn date(d: YearMonthDay) -> DateAnswer
-    ensures { λ r. ⌜ dateNumbers r ≡ dateCall (d .year) (d .month) (d .day) ⌝ }
+    ensures { λ r. ⌜ (dateNumbers r ≡ dateCall (d .year) (d .month) (d .day)) × (dateRefused r ≡ refused (dateNumbers r)) ⌝ }
 {
     let y = d.year;
     let m = d.month;

@@ -103,16 +103,16 @@ ninth-registration = (refl, refl, refl)
 ending : ℕ → Entry
 ending d = record { start = 1; end = d; energy = pos 10; type = 0 }
 
-asked : Option Pending
-asked = some (record { user = 2; first = 11; last = 39 })
+waiting : Option Pending
+waiting = some (record { user = 2; first = 11; last = 39 })
 
 window :
-    (outcomeOf append (ending 10) 1 asked ≡ stays)
-    × (outcomeOf append (ending 11) 1 asked ≡ registers 2)
-    × (outcomeOf recut (ending 39) 1 asked ≡ registers 2)
-    × (outcomeOf replacement (ending 39) 40 asked ≡ stays)
-    × (outcomeOf recut (ending 40) 1 asked ≡ lapses)
-unfolding ending asked
+    (outcomeOf append (ending 10) 1 waiting ≡ stays)
+    × (outcomeOf append (ending 11) 1 waiting ≡ registers 2)
+    × (outcomeOf recut (ending 39) 1 waiting ≡ registers 2)
+    × (outcomeOf replacement (ending 39) 40 waiting ≡ stays)
+    × (outcomeOf recut (ending 40) 1 waiting ≡ lapses)
+unfolding ending waiting
 window = (refl, refl, refl, refl, refl)
 
 -- a lapsed request is gone

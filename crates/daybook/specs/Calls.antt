@@ -1,4 +1,5 @@
 -- Document 01's numbers for each answer of the code, and lists of calls, from state to state.
+use mathlib.Core.Bool.{Bool, true, false}
 use mathlib.Core.List.{List, [], _∷_}
 use Prim.Native.Nat.{ℕ}
 use lib.IntN.{ℤ, pos}
@@ -44,6 +45,25 @@ accountNumbers (Account.Refused r) = pos r ∷ pos 0 ∷ []
 
 abbrev pub allocationNumbers : AllocationAnswer → Numbers
 allocationNumbers a = pos (a .refusal) ∷ a .nsl ∷ a .totals
+
+-- ---- which case an answer is: its numbers alone do not tell Refused(0) from an answer without a refusal, so that a
+-- contract says this too
+
+abbrev pub noticeRefused : NoticeAnswer → Bool
+noticeRefused Notice.Entered = false
+noticeRefused (Notice.Refused r) = true
+
+abbrev pub energyRefused : EnergyAnswer → Bool
+energyRefused (Energy.Entered which removed user lapsed) = false
+energyRefused (Energy.Refused r) = true
+
+abbrev pub requestRefused : RequestAnswer → Bool
+requestRefused (Request.Entered first last) = false
+requestRefused (Request.Refused r) = true
+
+abbrev pub accountRefused : AccountAnswer → Bool
+accountRefused (Account.Given sum) = false
+accountRefused (Account.Refused r) = true
 
 -- ---- lists of calls
 

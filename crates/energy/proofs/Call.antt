@@ -15,22 +15,22 @@ use Rattle.numbers.proofs.Bools.{both}
 use Rattle.numbers.proofs.Naturals.{bias-is}
 use Rattle.daybook.specs.declared.EnergyNotice.{EnergyNotice}
 use Rattle.daybook.specs.Notices.{least, isRange, entryOf, energyEarly, energyRows, energy}
+use Rattle.daybook.specs.Book.{standard}
 use Rattle.lists.specs.Lists.{Register}
 use Rattle.lists.specs.InnerSteps.{enterLists, energyListsRows, energyLists}
 use Rattle.lists.specs.InnerWell.{WellFormed}
 use Rattle.lists.proofs.Rows.{above}
 use Rattle.lists.proofs.EnergyStep.{energy-step, energy-keeps, energy-clear, enter-keeps}
-use Rattle.daybook.specs.Book.{standard}
 use Rattle.layout.specs.Layout.{partOf, registerOf}
 use Rattle.layout.specs.InnerWrites.{withPart}
 use Rattle.layout.specs.Sound.{sound}
 use Rattle.layout.proofs.Numbers.{few}
 use Rattle.layout.proofs.TableSound.{sound-lays, standard-fits}
 use Rattle.table.specs.Lookup.{indexOf}
+use Rattle.table.specs.InnerTable.{onPart}
 use Rattle.table.proofs.Laws.{part-is, range-is, lent}
 use Rattle.table.proofs.Found.{Found}
 use Rattle.table.proofs.Calls.{call-unsound}
-use Rattle.table.specs.InnerTable.{onPart}
 use Rattle.table.proofs.OnPart.{CallOn, point-found, on-early, on-missing, on-point}
 use Rattle.energy.specs.declared.RaisedNotice.{RaisedNotice}
 use Rattle.energy.specs.Energy.{energyCall}

@@ -13,8 +13,8 @@ use Rattle.daybook.specs.Book.{Entry}
 use Rattle.daybook.specs.Notices.{Which, append, replacement, recut, whichNumber, whichOf, removed}
 use Rattle.lists.specs.Lists.{Lists}
 use Rattle.lists.specs.InnerSteps.{whichIn, recsAfter}
-use Rattle.lists.proofs.Apart.{recs-apart}
 use Rattle.lists.specs.InnerWell.{MayEnter}
+use Rattle.lists.proofs.Apart.{recs-apart}
 use Rattle.layout.specs.Layout.{numAt, pointNumbers, pointFrom}
 use Rattle.layout.specs.Sound.{withRecs}
 use Rattle.layout.specs.InnerWrites.{putRecord, appendRecord, cutRecords}

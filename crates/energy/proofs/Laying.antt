@@ -11,10 +11,10 @@ use lib.IntN.{ℤ}
 use Rattle.numbers.specs.Search.{maybe}
 use Rattle.daybook.specs.Book.{Entry}
 use Rattle.lists.specs.Lists.{Lists}
-use Rattle.lists.proofs.Last.{last-none, last-at}
 use Rattle.lists.specs.InnerSteps.{skip, appendDayOf, lastEnd}
-use Rattle.lists.proofs.Registrations.{some-reg}
 use Rattle.lists.specs.InnerWell.{Well}
+use Rattle.lists.proofs.Last.{last-none, last-at}
+use Rattle.lists.proofs.Registrations.{some-reg}
 use Rattle.lists.proofs.Apart.{recs-apart}
 use Rattle.lists.proofs.Records.{dayAfter, day-after-le}
 use Rattle.layout.specs.Layout.{numAt, pointNumbers, pointFrom}

@@ -15,9 +15,9 @@ use Rattle.numbers.proofs.Bools.{both}
 use Rattle.daybook.specs.Book.{Entry, Pending}
 use Rattle.daybook.specs.Notices.{append, Outcome, registers, lapses, stays, outcomeOf, outcomeNumbers}
 use Rattle.lists.specs.Lists.{Lists}
-use Rattle.lists.proofs.Last.{last-at}
 use Rattle.lists.specs.InnerSteps.{latestOf, userFrom, withPendingLists}
 use Rattle.lists.specs.InnerWell.{PendingOk, nopending, pending}
+use Rattle.lists.proofs.Last.{last-at}
 use Rattle.lists.proofs.Registrations.{user-from-append}
 use Rattle.layout.specs.Layout.{pendingOrZeros, numAt, pointNumbers, pointFrom}
 use Rattle.layout.specs.InnerWrites.{appendRegistration, clearPending}

@@ -7,8 +7,9 @@ ghost use mathlib.Core.Bool.{not};
 ghost use Prim.Native.Nat.{_≤_};
 ghost use Rattle.numbers.specs.InnerEnergies.{energyOf};
 ghost use Rattle.numbers.specs.Search.{isSome};
+ghost use Rattle.numbers.specs.Answers.{refused};
 ghost use Rattle.daybook.specs.Notices.{least, beyond};
-ghost use Rattle.daybook.specs.Calls.{energyNumbers};
+ghost use Rattle.daybook.specs.Calls.{energyNumbers, energyRefused};
 ghost use Rattle.lists.specs.InnerSteps.{startingOn, appendDayOf};
 ghost use Rattle.lists.specs.InnerWell.{MayEnter};
 ghost use Rattle.layout.specs.Layout.{pointFrom, numAt};
@@ -212,7 +213,7 @@ fn settle_request(p: &mut [i64], x: RaisedNotice) -> Settled
 // A notice on its point's part, which a refusal leaves as found.
 fn enter(p: &mut [i64], x: RaisedNotice, nondaily: u64, daily: u64) -> EnergyAnswer
     requires { ⌜ Laid (now p) × InRange x × (nondaily ≤ 2000000) × (daily ≤ 2000000) ⌝ }
-    ensures { λ r. ⌜ (energyNumbers r ≡ energyPart x nondaily daily (now (p .entry)) .0) × (now (p .exit) ≡ energyPart x nondaily daily (now (p .entry)) .1) ⌝ }
+    ensures { λ r. ⌜ (energyNumbers r ≡ energyPart x nondaily daily (now (p .entry)) .0) × (now (p .exit) ≡ energyPart x nondaily daily (now (p .entry)) .1) × (energyRefused r ≡ refused (energyNumbers r)) ⌝ }
 {
     let row = check(p, x, nondaily, daily);
     if row != 0 {
@@ -230,7 +231,7 @@ fn enter(p: &mut [i64], x: RaisedNotice, nondaily: u64, daily: u64) -> EnergyAns
 
 // On any table and any numbers.
 pub fn energy(t: &mut [i64], n: EnergyNotice) -> EnergyAnswer
-    ensures { λ r. ⌜ (energyNumbers r ≡ energyCall (now (t .entry)) n .0) × (now (t .exit) ≡ energyCall (now (t .entry)) n .1) ⌝ }
+    ensures { λ r. ⌜ (energyNumbers r ≡ energyCall (now (t .entry)) n .0) × (now (t .exit) ≡ energyCall (now (t .entry)) n .1) × (energyRefused r ≡ refused (energyNumbers r)) ⌝ }
 {
     if !table::sound(t) {
         return EnergyAnswer::Refused(1);

@@ -12,6 +12,7 @@ use lib.IntN.{ℤ, pos, _+ℤ_, _-ℤ_, +ℤ-idl, +ℤ-idr, +ℤ-invr}
 use borrow.Author.Tests.{leb-true, eqb-true, eqb-false, not-false}
 use Rattle.numbers.specs.Sums.{sumFrom}
 use Rattle.numbers.specs.Shares.{floorPart}
+use Rattle.numbers.specs.Answers.{refused}
 use Rattle.numbers.proofs.Bools.{both}
 use Rattle.numbers.proofs.Sums.{sum-zero, sum-plus, sum-shift, telescope}
 use Rattle.numbers.proofs.Floor.{floor-all, floor-none}
@@ -19,11 +20,10 @@ use Rattle.daybook.specs.declared.AllocationQuery.{AllocationQuery}
 use Rattle.daybook.specs.Book.{Point, Book, standard}
 use Rattle.daybook.specs.Notices.{Numbers, least, decide}
 use Rattle.daybook.specs.Queries.{sumOf, active, nslOf, weight, weights, total, split, pointShares, totalOf, users, allocateRows, allocate}
-use Rattle.lists.proofs.Splits.{split-length}
 use Rattle.lists.specs.Lists.{Lists, Register, pointOf, bookOf}
 use Rattle.lists.specs.InnerWell.{Well, Points, nopoint, point, WellFormed}
+use Rattle.lists.proofs.Splits.{split-length}
 use Rattle.lists.proofs.Rows.{least-none}
-use Rattle.layout.specs.Calls.{refused}
 use Rattle.history.specs.Agreement.{loadIn, totalsIn, added}
 use Rattle.history.proofs.Accounts.{Owned, nothing, owned, counted-once, installed-user}
 

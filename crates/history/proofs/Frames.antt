@@ -12,6 +12,7 @@ use lib.Seq.{getD-take, getD-drop, getD-set-other}
 use borrow.Author.Tests.{leb-false, ltb-false, eqb-false}
 use Rattle.numbers.specs.Naturals.{natOf}
 use Rattle.numbers.specs.Search.{maybe}
+use Rattle.numbers.specs.Answers.{refused}
 use Rattle.numbers.proofs.Bools.{neither}
 use Rattle.numbers.proofs.Search.{from-bound}
 use Rattle.daybook.specs.declared.Opening.{Opening}
@@ -19,12 +20,12 @@ use Rattle.daybook.specs.Book.{Book, Facts, standard}
 use Rattle.daybook.specs.Notices.{Row, Numbers, factsOf}
 use Rattle.lists.specs.Lists.{Lists, Register}
 use Rattle.lists.specs.InnerSteps.{findLists, putLists, withLists, onLists, openedLists, openingLists, energyLists, statusLists, requestLists, withdrawLists}
-use Rattle.lists.proofs.Rows.{decide-keeps}
 use Rattle.lists.specs.InnerWell.{Points, WellFormed}
+use Rattle.lists.proofs.Rows.{decide-keeps}
 use Rattle.layout.specs.Layout.{tableLength, placeOf, partOf, pointNumbers, layout, numAt, registerOf, tableBook}
 use Rattle.layout.specs.InnerWrites.{withPart, appendRegistration, openPoint, appendPoint}
 use Rattle.layout.specs.Sound.{sound}
-use Rattle.layout.specs.Calls.{refused, answerAndTable, onTable}
+use Rattle.layout.specs.Calls.{answerAndTable, onTable}
 use Rattle.layout.proofs.Numbers.{Few, few, length-point}
 use Rattle.layout.proofs.Parts.{part-ends, with-part-length, with-part-front, with-part-past}
 use Rattle.layout.proofs.PartBlocks.{snoc-length}

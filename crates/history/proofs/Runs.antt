@@ -11,11 +11,11 @@ use lib.ListN.{length}
 use Rattle.daybook.specs.declared.Ranges.{Ranges}
 use Rattle.daybook.specs.Notices.{least, Numbers, decide, freshRows, fresh}
 use Rattle.daybook.specs.Calls.{Call, run, answers}
+use Rattle.daybook.specs.Book.{standard}
 use Rattle.lists.specs.Lists.{Register, bookOf}
 use Rattle.lists.specs.InnerWell.{nopoint, WellFormed}
 use Rattle.lists.proofs.OpenStep.{FreshClear, fresh-clear}
 use Rattle.layout.specs.Layout.{tableLength, tableBook}
-use Rattle.daybook.specs.Book.{standard}
 use Rattle.layout.specs.Sound.{sound}
 use Rattle.layout.specs.Calls.{answerAndTable}
 use Rattle.opening.specs.Opening.{freshCall}

@@ -9,6 +9,7 @@ use lib.IntN.{ℤ, pos, _+ℤ_}
 use lib.ListN.{length, getD}
 use borrow.Author.Tests.{le-leb}
 use Rattle.numbers.specs.Sums.{sumFrom, sumOver}
+use Rattle.numbers.specs.Answers.{refused}
 use Rattle.numbers.proofs.Bools.{join}
 use Rattle.numbers.proofs.Sums.{sum-same}
 use Rattle.daybook.specs.declared.AllocationQuery.{AllocationQuery}
@@ -19,7 +20,6 @@ use Rattle.lists.specs.InnerWell.{WellFormed}
 use Rattle.lists.proofs.Rows.{least-skip, decide-taken}
 use Rattle.layout.specs.Layout.{registerOf, tableBook}
 use Rattle.layout.specs.Sound.{sound}
-use Rattle.layout.specs.Calls.{refused}
 use Rattle.layout.proofs.TableSound.{sound-lays, standard-fits}
 use Rattle.table.proofs.Calls.{query-sound}
 use Rattle.account.specs.Account.{accountCall}

@@ -6,6 +6,7 @@ use Prim.Native.Nat.{ℕ, zero, suc}
 use lib.IntN.{ℤ}
 use lib.ListN.{length, drop}
 use borrow.Author.Tests.{le-leb}
+use Rattle.numbers.specs.Answers.{refused}
 use Rattle.daybook.specs.declared.Ranges.{Ranges}
 use Rattle.daybook.specs.declared.Opening.{Opening}
 use Rattle.daybook.specs.declared.EnergyNotice.{EnergyNotice}
@@ -24,7 +25,7 @@ use Rattle.lists.proofs.StatusStep.{status-step, status-keeps}
 use Rattle.lists.proofs.TransferStep.{request-step, request-keeps, withdraw-step, withdraw-keeps}
 use Rattle.layout.specs.Layout.{tableLength, registerOf, tableBook, withBook}
 use Rattle.layout.specs.Sound.{sound}
-use Rattle.layout.specs.Calls.{refused, answerAndTable, onTable}
+use Rattle.layout.specs.Calls.{answerAndTable, onTable}
 use Rattle.layout.proofs.Tables.{written-is, book-of-layout}
 use Rattle.layout.proofs.TableSound.{sound-lays, standard-fits}
 use Rattle.layout.proofs.SoundTable.{lays-sound}

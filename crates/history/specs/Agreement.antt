@@ -7,6 +7,7 @@ use Prim.Native.Nat.{ℕ, zero, suc, _≤_, _<_}
 use lib.IntN.{ℤ, pos, _+ℤ_}
 use lib.ListN.{length, getD, drop}
 use Rattle.numbers.specs.Sums.{sumFrom, sumOver}
+use Rattle.numbers.specs.Answers.{refused}
 use Rattle.daybook.specs.declared.AccountQuery.{AccountQuery}
 use Rattle.daybook.specs.declared.AllocationQuery.{AllocationQuery}
 use Rattle.daybook.specs.Book.{Entry, Point, Book, filled, dayShare, standard}
@@ -15,7 +16,6 @@ use Rattle.daybook.specs.Queries.{sumOf, accountOf, allocate}
 use Rattle.lists.specs.Lists.{covering}
 use Rattle.layout.specs.Layout.{partOf, pointFrom, tableBook}
 use Rattle.layout.specs.Sound.{sound}
-use Rattle.layout.specs.Calls.{refused}
 use Rattle.account.specs.Account.{accountCall}
 use Rattle.allocate.specs.Allocate.{allocateCall}
 

@@ -13,8 +13,8 @@ use Rattle.numbers.proofs.Naturals.{same-true}
 use Rattle.daybook.specs.declared.AllocationQuery.{AllocationQuery}
 use Rattle.daybook.specs.Notices.{Numbers}
 use Rattle.daybook.specs.Queries.{allocationInRange, weights, total, pointShares, allocateRows, allocate}
-use Rattle.lists.proofs.Splits.{split-length}
 use Rattle.daybook.specs.Book.{standard}
+use Rattle.lists.proofs.Splits.{split-length}
 use Rattle.layout.specs.Layout.{numAt, tableBook}
 use Rattle.layout.specs.Sound.{sound}
 use Rattle.layout.specs.Calls.{ofTable}

@@ -10,11 +10,11 @@ use lib.Seq.{take-at}
 use Rattle.energy.specs.Energy.{energyCall}
 use Rattle.account.specs.Account.{accountCall}
 use Rattle.allocate.specs.Allocate.{allocateCall}
-use Rattle.buffers.specs.Buffers.{tableIn, replied, written}
 use Rattle.printing.specs.Rows.{Printed}
 use Rattle.answers.specs.Lines.{energyNoticeOf}
 use Rattle.answers.proofs.Lines.{rest}
 use Rattle.queries.specs.Lines.{accountQueryOf, allocationQueryOf}
+use Rattle.buffers.specs.Buffers.{tableIn, replied, written}
 use Rattle.hublines.specs.Lines.{size, encoded, decoded, shown, shownBoth, energyDone, accountDone, allocateDone, Shown}
 
 -- the first m of a buffer, once they are back

@@ -12,15 +12,15 @@ use lib.ListN.{length, take, drop, replicate}
 use Rattle.numbers.specs.Naturals.{natOf}
 use Rattle.numbers.specs.Search.{maybe}
 use Rattle.words.specs.Tables.{decodedInto, encodedInto}
-use Rattle.journal.specs.declared.Command.{Command}
-use Rattle.journal.specs.declared.Command.the-variants.{Fresh, Open, Energy, Status, Request, Withdraw, Account, Allocate, Date, Look, Table, Poke, Lend, Room, Hub, Unknown}
 use Rattle.energy.specs.Energy.{energyCall}
 use Rattle.account.specs.Account.{accountCall}
 use Rattle.allocate.specs.Allocate.{allocateCall}
-use Rattle.buffers.specs.Buffers.{tableIn, replied, written}
+use Rattle.journal.specs.declared.Command.{Command}
+use Rattle.journal.specs.declared.Command.the-variants.{Fresh, Open, Energy, Status, Request, Withdraw, Account, Allocate, Date, Look, Table, Poke, Lend, Room, Hub, Unknown}
 use Rattle.printing.specs.Rows.{textOf, hexOf, Printed}
 use Rattle.answers.specs.Lines.{num, energyNoticeOf}
 use Rattle.queries.specs.Lines.{accountQueryOf, allocationQueryOf}
+use Rattle.buffers.specs.Buffers.{tableIn, replied, written}
 
 -- The text that is printed, and the register's buffer after it.
 abbrev pub HubLineResult : Type 0

@@ -1,12 +1,11 @@
 -- The numbers and the words of a line, as lists of bytes.
 use mathlib.Core.Bool.{Bool, cond, _&&_}
-use mathlib.Core.List.{List, [], _∷_, _++_}
+use mathlib.Core.List.{List, [], _∷_}
 use mathlib.Core.Option.{Option, none, some}
-use mathlib.Core.Path.{_≡_}
-use Prim.Native.Nat.{ℕ, _+_, _*_, _-_, _^_, _≤_, _<_}
+use Prim.Native.Nat.{ℕ, _+_, _*_, _-_, _^_}
 use lib.Dec.{eqb, leb, ltb}
 use lib.IntN.{ℤ, pos, subℕ}
-use lib.ListN.{length, take, drop, getD}
+use lib.ListN.{take}
 use Rattle.numbers.specs.Search.{maybe}
 use Rattle.journal.specs.declared.Parsed.{Parsed}
 use Rattle.journal.specs.declared.Parsed.the-variants as Parsed·

@@ -1,6 +1,6 @@
 // The text of a journal: the words of a line, the call that its first word names, and numbers.
 ghost use mathlib.Core.Path.{_≡_};
-ghost use Prim.Native.Nat.{_+_, _*_, _<_, _≤_, _^_};
+ghost use Prim.Native.Nat.{_+_, _*_, _<_, _≤_};
 ghost use lib.ListN.{length, drop};
 ghost use Rattle.journal.specs.Text.{isDigit, valueOfDigits, nonNegative, negative as Text·negative, numberOf, valueOf, wordsOf, numbersOf, readInto, takenCount};
 ghost use Rattle.journal.specs.InnerText.{capped, Skipped, Ended};

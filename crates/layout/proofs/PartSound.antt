@@ -15,8 +15,8 @@ use Rattle.numbers.proofs.Rows.{all-at, all-of}
 use Rattle.numbers.proofs.Bools.{join}
 use Rattle.daybook.specs.Book.{Pending}
 use Rattle.lists.specs.Lists.{Lists}
-use Rattle.lists.proofs.Registrations.{some-reg}
 use Rattle.lists.specs.InnerWell.{PendingOk, nopending, pending, Well}
+use Rattle.lists.proofs.Registrations.{some-reg}
 use Rattle.layout.specs.Layout.{regNumbers, offNumbers, recNumbers, pendingOrZeros, headNumbers, pointNumbers, numAt}
 use Rattle.layout.specs.Sound.{listsSound, zeros, countsSound, unusedZero, partSound}
 use Rattle.layout.proofs.Numbers.{length-regNumbers, length-offNumbers, length-recNumbers, few, length-point, in-regs, in-offs, in-recs}

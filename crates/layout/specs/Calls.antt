@@ -1,19 +1,14 @@
--- What a call does to a lent table, and what a query is told of it.
-use mathlib.Core.Bool.{Bool, false, not, cond}
-use mathlib.Core.List.{List, [], _∷_}
+-- What a call does to a lent table, and what a query answers of it.
+use mathlib.Core.Bool.{cond}
+use mathlib.Core.List.{List, _∷_}
 use Prim.Native.Nat.{ℕ}
 use lib.IntN.{ℤ, pos}
 use lib.ListN.{replicate}
-use Rattle.numbers.specs.Naturals.{sameZ}
+use Rattle.numbers.specs.Answers.{refused}
 use Rattle.daybook.specs.Book.{Book, Edition}
 use Rattle.daybook.specs.Notices.{Numbers}
 use Rattle.layout.specs.Layout.{tableBook, withBook}
 use Rattle.layout.specs.Sound.{sound}
-
--- Does an answer begin with a refusal?
-abbrev pub refused : Numbers → Bool
-refused [] = false
-refused (r ∷ l) = not (sameZ r (pos 0))
 
 -- The answer, and the table with the book after the call written over its register; a refusal leaves the table as found.
 abbrev pub answerAndTable : Edition → List ℤ → Numbers × Book → Numbers × List ℤ

@@ -5,7 +5,7 @@ use Prim.Native.Nat.{ℕ, zero, suc, _+_, _-_, _*_, _≤_, _^_}
 use lib.IntN.{ℤ, pos, negsuc}
 use lib.ListN.{length, getD, take, drop, replicate}
 use Rattle.numbers.specs.Naturals.{natOf}
-use Rattle.daybook.specs.Book.{Entry, Pending, Facts, Point, Book, Edition, records, registrations, spans}
+use Rattle.daybook.specs.Book.{Entry, Pending, Point, Book, Edition, records, registrations, spans}
 use Rattle.lists.specs.Lists.{Lists, Register, bookOf}
 
 -- ---- editions and places

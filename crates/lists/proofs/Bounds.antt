@@ -5,8 +5,8 @@ use Prim.Native.Nat.{ℕ, _≤_}
 use lib.Dec.{leb}
 use lib.IntN.{ℤ, pos, negsuc}
 use borrow.Author.Tests.{leb-true, not-false}
-use Rattle.numbers.proofs.Bools.{both}
 use Rattle.numbers.specs.Naturals.{natOf}
+use Rattle.numbers.proofs.Bools.{both}
 use Rattle.calendar.specs.Calendar.{within}
 
 -- A number within two naturals is a natural within them.

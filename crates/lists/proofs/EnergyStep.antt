@@ -17,10 +17,10 @@ use Rattle.calendar.specs.Calendar.{within, isDay}
 use Rattle.daybook.specs.declared.EnergyNotice.{EnergyNotice}
 use Rattle.daybook.specs.Book.{Entry, Pending, Edition, days, fill, withEntries, withFro, withPending, records, latest, appendDay}
 use Rattle.daybook.specs.Notices.{least, isMirn, isFlag, Which, append, whichNumber, which, entryOf, energyEarly, energyRows, fitsKind, offWithin, beyond, kept, removed, Outcome, registers, lapses, stays, outcomeOf, outcomeNumbers, settled, entered, enter, energy}
-use Rattle.lists.proofs.Bounds.{within-bounds}
 use Rattle.lists.specs.Lists.{Lists, Register, offOn, entryOn, userOn, pointOf, bookOf}
-use Rattle.lists.specs.InnerSteps.{latestOf, whichIn, appendDayOf, someOverlap, recsAfter, userFrom, regsAfter, pendingAfter, enteredLists, enterLists, energyListsRows, energyLists}
+use Rattle.lists.specs.InnerSteps.{latestOf, whichIn, appendDayOf, recsAfter, userFrom, regsAfter, pendingAfter, enteredLists, enterLists, energyListsRows, energyLists}
 use Rattle.lists.specs.InnerWell.{Regs, StartsOn, PendingOk, nopending, pending, Well, WellFormed, MayEnter}
+use Rattle.lists.proofs.Bounds.{within-bounds}
 use Rattle.lists.proofs.Rows.{above, least-none, least-append-both}
 use Rattle.lists.proofs.Apart.{recs-apart, skip-ge, fits-le}
 use Rattle.lists.proofs.Records.{dayAfter, day-after-le, records-is, which-is, last-filled-is}

@@ -10,9 +10,9 @@ use lib.ListN.{length, length-append, length-map}
 use lib.IntN.{ℤ, pos, negsuc}
 use lib.Signed.{leZ}
 use borrow.Author.Tests.{leb-true, leb-false, le-leb, eqb-false, ne-eqb}
-use Rattle.numbers.proofs.Bools.{both}
 use Rattle.numbers.specs.Naturals.{natOf}
 use Rattle.numbers.specs.Search.{maybe, isSome}
+use Rattle.numbers.proofs.Bools.{both}
 use Rattle.calendar.specs.Calendar.{within}
 use Rattle.daybook.specs.declared.Ranges.{Ranges}
 use Rattle.daybook.specs.declared.Opening.{Opening}

@@ -13,9 +13,9 @@ use Rattle.daybook.specs.Book.{Entry, days, fill, lastOf, recordAt, records, la
 use Rattle.daybook.specs.Notices.{whichOf, which}
 use Rattle.lists.specs.Lists.{Lists, entryOn, pointOf}
 use Rattle.lists.specs.InnerSteps.{lastEnd, startingOn, whichIn}
+use Rattle.lists.specs.InnerWell.{Well}
 use Rattle.lists.proofs.Apart.{Apart, noentry, apart, apart-widen, recs-apart, Place, inside, under, over, place, fill-inside, fill-over, starting-none}
 use Rattle.lists.proofs.Scan.{at, Asc, nil, cons, asc-widen, scan}
-use Rattle.lists.specs.InnerWell.{Well}
 
 -- ---- the record that starts on a day
 

@@ -6,8 +6,8 @@ use mathlib.Core.List.{List, [], _++_}
 use Prim.Native.Nat.{ℕ, _≤_}
 use lib.Dec.{leb, eqb}
 use lib.ListN.{length}
-use Rattle.numbers.proofs.Bools.{both}
 use Rattle.numbers.specs.Naturals.{natOf}
+use Rattle.numbers.proofs.Bools.{both}
 use Rattle.daybook.specs.declared.StatusNotice.{StatusNotice}
 use Rattle.daybook.specs.Book.{Point, Edition, withOff, spans, lastFilled}
 use Rattle.daybook.specs.Notices.{Row, least, Numbers, statusEarly, statusRows, switched, status}

@@ -8,8 +8,8 @@ use native.Mathlib.Omega.{arith}
 use lib.Dec.{leb, ltb, eqb}
 use lib.ListN.{length, length-append}
 use borrow.Author.Tests.{leb-false, ltb-false}
-use Rattle.numbers.proofs.Bools.{neither}
 use Rattle.numbers.specs.Search.{maybe}
+use Rattle.numbers.proofs.Bools.{neither}
 use Rattle.daybook.specs.Book.{Entry, fromOn, lastOf}
 use Rattle.daybook.specs.Notices.{cannotOff, cannotOn}
 use Rattle.lists.specs.Lists.{offOn}

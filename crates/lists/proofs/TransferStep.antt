@@ -9,9 +9,9 @@ use lib.Dec.{eqb}
 use lib.ListN.{length}
 use lib.IntN.{ℤ}
 use borrow.Author.Tests.{leb-false, not-false}
-use Rattle.numbers.proofs.Bools.{both}
 use Rattle.numbers.specs.Naturals.{natOf}
 use Rattle.numbers.specs.Search.{maybe, isSome}
+use Rattle.numbers.proofs.Bools.{both}
 use Rattle.calendar.specs.Calendar.{holidayList, allowablePeriod}
 use Rattle.calendar.proofs.Business.{period-bound}
 use Rattle.daybook.specs.declared.TransferRequest.{TransferRequest}

@@ -7,3 +7,4 @@ pub mod Search
 pub mod Sums
 pub mod Floor
 pub mod Shares
+pub mod Answers

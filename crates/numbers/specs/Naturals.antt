@@ -1,8 +1,8 @@
 -- Signed numbers as naturals: unsigned code reads every number of a table through these.
-use mathlib.Core.Bool.{Bool, false, cond}
-use Prim.Native.Nat.{ℕ, _+_, _-_, _^_}
-use lib.Dec.{eqb, leb, ltb}
-use lib.IntN.{ℤ, pos, negsuc, subℕ}
+use mathlib.Core.Bool.{Bool, false}
+use Prim.Native.Nat.{ℕ, _^_}
+use lib.Dec.{eqb}
+use lib.IntN.{ℤ, pos, negsuc}
 
 -- A number as a natural. A negative one is the marker 2 ^ 63, which is above every bound of the register.
 abbrev pub natOf : ℤ → ℕ

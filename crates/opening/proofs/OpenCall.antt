@@ -13,13 +13,13 @@ use Rattle.numbers.specs.Search.{maybe, isSome}
 use Rattle.calendar.specs.Calendar.{within, isDay}
 use Rattle.daybook.specs.declared.Opening.{Opening}
 use Rattle.daybook.specs.Notices.{least, Numbers, decide, isMirn, isFlag, isUser, factsOf, openingRows, opening}
+use Rattle.daybook.specs.Book.{standard}
 use Rattle.lists.specs.Lists.{Register}
 use Rattle.lists.specs.InnerSteps.{findLists, openedLists, openingLists}
-use Rattle.lists.proofs.Rows.{above, least-first, least-skip, decide-taken, decide-refused}
 use Rattle.lists.specs.InnerWell.{WellFormed}
+use Rattle.lists.proofs.Rows.{above, least-first, least-skip, decide-taken, decide-refused}
 use Rattle.lists.proofs.OpenStep.{OpenClear, open-clear, open-step, open-keeps}
 use Rattle.layout.specs.Layout.{tableLength, layout, numAt, registerOf, tableBook}
-use Rattle.daybook.specs.Book.{standard}
 use Rattle.layout.specs.Sound.{sound}
 use Rattle.layout.specs.InnerWrites.{appendPoint}
 use Rattle.layout.specs.Calls.{answerAndTable, onTable}

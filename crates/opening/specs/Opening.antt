@@ -7,8 +7,8 @@ use lib.ListN.{length}
 use Rattle.daybook.specs.declared.Ranges.{Ranges}
 use Rattle.daybook.specs.declared.Opening.{Opening}
 use Rattle.daybook.specs.Notices.{Numbers, fresh, opening}
-use Rattle.layout.specs.Layout.{tableLength, tableBook}
 use Rattle.daybook.specs.Book.{standard}
+use Rattle.layout.specs.Layout.{tableLength, tableBook}
 use Rattle.layout.specs.Calls.{answerAndTable, onTable}
 
 -- fresh makes a register of any table that is long enough, sound or not: only a short one gets 1.

@@ -7,9 +7,10 @@ ghost use lib.IntN.{pos, negsuc};
 ghost use lib.ListN.{length, set};
 ghost use Rattle.numbers.specs.Naturals.{natOf};
 ghost use Rattle.numbers.specs.InnerEnergies.{energyOf};
+ghost use Rattle.numbers.specs.Answers.{refused};
 ghost use Rattle.calendar.specs.Calendar.{within, isDay};
 ghost use Rattle.daybook.specs.Notices.{isMirn, isFlag, isUser, factsOf};
-ghost use Rattle.daybook.specs.Calls.{noticeNumbers};
+ghost use Rattle.daybook.specs.Calls.{noticeNumbers, noticeRefused};
 ghost use Rattle.daybook.specs.Book.{standard};
 ghost use Rattle.layout.specs.InnerWrites.{cleared, appendPoint};
 ghost use Rattle.opening.specs.Opening.{freshCall, openCall};
@@ -36,7 +37,7 @@ fn empty(t: &mut [i64], nondaily: u64, daily: u64)
 
 // A register with no points, whatever numbers the table holds.
 pub fn fresh(t: &mut [i64], n: Ranges) -> NoticeAnswer
-    ensures { λ r. ⌜ (noticeNumbers r ≡ freshCall (now (t .entry)) n .0) × (now (t .exit) ≡ freshCall (now (t .entry)) n .1) ⌝ }
+    ensures { λ r. ⌜ (noticeNumbers r ≡ freshCall (now (t .entry)) n .0) × (now (t .exit) ≡ freshCall (now (t .entry)) n .1) × (noticeRefused r ≡ refused (noticeNumbers r)) ⌝ }
 {
     if t.len() < 7688 {
         return NoticeAnswer::Refused(1);
@@ -106,7 +107,7 @@ fn append_point(t: &mut [i64], i: usize, n: Opening)
 
 // A new point: 5 for a MIRN that the register has, 16 where all 32 points are taken.
 pub fn open(t: &mut [i64], n: Opening) -> NoticeAnswer
-    ensures { λ r. ⌜ (noticeNumbers r ≡ openCall (now (t .entry)) n .0) × (now (t .exit) ≡ openCall (now (t .entry)) n .1) ⌝ }
+    ensures { λ r. ⌜ (noticeNumbers r ≡ openCall (now (t .entry)) n .0) × (now (t .exit) ≡ openCall (now (t .entry)) n .1) × (noticeRefused r ≡ refused (noticeNumbers r)) ⌝ }
 {
     if !table::sound(t) {
         return NoticeAnswer::Refused(1);

@@ -10,8 +10,8 @@ use lib.IntN.{ℤ, pos, negsuc}
 use Rattle.numbers.specs.InnerEnergies.{biasOf}
 use Rattle.numbers.proofs.Bools.{both, join}
 use Rattle.calendar.specs.Calendar.{within}
-use Rattle.lists.proofs.Apart.{fits-le}
 use Rattle.lists.specs.InnerWell.{Recs, norec, rec}
+use Rattle.lists.proofs.Apart.{fits-le}
 use Rattle.layout.specs.Layout.{numAt}
 use Rattle.point.specs.InnerTests.{rows, spansOk, recStart, recEnd, recAt, recLeaves, recsOk, spanRow, recRow}
 use Rattle.point.proofs.Rows.{rowsAt}

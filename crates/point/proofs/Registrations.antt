@@ -9,9 +9,9 @@ use borrow.Author.Tests.{leb-true, eqb-true, eq-eqb, le-leb, not-true}
 use lib.IntN.{ℤ}
 use Rattle.numbers.specs.Search.{maybe}
 use Rattle.numbers.proofs.Bools.{both, join}
-use Rattle.lists.proofs.Last.{last-at}
 use Rattle.lists.specs.InnerSteps.{latestOf}
 use Rattle.lists.specs.InnerWell.{Regs, noreg, reg, StartsOn, starts}
+use Rattle.lists.proofs.Last.{last-at}
 use Rattle.layout.specs.Layout.{numAt}
 use Rattle.point.specs.InnerTests.{rows, regStart, regUser, regAt, regLeaves, regsOk, regRow}
 use Rattle.point.proofs.Rows.{rowsAt, length-rows, getD-rows}

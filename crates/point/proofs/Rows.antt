@@ -1,6 +1,5 @@
 -- A part's rows by index: what is read from a part are lists of rows. Assumes nothing.
 use mathlib.Core.Path.{_≡_, refl, ap, ap₂, _∙_}
-use mathlib.Core.Option.{Option}
 use mathlib.Core.List.{List, [], _∷_, _++_}
 use Prim.Native.Nat.{ℕ, zero, suc, _+_, _*_, _<_}
 use native.Mathlib.Omega.{arith}
@@ -10,7 +9,7 @@ use lib.IntN.{ℤ, pos}
 use Rattle.numbers.specs.Naturals.{natOf}
 use Rattle.daybook.specs.Book.{Entry}
 use Rattle.layout.specs.Layout.{onOf, regsFrom, offsFrom, recsFrom}
-use Rattle.point.specs.InnerTests.{regStart, regUser, offDay, recStart, recEnd, recType, regRow, spanRow, recRow}
+use Rattle.point.specs.InnerTests.{regRow, spanRow, recRow}
 
 -- f k, f (k + 1), .., n of them
 unfoldable pub rowsAt : {A : Type 0} → (ℕ → A) → ℕ → ℕ → List A

@@ -7,8 +7,8 @@ use lib.Dec.{eqb, ltb}
 use lib.IntN.{ℤ, pos, negsuc}
 use lib.ListN.{length, take, drop, set, replicate}
 use Rattle.numbers.specs.Naturals.{natOf}
-use Rattle.calendar.specs.Calendar.{dateCall}
 use Rattle.calendar.specs.declared.YearMonthDay.{YearMonthDay}
+use Rattle.calendar.specs.Calendar.{dateCall}
 use Rattle.daybook.specs.declared.AccountQuery.{AccountQuery}
 use Rattle.daybook.specs.declared.AllocationQuery.{AllocationQuery}
 use Rattle.daybook.specs.Notices.{Numbers}

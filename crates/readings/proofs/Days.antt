@@ -16,8 +16,8 @@ use Rattle.daybook.specs.Book.{Entry, Point, filled}
 use Rattle.daybook.specs.Queries.{someFilled, allFilled}
 use Rattle.lists.specs.Lists.{pointOf}
 use Rattle.layout.specs.Layout.{numAt}
-use Rattle.readings.specs.InnerReadings.{pointAt, Readable, daysPassed, filledDays}
 use Rattle.point.specs.InnerTests.{recRow}
+use Rattle.readings.specs.InnerReadings.{pointAt, Readable, daysPassed, filledDays}
 use Rattle.readings.specs.InnerRecords.{partBetween, dayCount}
 use Rattle.readings.proofs.Records.{dayOf, before-up, days-by-rows}
 

@@ -15,8 +15,8 @@ use Rattle.numbers.proofs.Shares.{energies-near, raised-difference}
 use Rattle.daybook.specs.Book.{Entry, dayShare}
 use Rattle.lists.specs.Lists.{entryOn, pointOf}
 use Rattle.layout.specs.Layout.{numAt, pointFrom}
-use Rattle.readings.specs.InnerReadings.{pointAt, Readable, daysPassed}
 use Rattle.point.specs.InnerTests.{recRow}
+use Rattle.readings.specs.InnerReadings.{pointAt, Readable, daysPassed}
 use Rattle.readings.specs.InnerRecords.{partBetween, partialOf}
 use Rattle.readings.proofs.Part.{RecordOk}
 use Rattle.readings.proofs.Records.{dayOf, before-most, days-by-rows}

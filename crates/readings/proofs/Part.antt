@@ -12,8 +12,8 @@ use lib.IntN.{ℤ}
 use Rattle.numbers.specs.InnerEnergies.{biasOf}
 use Rattle.numbers.proofs.Bools.{both}
 use Rattle.daybook.specs.Book.{Entry}
-use Rattle.lists.proofs.Apart.{fits-le}
 use Rattle.lists.specs.InnerWell.{Recs, rec, Well}
+use Rattle.lists.proofs.Apart.{fits-le}
 use Rattle.layout.specs.Layout.{numAt, pointFrom, pointNumbers}
 use Rattle.layout.specs.Sound.{partSound}
 use Rattle.layout.proofs.PartLays.{part-lays}

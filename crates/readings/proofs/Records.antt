@@ -17,9 +17,9 @@ use Rattle.daybook.specs.Queries.{sumOf}
 use Rattle.lists.specs.Lists.{entryOn}
 use Rattle.lists.proofs.Apart.{Apart, noentry, apart, recs-apart, Place, inside, under, over, place, entry-none}
 use Rattle.layout.specs.Layout.{numAt, pointFrom}
+use Rattle.point.specs.InnerTests.{recRow}
 use Rattle.point.proofs.Rows.{rowsAt}
 use Rattle.readings.specs.InnerReadings.{Readable, daysPassed}
-use Rattle.point.specs.InnerTests.{recRow}
 use Rattle.readings.specs.InnerRecords.{partBetween}
 use Rattle.readings.proofs.Part.{part-well, recs-of}
 

@@ -13,9 +13,9 @@ use Rattle.numbers.proofs.Naturals.{bias-is}
 use Rattle.numbers.proofs.Sums.{sum-one}
 use Rattle.numbers.proofs.Shares.{raisedPart, raised-partial, raised-near}
 use Rattle.daybook.specs.Book.{Entry, fill, dayShare}
-use Rattle.lists.proofs.Apart.{Place, inside, under, over, place}
 use Rattle.lists.specs.Lists.{entryOn, pointOf}
 use Rattle.lists.specs.InnerWell.{Recs, norec, rec}
+use Rattle.lists.proofs.Apart.{Place, inside, under, over, place}
 use Rattle.layout.specs.Layout.{pointFrom}
 use Rattle.readings.specs.InnerReadings.{pointAt, Readable}
 use Rattle.readings.specs.InnerRecords.{partialOf}

@@ -11,8 +11,8 @@ use lib.Dec.{leb}
 use lib.IntN.{ℤ}
 use Rattle.daybook.specs.Queries.{active}
 use Rattle.lists.specs.Lists.{userOn, inSpan, offOn, pointOf}
-use Rattle.lists.proofs.Registrations.{user-none, user-known}
 use Rattle.lists.specs.InnerSteps.{overlaps, someOverlap}
+use Rattle.lists.proofs.Registrations.{user-none, user-known}
 use Rattle.layout.specs.Layout.{numAt, pointFrom}
 use Rattle.layout.proofs.Cells.{place-offs}
 use Rattle.point.specs.InnerTests.{regStart, regUser, noOff, regRow}

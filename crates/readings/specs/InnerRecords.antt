@@ -1,5 +1,4 @@
 -- What the functions that read one record say of it.
-use mathlib.Core.List.{List}
 use Prim.Native.Nat.{ℕ, suc, _-_}
 use lib.IntN.{ℤ, pos, _-ℤ_}
 use Rattle.numbers.specs.Shares.{partialEnergy}

@@ -9,19 +9,20 @@ use lib.Dec.{leb, eqb}
 use lib.IntN.{ℤ, pos}
 use Rattle.numbers.specs.Naturals.{natOf}
 use Rattle.numbers.specs.Search.{maybe}
+use Rattle.numbers.specs.Answers.{refused}
 use Rattle.numbers.proofs.Bools.{both}
 use Rattle.calendar.specs.Calendar.{isDay}
 use Rattle.calendar.proofs.Dates.{within-natural, day-natural, up-to-natural}
 use Rattle.daybook.specs.declared.StatusNotice.{StatusNotice}
 use Rattle.daybook.specs.Notices.{least, Numbers, isMirn, isFlag, statusEarly, statusRows, status}
+use Rattle.daybook.specs.Book.{standard}
 use Rattle.lists.specs.Lists.{Lists}
 use Rattle.lists.specs.InnerSteps.{lastEnd, statusLists}
+use Rattle.lists.specs.InnerWell.{WellFormed}
 use Rattle.lists.proofs.Rows.{above, least-first, least-skip}
 use Rattle.lists.proofs.Bounds.{within-bounds}
 use Rattle.lists.proofs.StatusStep.{status-clear, status-step, status-keeps}
 use Rattle.lists.proofs.Switch.{offs-after-few}
-use Rattle.lists.specs.InnerWell.{WellFormed}
-use Rattle.daybook.specs.Book.{standard}
 use Rattle.layout.specs.Layout.{partOf, pointNumbers, pointFrom, registerOf}
 use Rattle.layout.specs.InnerWrites.{withPart}
 use Rattle.layout.specs.Sound.{sound}
@@ -29,8 +30,8 @@ use Rattle.layout.proofs.Numbers.{few}
 use Rattle.layout.proofs.PartBlocks.{few-offs}
 use Rattle.layout.proofs.TableSound.{sound-lays, standard-fits}
 use Rattle.table.specs.Lookup.{indexOf}
-use Rattle.table.proofs.Calls.{call-unsound, gives}
 use Rattle.table.specs.InnerTable.{onPart}
+use Rattle.table.proofs.Calls.{call-unsound, gives}
 use Rattle.table.proofs.OnPart.{part-entered, part-refused, CallOn, on-early, on-missing, on-point}
 use Rattle.status.specs.InnerParts.{statusRowsOf, switchedLists}
 use Rattle.status.specs.Status.{statusCall}
@@ -65,15 +66,15 @@ unfoldable pub statusPart : ℕ → ℕ → List ℤ → Numbers × List ℤ
 statusPart day on p = onPart 0 (statusRowsOf day on) (effectOf day on) p
 
 -- the row that the code finds, and what it leaves of the part
-pub part-done : (day on : ℕ) (p : List ℤ) (r : ℕ) {u : List ℤ} → r ≡ least (statusRowsOf day on (pointFrom p))
-    → u ≡ cond (eqb r 0) (pointNumbers 48 (switchedLists day on (pointFrom p))) p
-    → (pos r ∷ [] ≡ statusPart day on p .0) × (u ≡ statusPart day on p .1)
+pub part-done : (day on : ℕ) (p : List ℤ) (r : ℕ) {u : List ℤ} {b : Bool} → r ≡ least (statusRowsOf day on (pointFrom p))
+    → u ≡ cond (eqb r 0) (pointNumbers 48 (switchedLists day on (pointFrom p))) p → b ≡ refused (pos r ∷ [])
+    → (pos r ∷ [] ≡ statusPart day on p .0) × (u ≡ statusPart day on p .1) × (b ≡ refused (pos r ∷ []))
 unfolding statusPart
-part-done day on p zero e f =
-    let w = gives (part-entered 0 (statusRowsOf day on) (effectOf day on) p (sym e)) in (w .0, f ∙ w .1)
-part-done day on p (suc r) e f =
+part-done day on p zero e f h =
+    let w = gives (part-entered 0 (statusRowsOf day on) (effectOf day on) p (sym e)) in (w .0, f ∙ w .1, h)
+part-done day on p (suc r) e f h =
     let w = gives (part-refused 0 (statusRowsOf day on) (effectOf day on) p r (sym e)) in
-    (w .0, rw (ne-eqb (suc r) 0 (λ (z : suc r ≡ 0). omega arith)) at f ∙ w .1)
+    (w .0, rw (ne-eqb (suc r) 0 (λ (z : suc r ≡ 0). omega arith)) at f ∙ w .1, h)
 
 -- ---- the call
 

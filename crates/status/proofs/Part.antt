@@ -15,10 +15,10 @@ use Rattle.numbers.specs.Search.{maybe}
 use Rattle.daybook.specs.Book.{Entry, lastOf}
 use Rattle.daybook.specs.Notices.{least, cannotOff, cannotOn, statusRows}
 use Rattle.lists.specs.Lists.{Lists}
-use Rattle.lists.proofs.Last.{last-none, last-at, split-last}
 use Rattle.lists.specs.InnerSteps.{lastEnd, offsAfter, withOffs}
-use Rattle.lists.proofs.Rows.{above, least-first, least-skip, least-none}
 use Rattle.lists.specs.InnerWell.{Well}
+use Rattle.lists.proofs.Last.{last-none, last-at, split-last}
+use Rattle.lists.proofs.Rows.{above, least-first, least-skip, least-none}
 use Rattle.layout.specs.Layout.{onNumber, pointNumbers, numAt}
 use Rattle.layout.specs.InnerWrites.{openSpan, closeSpan}
 use Rattle.layout.proofs.Numbers.{few}

@@ -7,10 +7,11 @@ ghost use mathlib.Core.Bool.{true, _&&_, cond};
 ghost use Prim.Native.Nat.{_≤_};
 ghost use lib.Dec.{eqb};
 ghost use lib.ListN.{length};
+ghost use Rattle.numbers.specs.Answers.{refused};
 ghost use Rattle.calendar.specs.Calendar.{isDay};
 ghost use Rattle.daybook.specs.Book.{lastOf};
 ghost use Rattle.daybook.specs.Notices.{least, isMirn, isFlag, cannotOff, cannotOn};
-ghost use Rattle.daybook.specs.Calls.{noticeNumbers};
+ghost use Rattle.daybook.specs.Calls.{noticeNumbers, noticeRefused};
 ghost use Rattle.layout.specs.Layout.{pointNumbers, pointFrom};
 ghost use Rattle.layout.specs.Sound.{partSound};
 ghost use Rattle.status.specs.InnerParts.{filledFrom, cannotSwitch, statusRowsOf, switchedLists};
@@ -116,7 +117,7 @@ fn enter(p: &mut [i64], day: u64, on: u64) -> u64
 
 // On any table and any numbers.
 pub fn status(t: &mut [i64], n: StatusNotice) -> NoticeAnswer
-    ensures { λ r. ⌜ (noticeNumbers r ≡ statusCall (now (t .entry)) n .0) × (now (t .exit) ≡ statusCall (now (t .entry)) n .1) ⌝ }
+    ensures { λ r. ⌜ (noticeNumbers r ≡ statusCall (now (t .entry)) n .0) × (now (t .exit) ≡ statusCall (now (t .entry)) n .1) × (noticeRefused r ≡ refused (noticeNumbers r)) ⌝ }
 {
     if !table::sound(t) {
         return NoticeAnswer::Refused(1);

@@ -1,7 +1,7 @@
 -- A call on the point of a MIRN, on a lent table: sent back it leaves the table, entered it changes that point's part
 -- alone. What a public call's proof cites. Assumes nothing.
 use mathlib.Core.Path.{_≡_, sym, _∙_, ap}
-use mathlib.Core.Bool.{true, false, not, cond}
+use mathlib.Core.Bool.{Bool, true, false, not, cond}
 use mathlib.Core.Option.{some}
 use mathlib.Core.List.{List, [], _∷_, _++_}
 use Prim.Native.Nat.{ℕ, suc}
@@ -10,16 +10,17 @@ use lib.ListN.{drop, replicate}
 use lib.IntN.{ℤ, pos}
 use Rattle.numbers.specs.Naturals.{natOf}
 use Rattle.numbers.specs.Search.{maybe}
+use Rattle.numbers.specs.Answers.{refused}
 use Rattle.daybook.specs.Book.{Book, Edition}
 use Rattle.daybook.specs.Notices.{Row, least, Numbers, decide}
 use Rattle.lists.specs.Lists.{Lists, Register, bookOf}
 use Rattle.lists.specs.InnerSteps.{findLists, withLists, onLists}
-use Rattle.lists.proofs.Rows.{decide-taken, decide-refused}
 use Rattle.lists.specs.InnerWell.{WellFormed}
+use Rattle.lists.proofs.Rows.{decide-taken, decide-refused}
 use Rattle.layout.specs.Layout.{tableLength, partOf, pointNumbers, layout, pointFrom, registerOf, tableBook}
 use Rattle.layout.specs.InnerWrites.{withPart}
 use Rattle.layout.specs.Sound.{sound}
-use Rattle.layout.specs.Calls.{refused, answerAndTable, onTable, ofTable}
+use Rattle.layout.specs.Calls.{answerAndTable, onTable, ofTable}
 use Rattle.layout.proofs.Numbers.{Few}
 use Rattle.layout.proofs.Tables.{written-is}
 use Rattle.table.proofs.Found.{Found}
@@ -39,9 +40,13 @@ module _ {A : Type 0} (refusal : A) (query : Book → A) (ed : Edition) (t : Lis
   unfolding ofTable
   query-sound e = rw e
 
--- the two equations of a call's contract
+-- the equations of a call's contract: what it gives and leaves, and with them which case the answer is
 pub gives : {w : Numbers × List ℤ} {a : Numbers} {u : List ℤ} → w ≡ (a, u) → (a ≡ w .0) × (u ≡ w .1)
 gives e = (ap (λ w. w .0) (sym e), ap (λ w. w .1) (sym e))
+
+pub tells : {w : Numbers × List ℤ} {a : Numbers} {u : List ℤ} {b : Bool} → w ≡ (a, u) → b ≡ refused a
+    → (a ≡ w .0) × (u ≡ w .1) × (b ≡ refused a)
+tells e f = let g = gives e in (g .0, g .1, f)
 
 -- ---- what is left where the lists' step gives w
 

@@ -1,7 +1,7 @@
 -- A call on the point of a MIRN, by what it does to that point's part alone: all that a public call needs which lends
 -- the part on. Assumes nothing.
 use mathlib.Core.Path.{_≡_, refl, sym, _∙_, ap}
-use mathlib.Core.Bool.{true}
+use mathlib.Core.Bool.{Bool, true}
 use mathlib.Core.Option.{Option, none, some}
 use mathlib.Core.List.{List, [], _∷_, _++_}
 use Prim.Native.Nat.{ℕ, zero, suc, _≤_}
@@ -11,6 +11,7 @@ use lib.IntN.{ℤ, pos}
 use borrow.Author.Tests.{lt-ltb}
 use Rattle.numbers.specs.Naturals.{natOf}
 use Rattle.numbers.specs.Search.{maybe}
+use Rattle.numbers.specs.Answers.{refused}
 use Rattle.numbers.proofs.Bools.{join}
 use Rattle.daybook.specs.Book.{Book, standard}
 use Rattle.daybook.specs.Notices.{Row, least, Numbers, decide}
@@ -27,10 +28,10 @@ use Rattle.layout.proofs.Parts.{with-part-own}
 use Rattle.layout.proofs.PartSound.{lays-part}
 use Rattle.layout.proofs.TableSound.{sound-lays, standard-fits}
 use Rattle.table.specs.Lookup.{indexOf}
+use Rattle.table.specs.InnerTable.{onPart}
 use Rattle.table.proofs.Laws.{lent, backIn, part-is, part-put, index-none, index-some}
 use Rattle.table.proofs.Found.{Found, found, missing}
 use Rattle.table.proofs.Calls.{call-refused, call-entered}
-use Rattle.table.specs.InnerTable.{onPart}
 
 -- ---- on the part
 
@@ -166,11 +167,13 @@ module _ {k : ℕ} {m : ℤ} {early : List Row} {rows : Lists → List Row} {eff
 
 -- ---- what a function has to show
 
--- the two equations of a call's contract, where the part of point i was lent to a function that does f
+-- the equations of a call's contract, where the part of point i was lent to a function that does f
 pub answered-at : (t : List ℤ) (i : ℕ) (w : Numbers × List ℤ) (f : List ℤ → Numbers × List ℤ)
     → w ≡ (f (partOf standard t i) .0, withPart standard t i (f (partOf standard t i) .1))
-    → (a : Numbers) (p : List ℤ) → (a ≡ f (lent t i) .0) × (p ≡ f (lent t i) .1) → (a ≡ w .0) × (backIn t i p ≡ w .1)
+    → (a : Numbers) (p : List ℤ) {b : Bool} → (a ≡ f (lent t i) .0) × (p ≡ f (lent t i) .1) × (b ≡ refused a)
+    → (a ≡ w .0) × (backIn t i p ≡ w .1) × (b ≡ refused a)
 answered-at t i w f e a p h = (
   h .0 ∙ ap (λ l. f l .0) (part-is t i) ∙ sym (ap (λ w. w .0) e),
   part-put t i p ∙ ap (withPart standard t i) (h .1 ∙ ap (λ l. f l .1) (part-is t i)) ∙ sym (ap (λ w. w .1) e),
+  h .2,
 )

@@ -1,18 +1,15 @@
 -- Where the point of a MIRN stands in a table, and the numbers that a look-up hands back.
-use mathlib.Core.Bool.{Bool, _&&_, cond}
+use mathlib.Core.Bool.{cond}
 use mathlib.Core.Option.{Option}
 use mathlib.Core.List.{List, []}
 use Prim.Native.Nat.{ℕ}
 use lib.Dec.{eqb}
-use lib.IntN.{ℤ, pos}
-use lib.ListN.{getD, drop}
+use lib.IntN.{ℤ}
 use Rattle.numbers.specs.Naturals.{natOf}
-use Rattle.numbers.specs.Rows.{all}
 use Rattle.numbers.specs.Search.{maybe, firstFrom}
-use Rattle.daybook.specs.Book.{Edition, standard}
-use Rattle.daybook.specs.Notices.{isRange}
-use Rattle.layout.specs.Layout.{tableLength, placeOf, partOf, numAt, pointsFrom}
-use Rattle.layout.specs.Sound.{zeros, partSound, mirnsDiffer, sound}
+use Rattle.daybook.specs.Book.{Edition}
+use Rattle.layout.specs.Layout.{placeOf, partOf, numAt}
+use Rattle.layout.specs.Sound.{sound}
 
 -- The first point, of those in use, whose MIRN is m.
 unfoldable pub indexOf : Edition → List ℤ → ℕ → Option ℕ

@@ -14,8 +14,8 @@ use Rattle.daybook.specs.Book.{Pending}
 use Rattle.daybook.specs.Notices.{least, requestRows, withdrawRows}
 use Rattle.lists.specs.Lists.{Lists}
 use Rattle.lists.specs.InnerSteps.{latestOf, withPendingLists}
-use Rattle.lists.proofs.Registrations.{some-reg}
 use Rattle.lists.specs.InnerWell.{Well}
+use Rattle.lists.proofs.Registrations.{some-reg}
 use Rattle.lists.proofs.Rows.{above, least-first, least-skip}
 use Rattle.layout.specs.Layout.{numAt, pendingFrom, pointFrom, pointNumbers}
 use Rattle.layout.specs.Sound.{partSound}

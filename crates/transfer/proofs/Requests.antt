@@ -14,11 +14,11 @@ use Rattle.calendar.specs.Calendar.{isDay, holidayList, allowablePeriod}
 use Rattle.calendar.proofs.Dates.{within-natural, up-to-natural, day-natural}
 use Rattle.daybook.specs.declared.TransferRequest.{TransferRequest}
 use Rattle.daybook.specs.Notices.{isMirn, isUser, isFlag, least, requestEarly, requestRows, request}
+use Rattle.daybook.specs.Book.{standard}
 use Rattle.lists.specs.InnerSteps.{requestLists}
 use Rattle.lists.proofs.Rows.{above, least-first, least-skip}
 use Rattle.lists.proofs.Bounds.{within-bounds}
 use Rattle.lists.proofs.TransferStep.{request-step, request-keeps}
-use Rattle.daybook.specs.Book.{standard}
 use Rattle.layout.specs.Layout.{partOf}
 use Rattle.layout.specs.InnerWrites.{withPart}
 use Rattle.layout.specs.Sound.{sound}

@@ -13,11 +13,11 @@ use Rattle.numbers.proofs.Bools.{both}
 use Rattle.calendar.proofs.Dates.{within-natural}
 use Rattle.daybook.specs.declared.Withdrawal.{Withdrawal}
 use Rattle.daybook.specs.Notices.{isMirn, isUser, least, withdrawEarly, withdrawRows, withdraw}
+use Rattle.daybook.specs.Book.{standard}
 use Rattle.lists.specs.InnerSteps.{withdrawLists}
 use Rattle.lists.proofs.Rows.{above, least-first, least-skip}
 use Rattle.lists.proofs.Bounds.{within-bounds}
 use Rattle.lists.proofs.TransferStep.{withdraw-step, withdraw-keeps}
-use Rattle.daybook.specs.Book.{standard}
 use Rattle.layout.specs.Layout.{partOf}
 use Rattle.layout.specs.InnerWrites.{withPart}
 use Rattle.layout.specs.Sound.{sound}

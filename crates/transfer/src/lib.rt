@@ -10,9 +10,10 @@ ghost use mathlib.Core.Path.{_≡_};
 ghost use mathlib.Core.Bool.{true, _&&_};
 ghost use Prim.Native.Nat.{_≤_};
 ghost use lib.ListN.{length};
+ghost use Rattle.numbers.specs.Answers.{refused};
 ghost use Rattle.calendar.specs.Calendar.{isDay, allowablePeriod};
 ghost use Rattle.daybook.specs.Notices.{isMirn, isUser, isFlag};
-ghost use Rattle.daybook.specs.Calls.{noticeNumbers, requestNumbers};
+ghost use Rattle.daybook.specs.Calls.{noticeNumbers, noticeRefused, requestNumbers, requestRefused};
 ghost use Rattle.layout.specs.Sound.{partSound};
 ghost use Rattle.transfer.specs.Transfer.{requestCall, withdrawCall};
 ghost use Rattle.transfer.specs.InnerParts.{requestPart, withdrawPart};
@@ -30,7 +31,7 @@ fn withdrawal_in_range(n: Withdrawal) -> bool
 // A request is withdrawn by its own User only.
 fn withdraw_at(p: &mut [i64], user: u64) -> NoticeAnswer
     requires { ⌜ (partSound (now p) ≡ true) × (length (now p) ≡ 240) × (1 ≤ user) ⌝ }
-    ensures { λ r. ⌜ (noticeNumbers r ≡ withdrawPart user (now (p .entry)) .0) × (now (p .exit) ≡ withdrawPart user (now (p .entry)) .1) ⌝ }
+    ensures { λ r. ⌜ (noticeNumbers r ≡ withdrawPart user (now (p .entry)) .0) × (now (p .exit) ≡ withdrawPart user (now (p .entry)) .1) × (noticeRefused r ≡ refused (noticeNumbers r)) ⌝ }
 {
     if numbers::get(p, 7) != user {
         return NoticeAnswer::Refused(11);
@@ -41,7 +42,7 @@ fn withdraw_at(p: &mut [i64], user: u64) -> NoticeAnswer
 
 // The withdraw call.
 pub fn withdraw(t: &mut [i64], n: Withdrawal) -> NoticeAnswer
-    ensures { λ r. ⌜ (noticeNumbers r ≡ withdrawCall (now (t .entry)) n .0) × (now (t .exit) ≡ withdrawCall (now (t .entry)) n .1) ⌝ }
+    ensures { λ r. ⌜ (noticeNumbers r ≡ withdrawCall (now (t .entry)) n .0) × (now (t .exit) ≡ withdrawCall (now (t .entry)) n .1) × (noticeRefused r ≡ refused (noticeNumbers r)) ⌝ }
 {
     if !table::sound(t) {
         return NoticeAnswer::Refused(1);
@@ -85,7 +86,7 @@ fn request_at(
     holidays: &[i64],
 ) -> RequestAnswer
     requires { ⌜ (partSound (now p) ≡ true) × (length (now p) ≡ 240) × (user ≤ 16) × (proposed .0 ≤ 39999) ⌝ }
-    ensures { λ r. ⌜ (requestNumbers r ≡ requestPart user (allowablePeriod (now (holidays .entry)) (proposed .0) nochange) (now (p .entry)) .0) × (now (p .exit) ≡ requestPart user (allowablePeriod (now (holidays .entry)) (proposed .0) nochange) (now (p .entry)) .1) ⌝ }
+    ensures { λ r. ⌜ (requestNumbers r ≡ requestPart user (allowablePeriod (now (holidays .entry)) (proposed .0) nochange) (now (p .entry)) .0) × (now (p .exit) ≡ requestPart user (allowablePeriod (now (holidays .entry)) (proposed .0) nochange) (now (p .entry)) .1) × (requestRefused r ≡ refused (requestNumbers r)) ⌝ }
 {
     if numbers::get(p, 7) != 0 {
         return RequestAnswer::Refused(10);
@@ -107,7 +108,7 @@ fn request_at(
 
 // The request call: its answer is the allowable period.
 pub fn request(t: &mut [i64], n: TransferRequest, holidays: &[i64]) -> RequestAnswer
-    ensures { λ r. ⌜ (requestNumbers r ≡ requestCall (now (t .entry)) n (now (holidays .entry)) .0) × (now (t .exit) ≡ requestCall (now (t .entry)) n (now (holidays .entry)) .1) ⌝ }
+    ensures { λ r. ⌜ (requestNumbers r ≡ requestCall (now (t .entry)) n (now (holidays .entry)) .0) × (now (t .exit) ≡ requestCall (now (t .entry)) n (now (holidays .entry)) .1) × (requestRefused r ≡ refused (requestNumbers r)) ⌝ }
 {
     if !table::sound(t) {
         return RequestAnswer::Refused(1);

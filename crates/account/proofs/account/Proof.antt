@@ -1,4 +1,4 @@
-use mathlib.Core.Path.{_≡_, sym, ap, _∙_}
+use mathlib.Core.Path.{_≡_, refl, sym, ap, _∙_}
 use mathlib.Core.Bool.{true}
 use mathlib.Core.List.{[], _∷_}
 use native.Mathlib.Omega.{arith}
@@ -46,10 +46,10 @@ to-is c =
     ∙ natural-read (query (s .before .before .before) .to) (sfits-of (s .struct-told3 .given .1 .1 .0 .1))
 
 returns : tie.Need-returns
-returns c = unsound-ends _ _ (sym (c .before .sound .ensures) ∙ not-true _ (c .if1 .taken))
+returns c = (unsound-ends _ _ (sym (c .before .sound .ensures) ∙ not-true _ (c .if1 .taken)), refl)
 
 returns-2 : tie.Need-returns-2
-returns-2 c = range-ends _ _ (sound-is (c .before .before)) (sym (c .before .in-range .ensures) ∙ not-true _ (c .if2 .taken))
+returns-2 c = (range-ends _ _ (sound-is (c .before .before)) (sym (c .before .in-range .ensures) ∙ not-true _ (c .if2 .taken)), refl)
 
 table-energy-requires : tie.Need-table-energy-requires
 table-energy-requires c κs =
@@ -59,9 +59,11 @@ table-energy-requires c κs =
 
 returns-3 : tie.Need-returns-3
 returns-3 c =
-    let e = c .before .before .before .before .before .before .before in
-    ap (λ z. pos 0 ∷ z ∷ []) (toZ-ofZ w64 _ (sfits-of (c .table-energy .ok)) ∙ c .table-energy .ensures)
-    ∙ given-ends _ _ (sound-is (e .before .before)) (range-is e) _ _ _ (user-is (c .before .before .before)) (from-is (c .before .before)) (to-is (c .before))
+    let e = c .before .before .before .before .before .before .before in (
+      ap (λ z. pos 0 ∷ z ∷ []) (toZ-ofZ w64 _ (sfits-of (c .table-energy .ok)) ∙ c .table-energy .ensures)
+          ∙ given-ends _ _ (sound-is (e .before .before)) (range-is e) _ _ _ (user-is (c .before .before .before)) (from-is (c .before .before)) (to-is (c .before)),
+      refl,
+    )
 
 pub account-spec : {M : Type 1} → statement M
 account-spec =

@@ -5,8 +5,8 @@ use native.Mathlib.Omega.{arith}
 use lib.ListN.{length}
 use borrow.Author.Needs.{needs, sfits-of}
 use borrow.Author.Tests.{not-true, not-false}
-use Rattle.numbers.proofs.Naturals.{natural-read}
 use Rattle.numbers.specs.Naturals.{natOf}
+use Rattle.numbers.proofs.Naturals.{natural-read}
 use Rattle.daybook.specs.Queries.{allocationInRange, weight, weights, total}
 use Rattle.daybook.specs.Book.{standard}
 use Rattle.layout.specs.Layout.{tableBook}

@@ -7,8 +7,8 @@ use lib.IntN.{pos}
 use mir.ValLaws.{toZ-ofZ}
 use mir.Syntax.{w64}
 use borrow.Author.Needs.{needs, sfits-of}
-use Rattle.numbers.proofs.Naturals.{natural-read}
 use Rattle.numbers.specs.Naturals.{natOf}
+use Rattle.numbers.proofs.Naturals.{natural-read}
 use Rattle.daybook.specs.Queries.{atLeast0, tdmOf, nslOf, split, users}
 use Rattle.daybook.specs.Book.{standard}
 use Rattle.layout.specs.Layout.{tableBook}

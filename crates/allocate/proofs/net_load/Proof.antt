@@ -5,8 +5,8 @@ use lib.IntN.{pos}
 use mir.ValLaws.{toZ-ofZ}
 use mir.Syntax.{w64}
 use borrow.Author.Needs.{needs, sfits-of}
-use Rattle.numbers.proofs.Naturals.{natural-read}
 use Rattle.numbers.specs.Naturals.{natOf}
+use Rattle.numbers.proofs.Naturals.{natural-read}
 use Rattle.daybook.specs.Queries.{atLeast0}
 use Rattle.allocate.specs.InnerParts.{loadOf}
 use Rattle.allocate.proofs.Loads.{net-load, load-natural}

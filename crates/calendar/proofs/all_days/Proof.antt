@@ -6,8 +6,8 @@ use borrow.Author.Needs.{needs}
 use borrow.Author.Tests.{not-true, not-false}
 use lib.IntN.{pos}
 use lib.ListN.{length, getD}
-use Rattle.numbers.proofs.Rows.{all-none, all-more, all-fails, all-done}
 use Rattle.numbers.specs.Rows.{all}
+use Rattle.numbers.proofs.Rows.{all-none, all-more, all-fails, all-done}
 use Rattle.calendar.specs.Calendar.{isDay}
 use Rattle.calendar.proofs.all_days.Statement.{statement}
 use Rattle.calendar.proofs.all_days.Tie as tie

@@ -7,8 +7,8 @@ use borrow.Author.Tests.{not-true, not-false}
 use lib.IntN.{pos}
 use lib.ListN.{length, getD}
 use lib.Signed.{ltZ}
-use Rattle.numbers.proofs.Rows.{all-none, all-more, all-fails, all-done}
 use Rattle.numbers.specs.Rows.{all}
+use Rattle.numbers.proofs.Rows.{all-none, all-more, all-fails, all-done}
 use Rattle.calendar.proofs.ascending.Statement.{statement}
 use Rattle.calendar.proofs.ascending.Tie as tie
 

@@ -1,4 +1,4 @@
-use mathlib.Core.Path.{_≡_, _∙_}
+use mathlib.Core.Path.{_≡_, refl, _∙_}
 use borrow.Author.Needs.{sfits-of, needs}
 use borrow.Author.Tests.{not-true, not-false}
 use Rattle.numbers.specs.Naturals.{natOf}
@@ -25,7 +25,7 @@ day-is c =
 returns : tie.Need-returns
 returns c =
     let n = c .before .before in
-    date-off _ _ _ (year-is (n .before .before)) (month-is (n .before)) (day-is n) (c .before .on-calendar .ensures) (not-true _ (c .if1 .taken))
+    (date-off _ _ _ (year-is (n .before .before)) (month-is (n .before)) (day-is n) (c .before .on-calendar .ensures) (not-true _ (c .if1 .taken)), refl)
 
 day-of-requires : tie.Need-day-of-requires
 day-of-requires c κs = calendar-bound _ _ _ (c .before .on-calendar .ensures) (not-false _ (c .if1 .left))
@@ -34,13 +34,13 @@ returns-2 : tie.Need-returns-2
 returns-2 c =
     let t = c .before .before in
     let n = t .before .before in
-    date-late _ _ _ (year-is (n .before .before)) (month-is (n .before)) (day-is n) (t .before .on-calendar .ensures) (not-false _ (t .if1 .left)) (c .before .day-of .ensures) (c .if2 .taken)
+    (date-late _ _ _ (year-is (n .before .before)) (month-is (n .before)) (day-is n) (t .before .on-calendar .ensures) (not-false _ (t .if1 .left)) (c .before .day-of .ensures) (c .if2 .taken), refl)
 
 returns-3 : tie.Need-returns-3
 returns-3 c =
     let t = c .before .before in
     let n = t .before .before in
-    date-day _ _ _ (year-is (n .before .before)) (month-is (n .before)) (day-is n) (t .before .on-calendar .ensures) (not-false _ (t .if1 .left)) (c .before .day-of .ensures) (c .if2 .left)
+    (date-day _ _ _ (year-is (n .before .before)) (month-is (n .before)) (day-is n) (t .before .on-calendar .ensures) (not-false _ (t .if1 .left)) (c .before .day-of .ensures) (c .if2 .left), refl)
 
 pub date-spec : {M : Type 1} → statement M
 date-spec =

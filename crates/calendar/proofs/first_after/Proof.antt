@@ -3,8 +3,8 @@ use Prim.Native.Nat.{suc, _+_, _≤_, _-_}
 use native.Mathlib.Numerals.{add-one}
 use native.Mathlib.Omega.{arith}
 use borrow.Author.Needs.{needs}
-use Rattle.numbers.proofs.Search.{from-none, from-hit, from-miss}
 use Rattle.numbers.specs.Search.{firstFrom}
+use Rattle.numbers.proofs.Search.{from-none, from-hit, from-miss}
 use Rattle.calendar.specs.Calendar.{businessDay}
 use Rattle.calendar.proofs.first_after.Statement.{statement}
 use Rattle.calendar.proofs.first_after.Tie as tie

@@ -2,8 +2,8 @@ use mathlib.Core.Path.{_≡_, refl, sym, _∙_}
 use Prim.Native.Nat.{_≤_}
 use native.Mathlib.Omega.{arith}
 use borrow.Author.Needs.{needs}
-use Rattle.numbers.proofs.Search.{below-none, below-hit, below-miss}
 use Rattle.numbers.specs.Search.{lastBelow}
+use Rattle.numbers.proofs.Search.{below-none, below-hit, below-miss}
 use Rattle.calendar.specs.Calendar.{businessDay}
 use Rattle.calendar.proofs.last_before.Statement.{statement}
 use Rattle.calendar.proofs.last_before.Tie as tie

@@ -1,5 +1,5 @@
-use Rattle.energy.proofs.Laying.{append-first, append-next}
 use Rattle.point.specs.InnerTests.{dayIf}
+use Rattle.energy.proofs.Laying.{append-first, append-next}
 use mathlib.Core.Path.{_∙_, ap}
 use borrow.Author.Needs.{needs}
 use Rattle.energy.proofs.append_day.Statement.{statement}

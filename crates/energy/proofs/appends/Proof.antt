@@ -1,6 +1,6 @@
+use Rattle.layout.specs.Layout.{pointFrom}
 use Rattle.layout.proofs.Cells.{place-recs}
 use Rattle.energy.proofs.Located.{appends-is}
-use Rattle.layout.specs.Layout.{pointFrom}
 use lib.Dec.{eqb}
 use mathlib.Core.Path.{_∙_, ap₂}
 use borrow.Author.Needs.{needs}

@@ -1,5 +1,5 @@
-use Rattle.energy.proofs.Refusals.{sent-6, sent-7, sent-8, sent-9, sent-16, sent-not, row6-is, row7-is, row8-is, row9-is, row16-is}
 use Rattle.layout.specs.Layout.{pointFrom}
+use Rattle.energy.proofs.Refusals.{sent-6, sent-7, sent-8, sent-9, sent-16, sent-not, row6-is, row7-is, row8-is, row9-is, row16-is}
 use native.Mathlib.Omega.{arith}
 use mathlib.Core.Path.{sym, _∙_}
 use borrow.Author.Needs.{needs}

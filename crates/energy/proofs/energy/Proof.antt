@@ -1,16 +1,16 @@
-use Rattle.table.proofs.Calls.{gives}
-use Rattle.energy.proofs.Call.{energy-unsound, ranges-small, energy-range, energy-missing, lent-laid, energy-point}
-use Rattle.energy.proofs.Raised.{in-range-tells}
-use Rattle.energy.specs.InnerParts.{inRange, energyPart}
-use Rattle.energy.specs.Energy.{energyCall}
+use Rattle.daybook.specs.Book.{standard}
+use Rattle.layout.specs.Sound.{sound}
+use Rattle.table.proofs.Calls.{tells}
 use Rattle.table.proofs.OnPart.{answered-at}
 use Rattle.table.proofs.Laws.{sound-long}
-use Rattle.layout.specs.Sound.{sound}
-use Rattle.daybook.specs.Book.{standard}
+use Rattle.energy.specs.InnerParts.{inRange, energyPart}
+use Rattle.energy.specs.Energy.{energyCall}
+use Rattle.energy.proofs.Call.{energy-unsound, ranges-small, energy-range, energy-missing, lent-laid, energy-point}
+use Rattle.energy.proofs.Raised.{in-range-tells}
 use borrow.Author.Tests.{not-true, not-false}
 use native.Mathlib.Omega.{arith}
 use mathlib.Core.Bool.{true}
-use mathlib.Core.Path.{_≡_, sym, _∙_}
+use mathlib.Core.Path.{_≡_, refl, sym, _∙_}
 use borrow.Author.Needs.{needs}
 use Rattle.energy.proofs.energy.Statement.{statement}
 use Rattle.energy.proofs.energy.Tie as tie
@@ -29,14 +29,14 @@ returns : tie.Need-returns
 returns c =
     let s = c .before .before .before in
     let t = s .args .t .now in
-    gives (energy-unsound t (s .args .n) (sym (c .before .sound .ensures) ∙ not-true _ (c .if1 .taken)))
+    tells (energy-unsound t (s .args .n) (sym (c .before .sound .ensures) ∙ not-true _ (c .if1 .taken))) refl
 
 returns-2 : tie.Need-returns-2
 returns-2 c =
     let r = c .before .before in
     let s = start (r .before) in
     let t = s .args .t .now in
-    gives (energy-range t (s .args .n) (sound-is (r .before)) _ (r .read .ensures) (sym (c .before .in-range .ensures) ∙ not-true _ (c .if2 .taken)))
+    tells (energy-range t (s .args .n) (sound-is (r .before)) _ (r .read .ensures) (sym (c .before .in-range .ensures) ∙ not-true _ (c .if2 .taken))) refl
 
 index-of-requires : tie.Need-index-of-requires
 index-of-requires c κs =
@@ -49,7 +49,7 @@ returns-3 c =
     let r = l .before .before in
     let s = start (r .before) in
     let t = s .args .t .now in
-    gives (energy-missing t (s .args .n) (sound-is (r .before)) _ (r .read .ensures) (in-range-here l) _ (c .before .index-of .ensures .0) (c .if3 .taken))
+    tells (energy-missing t (s .args .n) (sound-is (r .before)) _ (r .read .ensures) (in-range-here l) _ (c .before .index-of .ensures .0) (c .if3 .taken)) refl
 
 get-energy-requires : tie.Need-get-energy-requires
 get-energy-requires c κs =

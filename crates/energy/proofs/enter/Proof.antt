@@ -1,5 +1,7 @@
-use Rattle.energy.proofs.Entered.{refused, may, then-laid, entered}
+use Rattle.numbers.proofs.Answers.{row-refuses}
+use mathlib.Core.Path.{refl}
 use borrow.Author.Needs.{needs}
+use Rattle.energy.proofs.Entered.{refused, may, then-laid, entered}
 use Rattle.energy.proofs.enter.Statement.{statement}
 use Rattle.energy.proofs.enter.Tie as tie
 
@@ -7,7 +9,8 @@ returns : tie.Need-returns
 returns c =
     let k = c .before in
     let s = k .before .before in
-    refused (s .pre .0) (s .args .x) (s .pre .1) (s .args .nondaily) (s .args .daily) _ (k .check .ensures) (c .if1 .taken)
+    let w = refused (s .pre .0) (s .args .x) (s .pre .1) (s .args .nondaily) (s .args .daily) _ (k .check .ensures) (c .if1 .taken) in
+    (w .0, w .1, row-refuses (c .if1 .taken))
 
 enter-record-requires : tie.Need-enter-record-requires
 enter-record-requires c κs =
@@ -29,7 +32,8 @@ returns-2 c =
     let l = r .before .before in
     let k = l .before in
     let s = k .before .before in
-    entered (s .pre .0) (s .args .x) (s .pre .1) (s .args .nondaily) (s .args .daily) _ (k .check .ensures) (l .if1 .left) (r .enter-record .ensures) _ (c .before .settle-request .ensures)
+    let w = entered (s .pre .0) (s .args .x) (s .pre .1) (s .args .nondaily) (s .args .daily) _ (k .check .ensures) (l .if1 .left) (r .enter-record .ensures) _ (c .before .settle-request .ensures) in
+    (w .0, w .1, refl)
 
 pub enter-spec : {M : Type 1} → statement M
 enter-spec =

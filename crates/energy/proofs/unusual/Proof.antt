@@ -1,5 +1,5 @@
-use Rattle.energy.proofs.Refusals.{beyond-first, beyond-second}
 use Rattle.numbers.specs.InnerEnergies.{energyOf}
+use Rattle.energy.proofs.Refusals.{beyond-first, beyond-second}
 use mathlib.Core.Path.{_∙_}
 use borrow.Author.Needs.{needs}
 use Rattle.energy.proofs.unusual.Statement.{statement}

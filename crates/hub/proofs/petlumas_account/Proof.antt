@@ -22,7 +22,7 @@ gave : (c : tie.After-account-numbers) → c .account-numbers .result ≡ bitsOf
 gave c =
     let f = start c .fits in
     c .account-numbers .ensures
-    ∙ ap bitsOf (rw (toZ-ofZ (f .user), toZ-ofZ (f .from), toZ-ofZ (f .to), c .before .before .before .before .table-in .ensures .0) at (c .before .before .account .ensures))
+    ∙ ap bitsOf (rw (toZ-ofZ (f .user), toZ-ofZ (f .from), toZ-ofZ (f .to), c .before .before .before .before .table-in .ensures .0) at (c .before .before .account .ensures .0))
 
 reply-requires : tie.Need-reply-requires
 reply-requires c κs =

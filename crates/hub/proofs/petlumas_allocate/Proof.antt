@@ -1,14 +1,14 @@
 use mathlib.Core.Path.{_≡_, ap, _∙_}
 use mathlib.Core.List.{List}
-use Prim.Native.Nat.{ℕ, _/_}
-use lib.IntN.{ℤ, pos}
-use lib.ListN.{length, getD}
+use Prim.Native.Nat.{_/_}
+use lib.IntN.{ℤ}
+use lib.ListN.{length}
 use mir.Facts.{toZ-ofZ}
 use borrow.Author.Needs.{needs}
 use Rattle.daybook.specs.Notices.{Numbers}
 use Rattle.allocate.specs.Allocate.{allocateCall, placed}
 use Rattle.buffers.specs.InnerBuffers.{bitsOf}
-use Rattle.buffers.specs.Buffers.{tableIn, written}
+use Rattle.buffers.specs.Buffers.{tableIn}
 use Rattle.buffers.proofs.Ends.{first-small, ended}
 use Rattle.hub.proofs.Refusals.{allocate-small}
 use Rattle.hub.proofs.Shares.{call-cut, placed-all, written-where}

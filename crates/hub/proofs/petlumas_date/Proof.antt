@@ -20,7 +20,7 @@ given s = dateCall (s .args .year) (s .args .month) (s .args .day)
 gave : (c : tie.After-date-numbers) → c .date-numbers .result ≡ bitsOf (given (start c))
 gave c =
     let f = start c .fits in
-    c .date-numbers .ensures ∙ ap bitsOf (rw (toZ-ofZ (f .year), toZ-ofZ (f .month), toZ-ofZ (f .day)) at (c .before .date .ensures))
+    c .date-numbers .ensures ∙ ap bitsOf (rw (toZ-ofZ (f .year), toZ-ofZ (f .month), toZ-ofZ (f .day)) at (c .before .date .ensures .0))
 
 reply-requires : tie.Need-reply-requires
 reply-requires c κs =

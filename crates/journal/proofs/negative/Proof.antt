@@ -3,7 +3,6 @@ use mathlib.Core.Path.{ap, _∙_}
 use mathlib.Core.Option.{some}
 use mir.Facts.{toZ-ofZ}
 use native.Mathlib.Omega.{arith}
-use Rattle.journal.specs.Text.{negative}
 use Rattle.journal.proofs.Text.{negative-fits, negative-large}
 use Rattle.journal.proofs.negative.Statement.{statement}
 use Rattle.journal.proofs.negative.Tie as tie

@@ -1,6 +1,5 @@
 use mathlib.Core.Path.{_≡_, sym, _∙_}
 use Prim.Native.Nat.{_≤_, _-_}
-use native.Mathlib.Omega.{arith}
 use lib.ListN.{length, drop}
 use Rattle.journal.specs.Names.{sameBytes}
 use Rattle.journal.proofs.Names.{lengths-differ, bytes-more, bytes-differ, bytes-end}

@@ -1,4 +1,4 @@
-use mathlib.Core.Path.{_≡_, sym, _∙_, ap₂}
+use mathlib.Core.Path.{_≡_, refl, sym, _∙_, ap₂}
 use mathlib.Core.Bool.{true, _&&_}
 use Prim.Native.Nat.{_≤_}
 use native.Mathlib.Omega.{arith}
@@ -11,14 +11,14 @@ use Rattle.numbers.proofs.Bools.{both}
 use Rattle.daybook.specs.Notices.{isRange}
 use Rattle.layout.specs.InnerWrites.{cleared}
 use Rattle.table.proofs.Laws.{range-is}
-use Rattle.table.proofs.Calls.{gives}
+use Rattle.table.proofs.Calls.{gives, tells}
 use Rattle.opening.proofs.CallNumbers.{bias-back, raised-small}
 use Rattle.opening.proofs.FreshCall.{fresh-short, fresh-out, fresh-entered}
 use Rattle.opening.proofs.fresh.Statement.{statement}
 use Rattle.opening.proofs.fresh.Tie as tie
 
 returns : tie.Need-returns
-returns c = gives (fresh-short (c .before .args .t .now) (c .before .args .n) (c .if1 .taken))
+returns c = tells (fresh-short (c .before .args .t .now) (c .before .args .n) (c .if1 .taken)) refl
 
 nondaily-is : (c : tie.After-bias) → c .bias .result ≡ biasOf (c .before .before .before .before .args .n .nondaily)
 nondaily-is c =
@@ -40,7 +40,7 @@ tested c =
 returns-2 : tie.Need-returns-2
 returns-2 c =
     let r = c .before .before .before .before .before .before .before in
-    gives (fresh-out (r .before .args .t .now) (r .before .args .n) (r .if1 .left) (sym (tested (c .before)) ∙ not-true _ (c .if2 .taken)))
+    tells (fresh-out (r .before .args .t .now) (r .before .args .n) (r .if1 .left) (sym (tested (c .before)) ∙ not-true _ (c .if2 .taken))) refl
 
 small : (c : tie.After-is-range2) → (c .before .is-range .result && c .is-range2 .result) ≡ true
     → (c .before .before .before .bias .result ≤ 2000000) × (c .before .before .bias2 .result ≤ 2000000)
@@ -67,6 +67,7 @@ returns-3 c =
       c .before .empty .ensures
           ∙ ap₂ (λ x y. set (set (cleared t 0 7688) 1 x) 2 y) (bias-back (n .nondaily) (nondaily-is (b .before)) (small i e .0)) (bias-back (n .daily) (daily-is b) (small i e .1))
           ∙ w .1,
+      refl,
     )
 
 pub fresh-spec : {M : Type 1} → statement M

@@ -1,4 +1,4 @@
-use mathlib.Core.Path.{_≡_, sym, _∙_, ap}
+use mathlib.Core.Path.{_≡_, refl, sym, _∙_, ap}
 use mathlib.Core.Bool.{true}
 use native.Mathlib.Omega.{arith}
 use borrow.Author.Needs.{needs, sfits-of}
@@ -7,13 +7,13 @@ use Rattle.numbers.specs.Naturals.{natOf}
 use Rattle.numbers.specs.Search.{maybe}
 use Rattle.numbers.proofs.Naturals.{natural-read}
 use Rattle.daybook.specs.Notices.{factsOf}
-use Rattle.lists.proofs.OpenStep.{facts-ok}
 use Rattle.daybook.specs.Book.{standard}
+use Rattle.lists.proofs.OpenStep.{facts-ok}
 use Rattle.layout.specs.Sound.{sound}
 use Rattle.layout.specs.InnerWrites.{appendPoint}
 use Rattle.table.specs.Lookup.{indexOf}
 use Rattle.table.proofs.Laws.{sound-long}
-use Rattle.table.proofs.Calls.{gives}
+use Rattle.table.proofs.Calls.{gives, tells}
 use Rattle.opening.proofs.OpenCall.{ranged, open-unsound, open-out, open-known, open-full, open-entered, clear}
 use Rattle.opening.proofs.open.Statement.{statement}
 use Rattle.opening.proofs.open.Tie as tie
@@ -21,7 +21,7 @@ use Rattle.opening.proofs.open.Tie as tie
 returns : tie.Need-returns
 returns c =
     let s = c .before .before .before .args in
-    gives (open-unsound (s .t .now) (s .n) (sym (c .before .sound .ensures) ∙ not-true _ (c .if1 .taken)))
+    tells (open-unsound (s .t .now) (s .n) (sym (c .before .sound .ensures) ∙ not-true _ (c .if1 .taken))) refl
 
 -- ---- what is known after each test
 
@@ -31,7 +31,7 @@ is-sound c = sym (c .before .before .sound .ensures) ∙ not-false _ (c .before 
 returns-2 : tie.Need-returns-2
 returns-2 c =
     let s = c .before .before .before .before .before .args in
-    gives (open-out (s .t .now) (s .n) (is-sound (c .before)) (sym (c .before .in-range .ensures) ∙ not-true _ (c .if2 .taken)))
+    tells (open-out (s .t .now) (s .n) (is-sound (c .before)) (sym (c .before .in-range .ensures) ∙ not-true _ (c .if2 .taken))) refl
 
 is-ranged : (c : tie.After-natural) → ranged (c .before .before .before .before .before .before .before .args .n) ≡ true
 is-ranged c = sym (c .before .before .before .in-range .ensures) ∙ not-false _ (c .before .before .if2 .left)
@@ -54,7 +54,7 @@ returns-3 c =
     let m = c .before .before .before in
     let r = m .before .before .before in
     let s = r .before .before .before .before .args in
-    gives (open-known (s .t .now) (s .n) (is-sound r) (is-ranged m) _ (index-is (c .before)) (c .if3 .taken))
+    tells (open-known (s .t .now) (s .n) (is-sound r) (is-ranged m) _ (index-is (c .before)) (c .if3 .taken)) refl
 
 get-requires : tie.Need-get-requires
 get-requires c κs =
@@ -67,7 +67,7 @@ returns-4 c =
     let m = i .before .before in
     let r = m .before .before .before in
     let s = r .before .before .before .before .args in
-    gives (open-full (s .t .now) (s .n) (is-sound r) (is-ranged m) _ (index-is i) (c .before .before .before .if3 .left) (omega (arith, c .before .get .ensures .0)))
+    tells (open-full (s .t .now) (s .n) (is-sound r) (is-ranged m) _ (index-is i) (c .before .before .before .if3 .left) (omega (arith, c .before .get .ensures .0))) refl
 
 append-point-requires : tie.Need-append-point-requires
 append-point-requires c κs =
@@ -87,7 +87,7 @@ returns-5 c =
     let r = m .before .before .before in
     let s = r .before .before .before .before .args in
     let e = gives (open-entered (s .t .now) (s .n) (is-sound r) (is-ranged m) _ (index-is i) (g .before .before .if3 .left) (omega (arith, g .get .ensures .0))) in
-    (e .0, c .before .append-point .ensures ∙ ap (λ k. appendPoint standard (s .t .now) k (factsOf (s .n)) (natOf (s .n .user))) (g .get .ensures .0) ∙ e .1)
+    (e .0, c .before .append-point .ensures ∙ ap (λ k. appendPoint standard (s .t .now) k (factsOf (s .n)) (natOf (s .n .user))) (g .get .ensures .0) ∙ e .1, refl)
 
 pub open-spec : {M : Type 1} → statement M
 open-spec =

@@ -3,8 +3,8 @@ use native.Mathlib.Omega.{arith}
 use borrow.Author.Tests.{ne-eqb}
 use mir.Syntax.{w64}
 use mir.Val.{toZ, ofZ}
-use Rattle.daybook.specs.Calls.{accountNumbers}
 use Rattle.daybook.specs.declared.AccountQuery.{AccountQuery}
+use Rattle.daybook.specs.Calls.{accountNumbers}
 use Rattle.account.specs.Account.{accountCall}
 use Rattle.answers.proofs.Lines.{nothing, called}
 use Rattle.queries.specs.Lines.{accountLine}
@@ -23,14 +23,14 @@ returns-2 c =
     let p = c .before .before .signed-row in
     let x = c .before .before .before .before .before .before .sum .given .0 .0 in
     let back : toZ w64 (ofZ w64 x) ≡ x = search needs in
-    called (λ (n : AccountQuery). (accountCall (s .args .t .now) n, s .args .t .now)) 3 (s .args .nums .now) _ (c .before .before .before .before .before .before .before .before .before .before .if1 .left) (c .before .before .before .before .before .before .before .before .before .to-account .ensures) refl (sym (ap accountNumbers (c .before .before .before .before .before .before .sum .given .1)) ∙ c .before .before .before .before .before .before .before .before .account .ensures) (omega (arith, p .ensures .0)) (rw back at (p .ensures .1))
+    called (λ (n : AccountQuery). (accountCall (s .args .t .now) n, s .args .t .now)) 3 (s .args .nums .now) _ (c .before .before .before .before .before .before .before .before .before .before .if1 .left) (c .before .before .before .before .before .before .before .before .before .to-account .ensures) refl (sym (ap accountNumbers (c .before .before .before .before .before .before .sum .given .1)) ∙ c .before .before .before .before .before .before .before .before .account .ensures .0) (omega (arith, p .ensures .0)) (rw back at (p .ensures .1))
 
 returns-3 : tie.Need-returns-3
 unfolding accountLine
 returns-3 c =
     let s = c .before .before .before .before .before .before .before .before .before .before .before .before in
     let p = c .before .before .row in
-    called (λ (n : AccountQuery). (accountCall (s .args .t .now) n, s .args .t .now)) 3 (s .args .nums .now) _ (c .before .before .before .before .before .before .before .before .before .before .if1 .left) (c .before .before .before .before .before .before .before .before .before .to-account .ensures) refl (sym (ap accountNumbers (c .before .before .before .before .before .before .r .given .1)) ∙ c .before .before .before .before .before .before .before .before .account .ensures) (omega (arith, p .ensures .0)) (p .ensures .1)
+    called (λ (n : AccountQuery). (accountCall (s .args .t .now) n, s .args .t .now)) 3 (s .args .nums .now) _ (c .before .before .before .before .before .before .before .before .before .before .if1 .left) (c .before .before .before .before .before .before .before .before .before .to-account .ensures) refl (sym (ap accountNumbers (c .before .before .before .before .before .before .r .given .1)) ∙ c .before .before .before .before .before .before .before .before .account .ensures .0) (omega (arith, p .ensures .0)) (p .ensures .1)
 
 pub account-spec : {M : Type 1} → statement M
 account-spec =

@@ -1,10 +1,10 @@
 use mathlib.Core.Path.{refl, sym, ap, _∙_}
 use native.Mathlib.Omega.{arith}
 use borrow.Author.Tests.{ne-eqb}
-use Rattle.calendar.specs.Calendar.{dateNumbers, dateCall}
 use Rattle.calendar.specs.declared.YearMonthDay.{YearMonthDay}
-use Rattle.queries.specs.Lines.{dateLine}
+use Rattle.calendar.specs.Calendar.{dateNumbers, dateCall}
 use Rattle.answers.proofs.Lines.{nothing, called}
+use Rattle.queries.specs.Lines.{dateLine}
 use borrow.Author.Needs.{needs}
 use Rattle.queries.proofs.date.Statement.{statement}
 use Rattle.queries.proofs.date.Tie as tie
@@ -18,14 +18,14 @@ unfolding dateLine
 returns-2 c =
     let s = c .before .before .before .before .before .before .before .before .before .before .before .before in
     let p = c .before .before .row in
-    called (λ (d : YearMonthDay). (dateCall (d .year) (d .month) (d .day), s .args .t .now)) 3 (s .args .nums .now) _ (c .before .before .before .before .before .before .before .before .before .before .if1 .left) (c .before .before .before .before .before .before .before .before .before .to-date .ensures) refl (sym (ap dateNumbers (c .before .before .before .before .before .before .day .given .1)) ∙ c .before .before .before .before .before .before .before .before .date .ensures) (omega (arith, p .ensures .0)) (p .ensures .1)
+    called (λ (d : YearMonthDay). (dateCall (d .year) (d .month) (d .day), s .args .t .now)) 3 (s .args .nums .now) _ (c .before .before .before .before .before .before .before .before .before .before .if1 .left) (c .before .before .before .before .before .before .before .before .before .to-date .ensures) refl (sym (ap dateNumbers (c .before .before .before .before .before .before .day .given .1)) ∙ c .before .before .before .before .before .before .before .before .date .ensures .0) (omega (arith, p .ensures .0)) (p .ensures .1)
 
 returns-3 : tie.Need-returns-3
 unfolding dateLine
 returns-3 c =
     let s = c .before .before .before .before .before .before .before .before .before .before .before .before in
     let p = c .before .before .row2 in
-    called (λ (d : YearMonthDay). (dateCall (d .year) (d .month) (d .day), s .args .t .now)) 3 (s .args .nums .now) _ (c .before .before .before .before .before .before .before .before .before .before .if1 .left) (c .before .before .before .before .before .before .before .before .before .to-date .ensures) refl (sym (ap dateNumbers (c .before .before .before .before .before .before .r .given .1)) ∙ c .before .before .before .before .before .before .before .before .date .ensures) (omega (arith, p .ensures .0)) (p .ensures .1)
+    called (λ (d : YearMonthDay). (dateCall (d .year) (d .month) (d .day), s .args .t .now)) 3 (s .args .nums .now) _ (c .before .before .before .before .before .before .before .before .before .before .if1 .left) (c .before .before .before .before .before .before .before .before .before .to-date .ensures) refl (sym (ap dateNumbers (c .before .before .before .before .before .before .r .given .1)) ∙ c .before .before .before .before .before .before .before .before .date .ensures .0) (omega (arith, p .ensures .0)) (p .ensures .1)
 
 pub date-spec : {M : Type 1} → statement M
 date-spec =

@@ -4,8 +4,8 @@ use lib.IntN.{pos}
 use lib.ListN.{getD}
 use mir.Facts.{toZ-ofZ}
 use mir.Syntax.{w64}
-use Rattle.queries.specs.Lines.{lookLine}
 use Rattle.answers.proofs.Lines.{nothing}
+use Rattle.queries.specs.Lines.{lookLine}
 use Rattle.queries.proofs.Lines.{looked}
 use borrow.Author.Needs.{needs}
 use Rattle.queries.proofs.look.Statement.{statement}

@@ -1,8 +1,8 @@
 use mathlib.Core.Path.{refl}
 use native.Mathlib.Omega.{arith}
 use borrow.Author.Tests.{ne-eqb}
-use Rattle.queries.specs.Lines.{tableLine}
 use Rattle.answers.proofs.Lines.{nothing}
+use Rattle.queries.specs.Lines.{tableLine}
 use Rattle.queries.proofs.Lines.{tabled}
 use borrow.Author.Needs.{needs}
 use Rattle.queries.proofs.table.Statement.{statement}

@@ -2,8 +2,8 @@ use Prim.Native.Nat.{_-_}
 use mathlib.Core.Path.{_≡_, sym, ap₂, _∙_}
 use native.Mathlib.Omega.{arith}
 use lib.IntN.{pos}
-use Rattle.readings.specs.InnerReadings.{daysPassed}
 use Rattle.point.specs.InnerTests.{recRow}
+use Rattle.readings.specs.InnerReadings.{daysPassed}
 use Rattle.readings.specs.InnerRecords.{dayCount}
 use Rattle.readings.proofs.Part.{part-counted, RecordOk, record-ok}
 use Rattle.readings.proofs.Records.{before-up, before-apart, part-none}

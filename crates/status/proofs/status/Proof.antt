@@ -1,4 +1,4 @@
-use mathlib.Core.Path.{_≡_, sym, ap, _∙_}
+use mathlib.Core.Path.{_≡_, refl, sym, ap, _∙_}
 use mathlib.Core.Bool.{true}
 use mathlib.Core.List.{[], _∷_}
 use native.Mathlib.Omega.{arith}
@@ -8,13 +8,14 @@ use borrow.Author.Tests.{not-true, not-false}
 use Rattle.numbers.specs.Naturals.{natOf}
 use Rattle.numbers.specs.Search.{maybe}
 use Rattle.numbers.proofs.Naturals.{natural-read}
+use Rattle.numbers.proofs.Answers.{row-refuses}
 use Rattle.daybook.specs.Book.{standard}
 use Rattle.layout.specs.Layout.{partOf}
 use Rattle.layout.specs.InnerWrites.{withPart}
 use Rattle.layout.specs.Sound.{sound}
 use Rattle.table.specs.Lookup.{indexOf}
 use Rattle.table.proofs.Laws.{lent, sound-long}
-use Rattle.table.proofs.Calls.{gives}
+use Rattle.table.proofs.Calls.{tells}
 use Rattle.table.proofs.OnPart.{lent-sound, answered-at}
 use Rattle.status.specs.Status.{statusCall}
 use Rattle.status.proofs.Call.{inRange, range-bounds, statusPart, part-done, status-unsound, status-range, status-missing, status-point}
@@ -78,13 +79,13 @@ point-is c =
 returns : tie.Need-returns
 returns c =
     let s = c .before .before .before in
-    gives (status-unsound (s .args .t .now) (s .args .n) (sym (c .before .sound .ensures) ∙ not-true _ (c .if1 .taken)))
+    tells (status-unsound (s .args .t .now) (s .args .n) (sym (c .before .sound .ensures) ∙ not-true _ (c .if1 .taken))) refl
 
 returns-2 : tie.Need-returns-2
 returns-2 c =
     let e = c .before .before in
     let s = sounds e in
-    gives (status-range (s .args .t .now) (s .args .n) (sound-is e) (sym (c .before .in-range .ensures) ∙ not-true _ (c .if2 .taken)))
+    tells (status-range (s .args .t .now) (s .args .n) (sound-is e) (sym (c .before .in-range .ensures) ∙ not-true _ (c .if2 .taken))) refl
 
 index-of-requires : tie.Need-index-of-requires
 index-of-requires c κs =
@@ -95,7 +96,7 @@ returns-3 : tie.Need-returns-3
 returns-3 c =
     let r = tests (c .before) in
     let s = ranges r in
-    gives (status-missing (s .args .t .now) (s .args .n) (sound-is (r .before .before)) (range-is r) _ (index-is (c .before)) (c .if3 .taken))
+    tells (status-missing (s .args .t .now) (s .args .n) (sound-is (r .before .before)) (range-is r) _ (index-is (c .before)) (c .if3 .taken)) refl
 
 part-enter-end : tie.Need-part-enter-end
 part-enter-end c =
@@ -121,8 +122,8 @@ returns-4 c =
     let d = u .before .natural2 .result in
     let o = u .natural3 .result in
     let w = answered-at (s .args .t .now) (i .index-of .result) (statusCall (s .args .t .now) (s .args .n)) (statusPart d o) (point-is u) _ _
-    (part-done d o (lent (s .args .t .now) (i .index-of .result)) (e .enter .result) (e .enter .ensures .0) (e .enter .ensures .1)) in
-    (ap (λ r. pos r ∷ []) (sym (c .if4 .taken)) ∙ w .0, w .1)
+    (part-done d o (lent (s .args .t .now) (i .index-of .result)) (e .enter .result) (e .enter .ensures .0) (e .enter .ensures .1) refl) in
+    (ap (λ r. pos r ∷ []) (sym (c .if4 .taken)) ∙ w .0, w .1, refl)
 
 returns-5 : tie.Need-returns-5
 returns-5 c =
@@ -133,7 +134,7 @@ returns-5 c =
     let d = u .before .natural2 .result in
     let o = u .natural3 .result in
     answered-at (s .args .t .now) (i .index-of .result) (statusCall (s .args .t .now) (s .args .n)) (statusPart d o) (point-is u) _ _
-    (part-done d o (lent (s .args .t .now) (i .index-of .result)) (e .enter .result) (e .enter .ensures .0) (e .enter .ensures .1))
+    (part-done d o (lent (s .args .t .now) (i .index-of .result)) (e .enter .result) (e .enter .ensures .0) (e .enter .ensures .1) (row-refuses (c .if4 .left)))
 
 pub status-spec : {M : Type 1} → statement M
 status-spec =

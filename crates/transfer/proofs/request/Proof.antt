@@ -1,4 +1,4 @@
-use mathlib.Core.Path.{_≡_, sym, ap, _∙_}
+use mathlib.Core.Path.{_≡_, refl, sym, ap, _∙_}
 use mathlib.Core.Bool.{true}
 use native.Mathlib.Omega.{arith}
 use borrow.Author.Tests.{not-true, not-false}
@@ -10,7 +10,7 @@ use Rattle.calendar.specs.Calendar.{holidayList, allowablePeriod}
 use Rattle.daybook.specs.Book.{standard}
 use Rattle.layout.specs.Sound.{sound}
 use Rattle.table.specs.Lookup.{indexOf}
-use Rattle.table.proofs.Calls.{gives}
+use Rattle.table.proofs.Calls.{tells}
 use Rattle.table.proofs.Laws.{sound-long}
 use Rattle.table.proofs.OnPart.{lent-sound, answered-at}
 use Rattle.transfer.specs.Transfer.{requestCall}
@@ -75,7 +75,7 @@ returns c =
     let s = c .before .before .before in
     let t = s .args .t .now in
     let d = s .args .holidays .now in
-    gives (request-unsound t (s .args .n) d (sym (c .before .sound .ensures) ∙ not-true _ (c .if1 .taken)))
+    tells (request-unsound t (s .args .n) d (sym (c .before .sound .ensures) ∙ not-true _ (c .if1 .taken))) refl
 
 returns-2 : tie.Need-returns-2
 returns-2 c =
@@ -83,7 +83,7 @@ returns-2 c =
     let s = sounds e in
     let t = s .args .t .now in
     let d = s .args .holidays .now in
-    gives (request-range t (s .args .n) d (sound-is e) (sym (c .before .request-in-range .ensures) ∙ not-true _ (c .if2 .taken)))
+    tells (request-range t (s .args .n) d (sound-is e) (sym (c .before .request-in-range .ensures) ∙ not-true _ (c .if2 .taken))) refl
 
 returns-3 : tie.Need-returns-3
 returns-3 c =
@@ -91,7 +91,7 @@ returns-3 c =
     let s = ranges r in
     let t = s .args .t .now in
     let d = s .args .holidays .now in
-    gives (request-holidays t (s .args .n) d (sound-is (r .before .before)) (range-is r) (sym (c .before .holiday-list .ensures) ∙ not-true _ (c .if3 .taken)))
+    tells (request-holidays t (s .args .n) d (sound-is (r .before .before)) (range-is r) (sym (c .before .holiday-list .ensures) ∙ not-true _ (c .if3 .taken))) refl
 
 index-of-requires : tie.Need-index-of-requires
 index-of-requires c κs =
@@ -105,7 +105,7 @@ returns-4 c =
     let s = lists h in
     let t = s .args .t .now in
     let d = s .args .holidays .now in
-    gives (request-missing t (s .args .n) d (sound-is (r .before .before)) (range-is r) (holidays-is h) _ (index-is (c .before)) (c .if4 .taken))
+    tells (request-missing t (s .args .n) d (sound-is (r .before .before)) (range-is r) (holidays-is h) _ (index-is (c .before)) (c .if4 .taken)) refl
 
 part-request-at-end : tie.Need-part-request-at-end
 part-request-at-end c =

@@ -1,11 +1,11 @@
-use mathlib.Core.Path.{_≡_, sym, ap, _∙_}
+use mathlib.Core.Path.{_≡_, refl, sym, ap, _∙_}
 use Prim.Native.Nat.{_+_, _*_}
 use native.Mathlib.Omega.{arith}
 use borrow.Author.Needs.{needs}
 use Rattle.calendar.specs.Calendar.{allowablePeriod, periodDays}
 use Rattle.calendar.proofs.Business.{period-bound}
 use Rattle.layout.specs.Layout.{numAt}
-use Rattle.table.proofs.Calls.{gives}
+use Rattle.table.proofs.Calls.{gives, tells}
 use Rattle.transfer.proofs.Points.{registrations-count, request-waiting, request-same, request-outside, request-full, request-entered}
 use Rattle.transfer.proofs.request_at.Statement.{statement}
 use Rattle.transfer.proofs.request_at.Tie as tie
@@ -27,7 +27,7 @@ returns c =
     let s = c .before .before .before in
     let p = s .args .p .now in
     let d = allowablePeriod (s .args .holidays .now) (s .args .proposed .0) (s .args .nochange) in
-    gives (request-waiting p (s .pre .0) (s .pre .1) (s .args .user) d (λ e. c .if1 .taken (c .before .get .ensures .0 ∙ e)))
+    tells (request-waiting p (s .pre .0) (s .pre .1) (s .args .user) d (λ e. c .if1 .taken (c .before .get .ensures .0 ∙ e))) refl
 
 mul-get : tie.Need-mul-get
 mul-get c =
@@ -50,7 +50,7 @@ returns-2 c =
     let s = e .before .before .before in
     let p = s .args .p .now in
     let d = allowablePeriod (s .args .holidays .now) (s .args .proposed .0) (s .args .nochange) in
-    gives (request-same p (s .pre .0) (s .pre .1) (s .args .user) d (idle-is e) (sym (latest-is (c .before)) ∙ c .if2 .taken))
+    tells (request-same p (s .pre .0) (s .pre .1) (s .args .user) d (idle-is e) (sym (latest-is (c .before)) ∙ c .if2 .taken)) refl
 
 returns-3 : tie.Need-returns-3
 returns-3 c =
@@ -60,8 +60,8 @@ returns-3 c =
     let s = e .before .before .before in
     let p = s .args .p .now in
     let d = allowablePeriod (s .args .holidays .now) (s .args .proposed .0) (s .args .nochange) in
-    gives (request-outside p (s .pre .0) (s .pre .1) (s .args .user) d (idle-is e) (λ h. a .before .if2 .left (latest-is g ∙ h))
-    (sym (a .allowable-period .ensures) ∙ ap periodDays (c .enum-told .given .1)))
+    tells (request-outside p (s .pre .0) (s .pre .1) (s .args .user) d (idle-is e) (λ h. a .before .if2 .left (latest-is g ∙ h))
+    (sym (a .allowable-period .ensures) ∙ ap periodDays (c .enum-told .given .1))) refl
 
 returns-4 : tie.Need-returns-4
 returns-4 c =
@@ -72,8 +72,8 @@ returns-4 c =
     let s = e .before .before .before in
     let p = s .args .p .now in
     let d = allowablePeriod (s .args .holidays .now) (s .args .proposed .0) (s .args .nochange) in
-    gives (request-full p (s .pre .0) (s .pre .1) (s .args .user) d (idle-is e) (λ h. a .before .if2 .left (latest-is g ∙ h)) _ _
-    (sym (a .allowable-period .ensures) ∙ ap periodDays (f .period .given .1)) (omega (arith, count-is (g .before .before), c .if3 .taken)))
+    tells (request-full p (s .pre .0) (s .pre .1) (s .args .user) d (idle-is e) (λ h. a .before .if2 .left (latest-is g ∙ h)) _ _
+    (sym (a .allowable-period .ensures) ∙ ap periodDays (f .period .given .1)) (omega (arith, count-is (g .before .before), c .if3 .taken))) refl
 
 set-pending-requires : tie.Need-set-pending-requires
 set-pending-requires c κs =
@@ -95,7 +95,7 @@ returns-5 c =
     let d = allowablePeriod (s .args .holidays .now) (s .args .proposed .0) (s .args .nochange) in
     let w = gives (request-entered p (s .pre .0) (s .pre .1) (s .args .user) d (idle-is e) (λ h. a .before .if2 .left (latest-is g ∙ h)) _ _
     (sym (a .allowable-period .ensures) ∙ ap periodDays (f .period .given .1)) (omega (arith, count-is (g .before .before), k .if3 .left))) in
-    (w .0, c .before .set-pending .ensures ∙ w .1)
+    (w .0, c .before .set-pending .ensures ∙ w .1, refl)
 
 pub request-at-spec : {M : Type 1} → statement M
 request-at-spec =

@@ -1,4 +1,4 @@
-use mathlib.Core.Path.{_≡_, sym, ap, _∙_}
+use mathlib.Core.Path.{_≡_, refl, sym, ap, _∙_}
 use mathlib.Core.Bool.{true}
 use native.Mathlib.Omega.{arith}
 use borrow.Author.Tests.{not-true, not-false}
@@ -9,7 +9,7 @@ use Rattle.numbers.proofs.Naturals.{natural-read}
 use Rattle.daybook.specs.Book.{standard}
 use Rattle.layout.specs.Sound.{sound}
 use Rattle.table.specs.Lookup.{indexOf}
-use Rattle.table.proofs.Calls.{gives}
+use Rattle.table.proofs.Calls.{tells}
 use Rattle.table.proofs.Laws.{sound-long}
 use Rattle.table.proofs.OnPart.{lent-sound, answered-at}
 use Rattle.transfer.specs.Transfer.{withdrawCall}
@@ -56,14 +56,14 @@ returns : tie.Need-returns
 returns c =
     let s = c .before .before .before in
     let t = s .args .t .now in
-    gives (withdraw-unsound t (s .args .n) (sym (c .before .sound .ensures) ∙ not-true _ (c .if1 .taken)))
+    tells (withdraw-unsound t (s .args .n) (sym (c .before .sound .ensures) ∙ not-true _ (c .if1 .taken))) refl
 
 returns-2 : tie.Need-returns-2
 returns-2 c =
     let e = c .before .before in
     let s = sounds e in
     let t = s .args .t .now in
-    gives (withdraw-range t (s .args .n) (sound-is e) (sym (c .before .withdrawal-in-range .ensures) ∙ not-true _ (c .if2 .taken)))
+    tells (withdraw-range t (s .args .n) (sound-is e) (sym (c .before .withdrawal-in-range .ensures) ∙ not-true _ (c .if2 .taken))) refl
 
 index-of-requires : tie.Need-index-of-requires
 index-of-requires c κs =
@@ -75,7 +75,7 @@ returns-3 c =
     let r = tests (c .before) in
     let s = ranges r in
     let t = s .args .t .now in
-    gives (withdraw-missing t (s .args .n) (sound-is (r .before .before)) (range-is r) _ (index-is (c .before)) (c .if3 .taken))
+    tells (withdraw-missing t (s .args .n) (sound-is (r .before .before)) (range-is r) _ (index-is (c .before)) (c .if3 .taken)) refl
 
 part-withdraw-at-end : tie.Need-part-withdraw-at-end
 part-withdraw-at-end c =

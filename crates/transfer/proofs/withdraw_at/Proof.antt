@@ -1,6 +1,6 @@
-use mathlib.Core.Path.{sym, _∙_}
+use mathlib.Core.Path.{refl, sym, _∙_}
 use borrow.Author.Needs.{needs}
-use Rattle.table.proofs.Calls.{gives}
+use Rattle.table.proofs.Calls.{gives, tells}
 use Rattle.transfer.proofs.Points.{withdraw-other, withdraw-own}
 use Rattle.transfer.proofs.withdraw_at.Statement.{statement}
 use Rattle.transfer.proofs.withdraw_at.Tie as tie
@@ -10,7 +10,7 @@ returns c =
     let s = c .before .before .before in
     let p = s .args .p .now in
     let u = s .args .user in
-    gives (withdraw-other p u (s .pre .2) (λ e. c .if1 .taken (c .before .get .ensures .0 ∙ e)))
+    tells (withdraw-other p u (s .pre .2) (λ e. c .if1 .taken (c .before .get .ensures .0 ∙ e))) refl
 
 returns-2 : tie.Need-returns-2
 returns-2 c =
@@ -19,7 +19,7 @@ returns-2 c =
     let p = s .args .p .now in
     let u = s .args .user in
     let w = gives (withdraw-own p u (s .pre .2) (s .pre .0) (s .pre .1) (sym (g .before .get .ensures .0) ∙ g .if1 .left)) in
-    (w .0, c .before .clear-pending .ensures ∙ w .1)
+    (w .0, c .before .clear-pending .ensures ∙ w .1, refl)
 
 pub withdraw-at-spec : {M : Type 1} → statement M
 withdraw-at-spec =
