@@ -63,12 +63,12 @@ module _ (ns answer : List ℕ) where
 
 -- ---- the end of a call
 
-module _ (w : Numbers × List ℤ) (buffer answer answer′ : List ℕ) (r : ℕ) (e : (pos r, answer′) ≡ replied (w .0) answer) where
-  pub written-none : (r ≡ 0 → ⊥) → (z : ℤ) → z ≡ pos r → (z, (buffer, answer′)) ≡ written w buffer answer
+module _ (w : Numbers × List ℤ) (buffer answer answer′ : List ℕ) (r : ℕ) (e : (pos r, answer′) ≡ replied (w .0) answer) (z : ℤ) (f : z ≡ pos r) where
+  pub written-none : (r ≡ 0 → ⊥) → (z, (buffer, answer′)) ≡ written w buffer answer
   unfolding written
-  written-none n z f = rw (← e, ne-eqb r 0 n, f)
+  written-none n = rw (← e, ne-eqb r 0 n, f)
 
   pub written-all : r ≡ 0 → (buffer′ : List ℕ) → buffer′ ≡ encodedInto buffer 0 (w .1) 0 (length (w .1))
-      → (pos 0, (buffer′, answer′)) ≡ written w buffer answer
+      → (z, (buffer′, answer′)) ≡ written w buffer answer
   unfolding written withNumbers
-  written-all z buffer′ f = rw (← e, z, f)
+  written-all n buffer′ g = rw (← e, f, n, g)

@@ -104,12 +104,12 @@ pub fn finish(buffer: &mut [u8], answer: &mut [u8], t: &[i64], numbers: &[u64]) 
     requires { ⌜ (8 * length (now t) ≤ length (now buffer)) × (1 ≤ length (now numbers)) × (length (now numbers) ≤ 18) × (getD (now numbers) 0 0 ≤ 16) ⌝ }
     ensures { λ r. ⌜ (r, (now (buffer .exit), now (answer .exit))) ≡ written (map pos (now (numbers .entry)), now (t .entry)) (now (buffer .entry)) (now (answer .entry)) ⌝ }
 {
-    let result = reply(answer, numbers);
-    if result != 0 {
-        return numbers::integer(result);
+    let refusal = reply(answer, numbers);
+    let result = numbers::integer(refusal);
+    if refusal == 0 {
+        words::encode(t, 0, buffer, 0, t.len());
     }
-    words::encode(t, 0, buffer, 0, t.len());
-    0
+    result
 }
 
 // The numbers of an answer, as their bits: the refusal, then the fields.
