@@ -10,7 +10,7 @@ returns : tie.Need-returns
 returns c = nothing _ _ _ (request-short _ _ (c .if1 .taken))
 
 returns-2 : tie.Need-returns-2
-returns-2 c = nothing _ _ _ (request-miscounted _ _ (c .before .get .result) (c .before .before .if1 .left) (c .before .get .ensures .0) (c .if2 .taken))
+returns-2 c = nothing _ _ _ (request-miscounted _ _ (c .before .get .result) (c .before .before .if1 .left) (c .before .get .ensures .0) (λ e. omega arith))
 
 returns-3 : tie.Need-returns-3
 returns-3 c =

@@ -1,3 +1,4 @@
+use native.Mathlib.Omega.{arith}
 use mathlib.Core.Path.{_≡_, refl, _∙_}
 use borrow.Author.Needs.{sfits-of, needs}
 use borrow.Author.Tests.{not-true, not-false}
@@ -34,7 +35,7 @@ returns-2 : tie.Need-returns-2
 returns-2 c =
     let t = c .before .before in
     let n = t .before .before in
-    (date-late _ _ _ (year-is (n .before .before)) (month-is (n .before)) (day-is n) (t .before .on-calendar .ensures) (not-false _ (t .if1 .left)) (c .before .day-of .ensures) (c .if2 .taken), refl)
+    (date-late _ _ _ (year-is (n .before .before)) (month-is (n .before)) (day-is n) (t .before .on-calendar .ensures) (not-false _ (t .if1 .left)) (c .before .day-of .ensures) (omega arith), refl)
 
 returns-3 : tie.Need-returns-3
 returns-3 c =

@@ -1,4 +1,5 @@
 use mathlib.Core.Path.{refl, sym, _∙_}
+use native.Mathlib.Omega.{arith}
 use borrow.Author.Needs.{needs}
 use Rattle.table.proofs.Calls.{gives, tells}
 use Rattle.transfer.proofs.Points.{withdraw-other, withdraw-own}
@@ -10,7 +11,7 @@ returns c =
     let s = c .before .before .before in
     let p = s .args .p .now in
     let u = s .args .user in
-    tells (withdraw-other p u (s .pre .2) (λ e. c .if1 .taken (c .before .get .ensures .0 ∙ e))) refl
+    tells (withdraw-other p u (s .pre .2) (λ e. omega (arith, c .before .get .ensures .0))) refl
 
 returns-2 : tie.Need-returns-2
 returns-2 c =
