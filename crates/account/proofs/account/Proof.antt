@@ -16,6 +16,11 @@ use Rattle.account.proofs.Call.{inRange, range-bounds, unsound-ends, ra
 use Rattle.account.proofs.account.Statement.{statement}
 use Rattle.account.proofs.account.Tie as tie
 
+-- ---- the places on the way
+
+abbrev else2 : tie.After-natural2 → tie.Else2
+else2 c = c .before .before .before .before .before
+
 -- the facts of the tests that were passed
 sound-is : (c : tie.Else1) → sound standard (c .before .before .args .t .now) ≡ true
 sound-is c = sym (c .before .sound .ensures) ∙ not-false _ (c .if1 .left)
@@ -39,7 +44,7 @@ from-is c =
     c .natural2 .ensures .0
     ∙ natural-read (query (s .before .before .before) .from) (sfits-of (s .struct-told3 .given .1 .0 .1))
 
-to-is : (c : tie.After-natural3) → c .natural3 .result ≡ natOf (query (c .before .before .before .before .before .before) .to)
+to-is : (c : tie.After-natural3) → c .natural3 .result ≡ natOf (query (else2 (c .before)) .to)
 to-is c =
     let s = c .before .before .before in
     c .natural3 .ensures .0
@@ -53,13 +58,13 @@ returns-2 c = (range-ends _ _ (sound-is (c .before .before)) (sym (c .before .in
 
 table-energy-requires : tie.Need-table-energy-requires
 table-energy-requires c κs =
-    let e = c .before .before .before .before .before .before in
+    let e = else2 (c .before) in
     let b = range-bounds (query e) (range-is e) in
     (sound-is (e .before .before), omega (arith, b, user-is (c .before .before)), omega (arith, b, from-is (c .before), to-is c), omega (arith, b, to-is c))
 
 returns-3 : tie.Need-returns-3
 returns-3 c =
-    let e = c .before .before .before .before .before .before .before in (
+    let e = else2 (c .before .before) in (
       ap (λ z. pos 0 ∷ z ∷ []) (toZ-ofZ w64 _ (sfits-of (c .table-energy .ok)) ∙ c .table-energy .ensures)
           ∙ given-ends _ _ (sound-is (e .before .before)) (range-is e) _ _ _ (user-is (c .before .before .before)) (from-is (c .before .before)) (to-is (c .before)),
       refl,
@@ -73,8 +78,6 @@ account-spec =
     returns
     (λ c κs. search needs)
     returns-2
-    (λ c κs. search needs)
-    (λ c κs. search needs)
-    (λ c κs. search needs)
+    (λ c κs. search needs) (λ c κs. search needs) (λ c κs. search needs)
     table-energy-requires
     returns-3)

@@ -59,14 +59,12 @@ pub point-energy-spec : {M : Type 1} → statement M
 point-energy-spec =
     tie.close
     (tie.spec
-    Inv-loop
-    μ-loop
+    Inv-loop μ-loop
     (λ c κs. search needs)
     loop-holds
     (λ c κs. search needs)
     add-sum
-    (λ c. search needs)
-    (λ c. search needs)
+    (λ c. search needs) (λ c. search needs)
     loop-again
     add-result
     mul-result

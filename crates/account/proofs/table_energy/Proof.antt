@@ -72,16 +72,14 @@ pub table-energy-spec : {M : Type 1} → statement M
 table-energy-spec =
     tie.close
     (tie.spec
-    Inv-loop
-    μ-loop
+    Inv-loop μ-loop
     get-requires
     loop-holds
     part-requires
     (λ c. search needs)
     point-energy-requires
     add-sum
-    (λ c. search needs)
-    (λ c. search needs)
+    (λ c. search needs) (λ c. search needs)
     loop-again
     mul-difference
     difference-requires

@@ -19,23 +19,29 @@ use Rattle.allocate.proofs.Apportioned.{in-range-tells, in-range, load-
 use Rattle.allocate.proofs.apportion.Statement.{statement}
 use Rattle.allocate.proofs.apportion.Tie as tie
 
+-- ---- the places on the way
+
+abbrev start : tie.After-get → tie.Start
+start c = c .before .before .before .before .before
+
 gasday-is : (c : tie.After-natural) → c .natural .result ≡ natOf (c .before .before .before .args .q .gasday)
 gasday-is c = c .natural .ensures .0 ∙ natural-read (c .before .before .before .args .q .gasday) (sfits-of (c .before .struct-told .given .0 .1))
 
 -- the load is the book's
-nsl-is : (c : tie.After-net-load) → c .net-load .result ≡ nslOf (c .before .before .before .before .before .before .args .q) (tableBook standard (c .before .before .before .before .before .before .args .t .now))
+nsl-is : (c : tie.After-net-load) → c .net-load .result ≡ nslOf (start (c .before) .args .q) (tableBook standard (start (c .before) .args .t .now))
 nsl-is c =
-    let s = c .before .before .before .before .before .before in
+    let s = start (c .before) in
     let n = c .before .get .ensures .0 in
     let tdm = c .before .before .metered .result in
     load-is (s .pre) tdm
     (c .net-load .ensures .0 ∙ ap (λ k. atLeast0 (loadOf (s .args .q) tdm (1000000 * k))) n)
     (c .before .before .metered .ensures .0 ∙ ap (λ g. tdmOf g (tableBook standard (s .args .t .now))) (gasday-is (c .before .before .before)))
 
-fros-is : (c : tie.After-fros) → c .fros .result ≡ padded (map (λ p. p .fro (natOf (c .before .before .before .before .before .before .before .before .before .before .args .q .gasday))) (pointsOf (c .before .before .before .before .before .before .before .before .before .before .args .t .now)))
+fros-is : (c : tie.After-fros) → c .fros .result ≡ padded (map (λ p. p .fro (natOf (start (c .before .before .before .before .before) .args .q .gasday))) (pointsOf (start (c .before .before .before .before .before) .args .t .now)))
 fros-is c =
+    let after-get = c .before .before .before .before .before in
     c .fros .ensures
-    ∙ ap (λ g. padded (map (λ p. p .fro g) (pointsOf (c .before .before .before .before .before .before .before .before .before .before .args .t .now)))) (gasday-is (c .before .before .before .before .before .before .before))
+    ∙ ap (λ g. padded (map (λ p. p .fro g) (pointsOf (start after-get .args .t .now)))) (gasday-is (after-get .before .before))
 
 -- src/lib.rt:208:28
 metered-requires : tie.Need-metered-requires
@@ -59,15 +65,16 @@ net-load-requires c κs =
 -- src/lib.rt:209:5
 split-to-requires : tie.Need-split-to-requires
 split-to-requires c κs =
-    let s = c .before .before .before .before .before .before .before in
+    let s = start (c .before .before) in
     (weigh-32 (s .pre), in-range-tells (s .args .q) (length (s .args .out .now)) (s .pre .inRange) .1, c .before .net-load .ensures .1, s .pre .some, s .pre .few, s .pre .sum)
 
 -- src/lib.rt:211:9
 totals-requires : tie.Need-totals-requires
 totals-requires c κs =
-    let s = c .before .before .before .before .before .before .before .before .before .before .before .before in
-    let load = c .before .before .before .before .before .before in
-    let out = c .before .before .before .before .split-to .ensures in (
+    let after-split-to = c .before .before .before .before in
+    let s = start (after-split-to .before .before .before) in
+    let load = after-split-to .before .before in
+    let out = after-split-to .split-to .ensures in (
       ap length (fros-is (c .before .before)) ∙ fros-32 (s .pre),
       rw out (placed-long (split (load .net-load .result) (s .args .s) 0 (s .args .ws .now)) (s .args .out .now) (split-32 (s .pre) (load .net-load .result))),
       subst (SharesBelow 3032000000) (sym out) (shares-small (s .pre) (nsl-is load) (load .net-load .ensures .1) (s .args .out .now)),
@@ -77,12 +84,13 @@ totals-requires c κs =
 returns : tie.Need-returns
 unfolding givenOf
 returns c =
-    let s = c .before .before .before .before .before .before .before .before .before .before .before .before .before .before in
-    let load = c .before .before .before .before .before .before .before .before in
+    let after-fros = c .before .before .before .before in
+    let s = start (after-fros .before .before .before .before .before) in
+    let load = after-fros .before .before .before .before in
     let is = nsl-is load in
-    let out = c .before .before .before .before .before .before .split-to .ensures in
+    let out = after-fros .before .before .split-to .ensures in
     let nsl = toZ-ofZ w64 (c .integer .result) (sfits-of (c .integer .ok)) ∙ c .integer .ensures ∙ ap pos is in
-    let all = c .before .totals .ensures ∙ ap₂ (λ us xs. map (λ u. pos (totalTo us xs u 32)) users) (fros-is (c .before .before .before .before)) out ∙ totals-are (s .pre) is (s .args .out .now) in
+    let all = c .before .totals .ensures ∙ ap₂ (λ us xs. map (λ u. pos (totalTo us xs u 32)) users) (fros-is after-fros) out ∙ totals-are (s .pre) is (s .args .out .now) in
     (ap₂ (λ z l. pos 0 ∷ z ∷ l) nsl all, out ∙ ap (λ l. placed l (s .args .out .now)) (shares-are (s .pre) is))
 
 pub apportion-spec : {M : Type 1} → statement M
@@ -94,9 +102,7 @@ apportion-spec =
     get-requires
     net-load-requires
     split-to-requires
-    (λ c κs. search needs)
-    (λ c. search needs)
+    (λ c κs. search needs) (λ c. search needs)
     totals-requires
-    (λ c κs. search needs)
-    (λ c. search needs)
+    (λ c κs. search needs) (λ c. search needs)
     returns)

@@ -55,15 +55,13 @@ pub fros-spec : {M : Type 1} → statement M
 fros-spec =
     tie.close
     (tie.spec
-    Inv-loop
-    μ-loop
+    Inv-loop μ-loop
     get-requires
     loop-holds
     part-requires
     fro-on-requires
     (λ c. search needs)
     (λ c. omega arith)
-    (λ c. search needs)
-    (λ c. search needs)
+    (λ c. search needs) (λ c. search needs)
     loop-again
     returns)

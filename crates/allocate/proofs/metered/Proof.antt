@@ -64,14 +64,12 @@ pub metered-spec : {M : Type 1} → statement M
 metered-spec =
     tie.close
     (tie.spec
-    Inv-loop
-    μ-loop
+    Inv-loop μ-loop
     get-requires
     loop-holds
     part-requires
     metered-requires
     add-sum
-    (λ c. search needs)
-    (λ c. search needs)
+    (λ c. search needs) (λ c. search needs)
     loop-again
     returns)

@@ -13,6 +13,11 @@ use Rattle.allocate.proofs.Loads.{net-load, load-natural}
 use Rattle.allocate.proofs.net_load.Statement.{statement}
 use Rattle.allocate.proofs.net_load.Tie as tie
 
+-- ---- the places on the way
+
+abbrev start : tie.After-raised-load → tie.Start
+start c = c .before .before .before .before .before
+
 -- what is read of the numbers
 tdq-is : (c : tie.After-natural) → (c .before .before .before .before .args .q .tdq ≡ pos (c .natural .result)) × (c .natural .result ≤ 1000000000)
 tdq-is c =
@@ -22,10 +27,10 @@ tdq-is c =
     (tdq .0 ∙ ap pos (sym is), rw is (tdq .1))
 
 load-is : (c : tie.After-raised-load2)
-    → c .before .before .natural .result + 1000000 * c .before .before .before .before .before .before .args .n + 2000000000 - (c .before .before .before .before .before .before .args .tdm + c .before .raised-load .result + c .raised-load2 .result)
-    ≡ atLeast0 (loadOf (c .before .before .before .before .before .before .args .q) (c .before .before .before .before .before .before .args .tdm) (1000000 * c .before .before .before .before .before .before .args .n))
+    → c .before .before .natural .result + 1000000 * start (c .before) .args .n + 2000000000 - (start (c .before) .args .tdm + c .before .raised-load .result + c .raised-load2 .result)
+    ≡ atLeast0 (loadOf (start (c .before) .args .q) (start (c .before) .args .tdm) (1000000 * start (c .before) .args .n))
 load-is c =
-    let s = c .before .before .before .before .before .before in
+    let s = start (c .before) in
     let fits = c .before .before .before .struct-told3 .given in
     net-load (s .args .q) (c .before .before .natural .result) (s .args .tdm) (1000000 * s .args .n) (c .before .raised-load .result) (c .raised-load2 .result)
     (tdq-is (c .before .before) .0)
@@ -44,13 +49,7 @@ pub net-load-spec : {M : Type 1} → statement M
 net-load-spec =
     tie.close
     (tie.spec
-    (λ c κs. search needs)
-    (λ c. search needs)
-    (λ c. search needs)
-    (λ c. search needs)
-    (λ c κs. search needs)
-    (λ c. search needs)
-    (λ c κs. search needs)
-    (λ c. search needs)
+    (λ c κs. search needs) (λ c. search needs) (λ c. search needs) (λ c. search needs) (λ c κs. search needs)
+    (λ c. search needs) (λ c κs. search needs) (λ c. search needs)
     returns
     returns-2)

@@ -66,8 +66,9 @@ put-requires c κs =
 -- src/lib.rt:95:5
 loop-again : tie.Need-loop-again Inv-loop μ-loop
 loop-again c =
-    let s = c .before .before .before .before .before .before .before in
-    let k = c .before .before .before .before .before .loop in
+    let in-loop = c .before .before .before .before in
+    let s = in-loop .before .before .before in
+    let k = in-loop .before .loop in
     let ws = s .args .ws .now in
     let e : k .sum ≡ total (take (k .k) ws) = k .inv .2 in
     let low : k .low ≡ (s .args .load * total (take (k .k) ws)) / s .args .s = k .inv .3 ∙ ap (λ x. (s .args .load * x) / s .args .s) e in
@@ -97,18 +98,15 @@ pub split-to-spec : {M : Type 1} → statement M
 split-to-spec =
     tie.close
     (tie.spec
-    Inv-loop
-    μ-loop
+    Inv-loop μ-loop
     loop-holds
-    (λ c. search needs)
-    (λ c. search needs)
+    (λ c. search needs) (λ c. search needs)
     add-sum
     mul-high
     div-high
     sub-put
     put-requires
-    (λ c. search needs)
-    (λ c. search needs)
+    (λ c. search needs) (λ c. search needs)
     loop-again
     (λ c. search needs)
     returns)

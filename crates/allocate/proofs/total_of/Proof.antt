@@ -18,13 +18,18 @@ Inv-loop us xs u sum₀ k₀ sum k = (k ≤ 32) × (sum ≤ 3032000000 * k) × (
 abbrev μ-loop : tie.MeasureT-loop
 μ-loop us xs u sum₀ k₀ sum k = 32 - k
 
+-- ---- the places on the way
+
+abbrev at-loop : tie.After-own Inv-loop μ-loop → tie.At-loop Inv-loop μ-loop
+at-loop c = c .before .before .before .before
+
 -- what this turn adds
 own-is : (c : tie.After-own Inv-loop μ-loop)
-    → (c .own .result ≡ cond (eqb (getD (c .before .before .before .before .before .before .args .us .now) (c .before .before .before .before .loop .k) 0) (c .before .before .before .before .before .before .args .u)) (numAt (c .before .before .before .before .before .before .args .xs .now) (c .before .before .before .before .loop .k)) 0)
+    → (c .own .result ≡ cond (eqb (getD (at-loop c .before .before .args .us .now) (at-loop c .loop .k) 0) (at-loop c .before .before .args .u)) (numAt (at-loop c .before .before .args .xs .now) (at-loop c .loop .k)) 0)
     × (c .own .result ≤ 3032000000)
 own-is c =
-    let s = c .before .before .before .before .before .before in
-    let k = c .before .before .before .before .loop .k in
+    let s = at-loop c .before .before in
+    let k = at-loop c .loop .k in
     let is = c .own .ensures ∙ ap (λ x. cond (eqb (getD (s .args .us .now) k 0) (s .args .u)) x 0) (c .before .get .ensures .0) in
     (is, rw is (cond-small (eqb (getD (s .args .us .now) k 0) (s .args .u)) (numAt (s .args .xs .now) k) 0 3032000000 (s .pre .2 k (omega arith)) (omega arith)))
 
@@ -39,8 +44,8 @@ add-sum c = record { fits = omega (arith, own-is c .1) }
 -- src/lib.rt:121:5
 loop-again : tie.Need-loop-again Inv-loop μ-loop
 loop-again c =
-    let s = c .before .before .before .before .before .before in
-    let k = c .before .before .before .before .loop in
+    let s = at-loop c .before .before in
+    let k = at-loop c .loop in
     (omega arith, omega (arith, own-is c .1), ap₂ _+_ (k .inv .2) (own-is c .0) ∙ sym (total-step (s .args .us .now) (s .args .xs .now) (s .args .u) (k .k)))
 
 -- src/lib.rt:115:1
@@ -54,15 +59,10 @@ pub total-of-spec : {M : Type 1} → statement M
 total-of-spec =
     tie.close
     (tie.spec
-    Inv-loop
-    μ-loop
+    Inv-loop μ-loop
     loop-holds
-    (λ c. search needs)
-    (λ c. search needs)
-    (λ c κs. search needs)
-    (λ c κs. search needs)
+    (λ c. search needs) (λ c. search needs) (λ c κs. search needs) (λ c κs. search needs)
     add-sum
-    (λ c. search needs)
-    (λ c. search needs)
+    (λ c. search needs) (λ c. search needs)
     loop-again
     returns)

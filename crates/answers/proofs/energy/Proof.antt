@@ -16,35 +16,30 @@ returns c = nothing _ _ _ (rw (ne-eqb _ _ (c .if1 .taken)))
 returns-2 : tie.Need-returns-2
 unfolding energyLine
 returns-2 c =
-    let s = c .before .before .before .before .before .before .before .before .before .before .before .before .before .before in
-    let f = c .before .before .before .before .before .before .before .before .before .energy in
+    let after-known-told = c .before .before .before .before .before in
+    let after-energy = after-known-told .before .before .before .before in
+    let s = after-energy .before .before .before .before .before in
+    let f = after-energy .energy in
     let p = c .before .before .row in
-    called (energyCall (s .args .t .now)) 6 (s .args .nums .now) _ (c .before .before .before .before .before .before .before .before .before .before .before .before .if1 .left) (c .before .before .before .before .before .before .before .before .before .before .before .to-energy .ensures) (f .ensures .1) (sym (ap energyNumbers (c .before .before .before .before .before .before .which .given .1)) ∙ f .ensures .0) (omega (arith, p .ensures .0)) (p .ensures .1)
+    called (energyCall (s .args .t .now)) 6 (s .args .nums .now) _ (after-energy .before .before .before .if1 .left) (after-energy .before .before .to-energy .ensures) (f .ensures .1) (sym (ap energyNumbers (after-known-told .before .which .given .1)) ∙ f .ensures .0) (omega (arith, p .ensures .0)) (p .ensures .1)
 
 returns-3 : tie.Need-returns-3
 unfolding energyLine
 returns-3 c =
-    let s = c .before .before .before .before .before .before .before .before .before .before .before .before .before .before in
-    let f = c .before .before .before .before .before .before .before .before .before .energy in
+    let after-known-told2 = c .before .before .before .before .before in
+    let after-energy = after-known-told2 .before .before .before .before in
+    let s = after-energy .before .before .before .before .before in
+    let f = after-energy .energy in
     let p = c .before .before .row2 in
-    called (energyCall (s .args .t .now)) 6 (s .args .nums .now) _ (c .before .before .before .before .before .before .before .before .before .before .before .before .if1 .left) (c .before .before .before .before .before .before .before .before .before .before .before .to-energy .ensures) (f .ensures .1) (sym (ap energyNumbers (c .before .before .before .before .before .before .r .given .1)) ∙ f .ensures .0) (omega (arith, p .ensures .0)) (p .ensures .1)
+    called (energyCall (s .args .t .now)) 6 (s .args .nums .now) _ (after-energy .before .before .before .if1 .left) (after-energy .before .before .to-energy .ensures) (f .ensures .1) (sym (ap energyNumbers (after-known-told2 .before .r .given .1)) ∙ f .ensures .0) (omega (arith, p .ensures .0)) (p .ensures .1)
 
 pub energy-spec : {M : Type 1} → statement M
 energy-spec =
     tie.close
     (tie.spec
     returns
-    (λ c κs. search needs)
-    (λ c κs. search needs)
-    (λ c. search needs)
-    (λ c. search needs)
-    (λ c κs. search needs)
-    (λ c. search needs)
-    (λ c. search needs)
-    (λ c κs. search needs)
-    (λ c. search needs)
-    (λ c. search needs)
+    (λ c κs. search needs) (λ c κs. search needs) (λ c. search needs) (λ c. search needs) (λ c κs. search needs)
+    (λ c. search needs) (λ c. search needs) (λ c κs. search needs) (λ c. search needs) (λ c. search needs)
     returns-2
-    (λ c. search needs)
-    (λ c. search needs)
+    (λ c. search needs) (λ c. search needs)
     returns-3)

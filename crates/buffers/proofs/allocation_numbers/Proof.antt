@@ -25,8 +25,9 @@ loop-holds c = (search needs, (refl, filled-two _ _ (c .before .before .before .
 
 loop-again : tie.Need-loop-again Inv-loop μ-loop
 loop-again c =
-    let l = c .before .before .before .loop in
-    let ts = c .before .before .before .before .before .before .before .args .a .totals in
+    let at-loop = c .before .before .before in
+    let l = at-loop .loop in
+    let ts = at-loop .before .before .before .before .args .a .totals in
     let e : toZ w64 (ofZ w64 (getD ts (l .k) (pos 0))) ≡ getD ts (l .k) (pos 0) = toZ-ofZ (search needs) in
     let h : 2 + l .k < length (l .numbers) = search needs in
     (search needs, (search needs, filled-more _ _ ts (l .numbers) (l .k) _ h (l .inv .1 .1) (c .bits2 .ensures ∙ ap (ofZ w64) e)))
@@ -44,19 +45,10 @@ pub allocation-numbers-spec : {M : Type 1} → statement M
 allocation-numbers-spec =
     tie.close
     (tie.spec
-    Inv-loop
-    μ-loop
-    (λ c. search needs)
-    (λ c κs. search needs)
-    (λ c. search needs)
+    Inv-loop μ-loop
+    (λ c. search needs) (λ c κs. search needs) (λ c. search needs)
     loop-holds
-    (λ c. search needs)
-    (λ c. search needs)
-    (λ c κs. search needs)
-    (λ c. search needs)
-    (λ c. search needs)
-    (λ c. search needs)
-    (λ c. search needs)
-    (λ c. search needs)
+    (λ c. search needs) (λ c. search needs) (λ c κs. search needs) (λ c. search needs) (λ c. search needs)
+    (λ c. search needs) (λ c. search needs) (λ c. search needs)
     loop-again
     returns)

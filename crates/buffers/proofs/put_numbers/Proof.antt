@@ -24,8 +24,9 @@ loop-holds c = search needs
 
 loop-again : tie.Need-loop-again Inv-loop μ-loop
 loop-again c =
-    let l = c .before .before .before .before .before .before .loop in
-    let s = c .before .before .before .before .before .before .before .before .before in
+    let in-loop = c .before .before .before .before .before in
+    let l = in-loop .before .loop in
+    let s = in-loop .before .before .before .before in
     (search needs, (search needs, one-more _ (s .args .numbers .now) _ _ _ (l .inv .1 .1) (c .before .before .put-number8 .ensures)))
 
 returns : tie.Need-returns Inv-loop μ-loop
@@ -39,14 +40,9 @@ pub put-numbers-spec : {M : Type 1} → statement M
 put-numbers-spec =
     tie.close
     (tie.spec
-    Inv-loop
-    μ-loop
+    Inv-loop μ-loop
     loop-holds
-    (λ c. search needs)
-    (λ c. search needs)
-    (λ c. search needs)
-    (λ c κs. search needs)
-    (λ c. search needs)
+    (λ c. search needs) (λ c. search needs) (λ c. search needs) (λ c κs. search needs) (λ c. search needs)
     (λ c. search needs)
     loop-again
     (λ c. search needs)

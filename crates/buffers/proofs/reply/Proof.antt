@@ -10,16 +10,16 @@ returns-2 : tie.Need-returns-2
 returns-2 c = (replied-two (c .before .before .before .before .before .args .numbers .now) _ (c .before .if1 .taken) (c .if2 .left), search needs)
 
 returns-3 : tie.Need-returns-3
-returns-3 c = (replied-room (c .before .before .before .before .before .before .before .before .args .numbers .now) _ _ (c .before .before .before .before .if1 .left) (c .before .before .put-numbers .ensures), search needs)
+returns-3 c =
+    let else1 = c .before .before .before .before in
+    (replied-room (else1 .before .before .before .before .args .numbers .now) _ _ (else1 .if1 .left) (c .before .before .put-numbers .ensures), search needs)
 
 pub reply-spec : {M : Type 1} → statement M
 reply-spec =
     tie.close
     (tie.spec
-    (λ c. search needs)
-    (λ c. search needs)
+    (λ c. search needs) (λ c. search needs)
     returns
     returns-2
-    (λ c κs. search needs)
-    (λ c. search needs)
+    (λ c κs. search needs) (λ c. search needs)
     returns-3)

@@ -8,6 +8,11 @@ use Rattle.calendar.proofs.Dates.{calendar-bound, date-off, date-late, 
 use Rattle.calendar.proofs.date.Statement.{statement}
 use Rattle.calendar.proofs.date.Tie as tie
 
+-- ---- the places on the way
+
+abbrev start : tie.After-natural → tie.Start
+start c = c .before .before .before .before
+
 year-is : (c : tie.After-natural) → c .natural .result ≡ natOf (c .before .before .before .before .args .d .year)
 year-is c =
     let s = c .before in
@@ -18,7 +23,7 @@ month-is c =
     let s = c .before .before in
     c .natural2 .ensures .0 ∙ natural-read (s .before .before .before .args .d .month) (sfits-of (s .struct-told3 .given .1 .0 .1))
 
-day-is : (c : tie.After-natural3) → c .natural3 .result ≡ natOf (c .before .before .before .before .before .before .args .d .day)
+day-is : (c : tie.After-natural3) → c .natural3 .result ≡ natOf (start (c .before .before) .args .d .day)
 day-is c =
     let s = c .before .before .before in
     c .natural3 .ensures .0 ∙ natural-read (s .before .before .before .args .d .day) (sfits-of (s .struct-told3 .given .1 .1 .0 .1))
@@ -47,10 +52,7 @@ pub date-spec : {M : Type 1} → statement M
 date-spec =
     tie.close
     (tie.spec
-    (λ c κs. search needs)
-    (λ c κs. search needs)
-    (λ c κs. search needs)
-    (λ c κs. search needs)
+    (λ c κs. search needs) (λ c κs. search needs) (λ c κs. search needs) (λ c κs. search needs)
     returns
     day-of-requires
     returns-2

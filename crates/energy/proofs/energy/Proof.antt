@@ -53,18 +53,21 @@ returns-3 c =
 
 get-energy-requires : tie.Need-get-energy-requires
 get-energy-requires c κs =
-    let e = c .before .before .before .before .before .before .before in
+    let else2 = c .before .before .before .before in
+    let e = else2 .before .before .before in
     omega (arith, sound-long (start e .args .t .now) (sound-is e))
 
 get-energy-requires-2 : tie.Need-get-energy-requires-2
 get-energy-requires-2 c κs =
-    let e = c .before .before .before .before .before .before .before .before .before in
+    let after-index-of = c .before .before .before .before in
+    let e = after-index-of .before .before .before .before .before in
     omega (arith, sound-long (start e .args .t .now) (sound-is e))
 
 part-enter-end : tie.Need-part-enter-end
 part-enter-end c =
     let o = c .before .before .before .before in
-    let e = o .before .before .before .before .before .before in
+    let else2 = o .before .before .before in
+    let e = else2 .before .before .before in
     omega (arith, o .before .index-of .ensures .1, o .if3 .left, sound-long (start e .args .t .now) (sound-is e))
 
 enter-requires : tie.Need-enter-requires
@@ -100,23 +103,16 @@ pub energy-spec : {M : Type 1} → statement M
 energy-spec =
     tie.close
     (tie.spec
-    (λ c κs. search needs)
-    (λ c. search needs)
+    (λ c κs. search needs) (λ c. search needs)
     returns
-    (λ c κs. search needs)
-    (λ c κs. search needs)
-    (λ c. search needs)
+    (λ c κs. search needs) (λ c κs. search needs) (λ c. search needs)
     returns-2
     index-of-requires
     (λ c. search needs)
     returns-3
     get-energy-requires
     get-energy-requires-2
-    (λ c. search needs)
-    (λ c. search needs)
-    (λ c. search needs)
-    (λ c. search needs)
-    (λ c. search needs)
+    (λ c. search needs) (λ c. search needs) (λ c. search needs) (λ c. search needs) (λ c. search needs)
     (λ c. search needs)
     part-enter-end
     enter-requires

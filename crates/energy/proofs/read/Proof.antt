@@ -9,7 +9,8 @@ returns : tie.Need-returns
 returns c =
     let d = c .before .before .before in
     let s = d .before .before .before in
-    let n = s .before .before .before .before .before .before .args .n in
+    let after-struct-told3 = s .before .before .before in
+    let n = after-struct-told3 .before .before .before .args .n in
     let fits = s .struct-told6 .given in
     raised-same n
     (d .before .before .natural .ensures .0 ∙ natural-read (n .mirn) (sfits-of (fits .0 .1)))
@@ -23,10 +24,6 @@ pub read-spec : {M : Type 1} → statement M
 read-spec =
     tie.close
     (tie.spec
-    (λ c κs. search needs)
-    (λ c κs. search needs)
-    (λ c κs. search needs)
-    (λ c κs. search needs)
-    (λ c κs. search needs)
+    (λ c κs. search needs) (λ c κs. search needs) (λ c κs. search needs) (λ c κs. search needs) (λ c κs. search needs)
     (λ c κs. search needs)
     returns)

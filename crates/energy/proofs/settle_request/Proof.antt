@@ -17,14 +17,15 @@ append-registration-requires c κs =
 
 returns : tie.Need-returns
 returns c =
-    let b = c .before .before .before .before .before .before in
+    let after-p = c .before .before .before in
+    let b = after-p .before .before .before in
     let g5 = b .before in
     let g4 = g5 .before .before in
     let g3 = g4 .before .before in
     let g2 = g3 .before .before in
     let g1 = g2 .before .before in
     let s = g1 .before .before in
-    registered (s .pre .0) (s .args .x) _ _ _ _ _ (g1 .get .ensures .0) (g2 .get2 .ensures .0) (g3 .get3 .ensures .0) (g4 .get4 .ensures .0) (g5 .get5 .ensures .0) (b .if1 .taken) (c .before .before .before .before .append-registration .ensures) (c .before .clear-pending .ensures)
+    registered (s .pre .0) (s .args .x) _ _ _ _ _ (g1 .get .ensures .0) (g2 .get2 .ensures .0) (g3 .get3 .ensures .0) (g4 .get4 .ensures .0) (g5 .get5 .ensures .0) (b .if1 .taken) (after-p .before .append-registration .ensures) (c .before .clear-pending .ensures)
 
 returns-2 : tie.Need-returns-2
 returns-2 c =
@@ -53,21 +54,12 @@ pub settle-request-spec : {M : Type 1} → statement M
 settle-request-spec =
     tie.close
     (tie.spec
-    (λ c κs. search needs)
-    (λ c κs. search needs)
-    (λ c κs. search needs)
-    (λ c κs. search needs)
-    (λ c. search needs)
-    (λ c. search needs)
-    (λ c κs. search needs)
-    (λ c. search needs)
-    (λ c. search needs)
+    (λ c κs. search needs) (λ c κs. search needs) (λ c κs. search needs) (λ c κs. search needs) (λ c. search needs)
+    (λ c. search needs) (λ c κs. search needs) (λ c. search needs) (λ c. search needs)
     append-registration-requires
-    (λ c κs. search needs)
-    (λ c. search needs)
+    (λ c κs. search needs) (λ c. search needs)
     returns
-    (λ c κs. search needs)
-    (λ c. search needs)
+    (λ c κs. search needs) (λ c. search needs)
     returns-2
     (λ c. search needs)
     returns-3)

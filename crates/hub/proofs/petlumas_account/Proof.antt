@@ -10,8 +10,13 @@ use Rattle.hub.proofs.Refusals.{account-small}
 use Rattle.hub.proofs.petlumas_account.Statement.{statement}
 use Rattle.hub.proofs.petlumas_account.Tie as tie
 
+-- ---- the places on the way
+
+abbrev after-t : tie.After-account → tie.After-t
+after-t c = c .before .before .before
+
 abbrev start : tie.After-account-numbers → tie.Start
-start c = c .before .before .before .before .before .before .before .before
+start c = after-t (c .before .before) .before .before .before
 
 -- what the call gives
 abbrev given : tie.Start → Numbers
@@ -39,12 +44,7 @@ pub petlumas-account-spec : {M : Type 1} → statement M
 petlumas-account-spec =
     tie.close
     (tie.spec
-    (λ c. search needs)
-    (λ c κs. search needs)
-    (λ c κs. search needs)
-    (λ c κs. search needs)
-    (λ c. search needs)
+    (λ c. search needs) (λ c κs. search needs) (λ c κs. search needs) (λ c κs. search needs) (λ c. search needs)
     reply-requires
-    (λ c κs. search needs)
-    (λ c. search needs)
+    (λ c κs. search needs) (λ c. search needs)
     returns)

@@ -15,8 +15,16 @@ use Rattle.hub.proofs.Shares.{call-cut, placed-all, written-where}
 use Rattle.hub.proofs.petlumas_allocate.Statement.{statement}
 use Rattle.hub.proofs.petlumas_allocate.Tie as tie
 
+-- ---- the places on the way
+
+abbrev after-t : tie.After-list → tie.After-t
+after-t c = c .before .before .before
+
+abbrev after-table : tie.After-allocation-numbers → tie.After-table
+after-table c = c .before .before .before .before .before
+
 abbrev start : tie.After-allocation-numbers → tie.Start
-start c = c .before .before .before .before .before .before .before .before .before .before .before .before .before .before
+start c = after-t (after-table c .before .before) .before .before .before .before
 
 -- what the call gives
 abbrev given : tie.Start → Numbers × List ℤ
@@ -28,10 +36,10 @@ given s =
 -- the answer's numbers and the shares, with each number of the query read back from its bits
 gave : (c : tie.After-allocation-numbers)
     → (c .allocation-numbers .result ≡ bitsOf (given (start c) .0))
-    × (c .before .before .before .allocate .last .1 .1 .0 ≡ placed (given (start c) .1) (c .before .before .before .before .before .before .shares-in .result .now))
+    × (c .before .before .before .allocate .last .1 .1 .0 ≡ placed (given (start c) .1) (after-table c .before .shares-in .result .now))
 gave c =
     let f = start c .fits in
-    let e = rw (toZ-ofZ (f .gasday), toZ-ofZ (f .from), toZ-ofZ (f .to), toZ-ofZ (f .tdq), toZ-ofZ (f .uag), toZ-ofZ (f .clp), c .before .before .before .before .before .before .before .before .before .table-in .ensures .0, c .before .before .before .before .before .before .shares-in .ensures .0, call-cut) at (c .before .before .before .allocate .ensures) in
+    let e = rw (toZ-ofZ (f .gasday), toZ-ofZ (f .from), toZ-ofZ (f .to), toZ-ofZ (f .tdq), toZ-ofZ (f .uag), toZ-ofZ (f .clp), after-table c .before .before .before .before .table-in .ensures .0, after-table c .before .shares-in .ensures .0, call-cut) at (c .before .before .before .allocate .ensures) in
     (c .allocation-numbers .ensures ∙ ap bitsOf (e .0), e .1)
 
 finish-requires : tie.Need-finish-requires
@@ -46,21 +54,15 @@ returns c =
     let a = start e .args in
     let w = given (start e) in
     ended (e .allocation-numbers .result) (w .0) (gave e .0) (allocate-small _ _ _) _ _ (gave e .1) _ (search needs) _ _ _ _ (f .finish .ensures)
-    ∙ written-where (w .0) (placed (w .1) (e .before .before .before .before .before .before .shares-in .result .now)) (w .1) (a .shares .now) (a .answer .now)
-    (placed-all (tableIn (a .register .now)) _ (length (a .shares .now) / 8) (e .before .before .before .before .before .before .shares-in .result .now) (e .before .before .before .before .before .before .shares-in .ensures .0))
+    ∙ written-where (w .0) (placed (w .1) (after-table e .before .shares-in .result .now)) (w .1) (a .shares .now) (a .answer .now)
+    (placed-all (tableIn (a .register .now)) _ (length (a .shares .now) / 8) (after-table e .before .shares-in .result .now) (after-table e .before .shares-in .ensures .0))
 
 pub petlumas-allocate-spec : {M : Type 1} → statement M
 petlumas-allocate-spec =
     tie.close
     (tie.spec
-    (λ c. search needs)
-    (λ c κs. search needs)
-    (λ c. search needs)
-    (λ c κs. search needs)
-    (λ c κs. search needs)
-    (λ c κs. search needs)
-    (λ c. search needs)
+    (λ c. search needs) (λ c κs. search needs) (λ c. search needs) (λ c κs. search needs) (λ c κs. search needs)
+    (λ c κs. search needs) (λ c. search needs)
     finish-requires
-    (λ c. search needs)
-    (λ c. search needs)
+    (λ c. search needs) (λ c. search needs)
     returns)

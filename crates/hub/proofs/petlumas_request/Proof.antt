@@ -13,8 +13,13 @@ use Rattle.hub.proofs.Holidays.{first-513}
 use Rattle.hub.proofs.petlumas_request.Statement.{statement}
 use Rattle.hub.proofs.petlumas_request.Tie as tie
 
+-- ---- the places on the way
+
+abbrev after-t : tie.After-days → tie.After-t
+after-t c = c .before .before .before .before .before
+
 abbrev start : tie.After-request-numbers → tie.Start
-start c = c .before .before .before .before .before .before .before .before .before .before .before .before .before .before
+start c = after-t (c .before .before .before .before) .before .before .before .before .before
 
 -- what the call gives
 abbrev given : tie.Start → Numbers × List ℤ
@@ -48,14 +53,8 @@ pub petlumas-request-spec : {M : Type 1} → statement M
 petlumas-request-spec =
     tie.close
     (tie.spec
-    (λ c. search needs)
-    (λ c κs. search needs)
-    (λ c. search needs)
-    (λ c κs. search needs)
-    (λ c κs. search needs)
-    (λ c κs. search needs)
-    (λ c. search needs)
+    (λ c. search needs) (λ c κs. search needs) (λ c. search needs) (λ c κs. search needs) (λ c κs. search needs)
+    (λ c κs. search needs) (λ c. search needs)
     finish-requires
-    (λ c. search needs)
-    (λ c. search needs)
+    (λ c. search needs) (λ c. search needs)
     returns)

@@ -12,8 +12,13 @@ use Rattle.hub.proofs.Refusals.{withdraw-small}
 use Rattle.hub.proofs.petlumas_withdraw.Statement.{statement}
 use Rattle.hub.proofs.petlumas_withdraw.Tie as tie
 
+-- ---- the places on the way
+
+abbrev after-t : tie.After-withdraw → tie.After-t
+after-t c = c .before .before .before
+
 abbrev start : tie.After-notice-numbers → tie.Start
-start c = c .before .before .before .before .before .before .before .before .before
+start c = after-t (c .before .before) .before .before .before .before
 
 -- what the call gives
 abbrev given : tie.Start → Numbers × List ℤ
@@ -45,12 +50,7 @@ pub petlumas-withdraw-spec : {M : Type 1} → statement M
 petlumas-withdraw-spec =
     tie.close
     (tie.spec
-    (λ c. search needs)
-    (λ c κs. search needs)
-    (λ c κs. search needs)
-    (λ c κs. search needs)
-    (λ c. search needs)
+    (λ c. search needs) (λ c κs. search needs) (λ c κs. search needs) (λ c κs. search needs) (λ c. search needs)
     finish-requires
-    (λ c. search needs)
-    (λ c. search needs)
+    (λ c. search needs) (λ c. search needs)
     returns)

@@ -11,12 +11,16 @@ use Rattle.hublines.proofs.account_on.Tie as tie
 
 returns : tie.Need-returns
 returns c =
-    let s = c .before .before .before .before .before .before .before .before .before .before .before .before .before .before .before .before .before .before .before .before .before .before in
+    let after-answer2 = c .before .before .before .before in
+    let after-call-account = after-answer2 .before .before .before .before in
+    let after-register2 = after-call-account .before .before .before .before in
+    let after-get2 = after-register2 .before .before .before .before .before in
+    let s = after-get2 .before .before .before .before .before in
     let a = s .args in
-    let n = c .before .before .before .before .before .before .before .before .before .before .before .before .before .before .before .before .before .before .get in
-    let m = c .before .before .before .before .before .before .before .before .before .before .before .before .before .before .before .before .before .get2 in
-    let b = c .before .before .before .before .before .before .before .before .before .before .before .before .before .before .before .encode in
-    let f = c .before .before .before .before .before .before .before .before .call-account in
+    let n = after-get2 .before .get in
+    let m = after-get2 .get2 in
+    let b = after-register2 .before .before .before .encode in
+    let f = after-call-account .call-account in
     let p = c .before .before .print in
     let back : toZ w64 (ofZ w64 (f .result)) ≡ f .result = search needs in
     account-done (a .t .now) (a .nums .now) (b .last .1 .1 .0) (a .register .now) (a .answer .now) (f .last .1 .0) (f .result) (n .result - 0) (m .result - 0) (b .ensures) (sub-zero (n .result) ∙ n .ensures .0) (sub-zero (m .result) ∙ m .ensures .0) (f .kept .1 .0) (omega (arith, s .pre .0 .of-answer, s .pre .0 .second, m .ensures .0)) (p .ensures .0) (f .ensures) (rw back at (p .ensures .1))
@@ -25,24 +29,8 @@ pub account-on-spec : {M : Type 1} → statement M
 account-on-spec =
     tie.close
     (tie.spec
-    (λ c κs. search needs)
-    (λ c κs. search needs)
-    (λ c κs. search needs)
-    (λ c. search needs)
-    (λ c. search needs)
-    (λ c. search needs)
-    (λ c. search needs)
-    (λ c. search needs)
-    (λ c. search needs)
-    (λ c. search needs)
-    (λ c. search needs)
-    (λ c. search needs)
-    (λ c κs. search needs)
-    (λ c. search needs)
-    (λ c. search needs)
-    (λ c. search needs)
-    (λ c κs. search needs)
-    (λ c. search needs)
-    (λ c. search needs)
-    (λ c. search needs)
+    (λ c κs. search needs) (λ c κs. search needs) (λ c κs. search needs) (λ c. search needs) (λ c. search needs)
+    (λ c. search needs) (λ c. search needs) (λ c. search needs) (λ c. search needs) (λ c. search needs)
+    (λ c. search needs) (λ c. search needs) (λ c κs. search needs) (λ c. search needs) (λ c. search needs)
+    (λ c. search needs) (λ c κs. search needs) (λ c. search needs) (λ c. search needs) (λ c. search needs)
     returns)

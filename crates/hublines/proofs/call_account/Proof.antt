@@ -8,7 +8,8 @@ use Rattle.hublines.proofs.call_account.Tie as tie
 
 returns : tie.Need-returns
 returns c =
-    let xs = c .before .before .before .before .before .before .before .before .before .args .nums .now in
+    let after-petlumas-account-arg2 = c .before .before .before .before .before in
+    let xs = after-petlumas-account-arg2 .before .before .before .before .args .nums .now in
     let f = c .before .before .petlumas-account in
     let r : toZ w64 (ofZ w64 (f .result)) ≡ f .result = search needs in
     let e0 : toZ w64 (ofZ w64 (num xs 0)) ≡ num xs 0 = search needs in
@@ -20,9 +21,5 @@ pub call-account-spec : {M : Type 1} → statement M
 call-account-spec =
     tie.close
     (tie.spec
-    (λ c. search needs)
-    (λ c. search needs)
-    (λ c. search needs)
-    (λ c κs. search needs)
-    (λ c. search needs)
+    (λ c. search needs) (λ c. search needs) (λ c. search needs) (λ c κs. search needs) (λ c. search needs)
     returns)

@@ -8,8 +8,11 @@ use Rattle.hublines.proofs.call_allocate.Tie as tie
 
 returns : tie.Need-returns
 returns c =
-    let xs = c .before .before .before .before .before .before .before .before .before .before .before .before .before .before .before .before .args .nums .now in
-    let f = c .before .before .before .before .petlumas-allocate in
+    let after-answer = c .before .before .before in
+    let after-petlumas-allocate-arg5 = after-answer .before .before .before .before .before in
+    let after-slice-known2 = after-petlumas-allocate-arg5 .before .before .before .before .before in
+    let xs = after-slice-known2 .before .before .before .args .nums .now in
+    let f = after-answer .before .petlumas-allocate in
     let r : toZ w64 (ofZ w64 (f .result)) ≡ f .result = search needs in
     let e0 : toZ w64 (ofZ w64 (num xs 0)) ≡ num xs 0 = search needs in
     let e1 : toZ w64 (ofZ w64 (num xs 1)) ≡ num xs 1 = search needs in
@@ -23,13 +26,6 @@ pub call-allocate-spec : {M : Type 1} → statement M
 call-allocate-spec =
     tie.close
     (tie.spec
-    (λ c. search needs)
-    (λ c. search needs)
-    (λ c. search needs)
-    (λ c. search needs)
-    (λ c. search needs)
-    (λ c. search needs)
-    (λ c κs. search needs)
-    (λ c. search needs)
-    (λ c. search needs)
+    (λ c. search needs) (λ c. search needs) (λ c. search needs) (λ c. search needs) (λ c. search needs)
+    (λ c. search needs) (λ c κs. search needs) (λ c. search needs) (λ c. search needs)
     returns)

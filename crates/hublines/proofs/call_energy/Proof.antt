@@ -8,7 +8,9 @@ use Rattle.hublines.proofs.call_energy.Tie as tie
 
 returns : tie.Need-returns
 returns c =
-    let xs = c .before .before .before .before .before .before .before .before .before .before .before .before .before .before .before .args .nums .now in
+    let after-petlumas-energy-arg8 = c .before .before .before .before .before in
+    let after-petlumas-energy-arg3 = after-petlumas-energy-arg8 .before .before .before .before .before in
+    let xs = after-petlumas-energy-arg3 .before .before .before .before .before .args .nums .now in
     let f = c .before .before .before .before .petlumas-energy in
     let r : toZ w64 (ofZ w64 (f .result)) ≡ f .result = search needs in
     let e0 : toZ w64 (ofZ w64 (num xs 0)) ≡ num xs 0 = search needs in
@@ -23,13 +25,6 @@ pub call-energy-spec : {M : Type 1} → statement M
 call-energy-spec =
     tie.close
     (tie.spec
-    (λ c. search needs)
-    (λ c. search needs)
-    (λ c. search needs)
-    (λ c. search needs)
-    (λ c. search needs)
-    (λ c. search needs)
-    (λ c κs. search needs)
-    (λ c. search needs)
-    (λ c. search needs)
+    (λ c. search needs) (λ c. search needs) (λ c. search needs) (λ c. search needs) (λ c. search needs)
+    (λ c. search needs) (λ c κs. search needs) (λ c. search needs) (λ c. search needs)
     returns)

@@ -13,8 +13,9 @@ use Rattle.hublines.proofs.print.Tie as tie
 returns : tie.Need-returns
 unfolding shown
 returns c =
-    let a = c .before .before .before .before .before .before .before .before .before .before .args in
-    let p = c .before .before .before .before .before .before .put-signed in
+    let after-out = c .before .before .before .before .before in
+    let a = after-out .before .before .before .before .before .args in
+    let p = after-out .before .put-signed in
     let q = c .before .before .put-bytes in
     let back : toZ w64 (ofZ w64 (a .result)) ≡ a .result = search needs in
     (omega (arith, p .ensures .0, q .ensures .0), joined (textOf (a .result)) (hexOf (a .answer .now) ++ (10 ∷ [])) 32 (rw back at (p .ensures .1)) (q .ensures .1))

@@ -13,9 +13,11 @@ use Rattle.hublines.proofs.print_both.Tie as tie
 returns : tie.Need-returns
 unfolding shownBoth
 returns c =
-    let a = c .before .before .before .before .before .before .before .before .before .before .before .before .before .before .before .args in
-    let p = c .before .before .before .before .before .before .before .before .before .before .put-signed in
-    let q = c .before .before .before .before .before .before .put-bytes in
+    let after-out2 = c .before .before .before .before .before in
+    let after-put-signed = after-out2 .before .before .before .before .before in
+    let a = after-put-signed .before .before .before .before .before .args in
+    let p = after-put-signed .put-signed in
+    let q = after-out2 .before .put-bytes in
     let s = c .before .before .put-bytes2 in
     let back : toZ w64 (ofZ w64 (a .result)) ≡ a .result = search needs in
     let ends = hexOf (a .shares .now) ++ (10 ∷ []) in

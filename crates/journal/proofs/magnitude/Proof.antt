@@ -24,15 +24,17 @@ loop-holds c = (search needs, search needs, digits-start (c .before .before .arg
 
 returns-2 : tie.Need-returns-2 Inv-loop μ-loop
 returns-2 c =
-    let l = c .before .before .before .before .before .loop in
-    let s = c .before .before .before .before .before .before .before .before in
-    digits-other (s .args .s .now) (s .args .at) (l .i) (l .n) (l .inv .2) (c .before .before .wide .result) (c .before .before .before .before .loop-test .taken) (c .before .before .wide .ensures .0) (sym (c .before .is-digit .ensures) ∙ not-true _ (c .if2 .taken))
+    let in-loop = c .before .before .before .before in
+    let l = in-loop .before .loop in
+    let s = in-loop .before .before .before .before in
+    digits-other (s .args .s .now) (s .args .at) (l .i) (l .n) (l .inv .2) (c .before .before .wide .result) (in-loop .loop-test .taken) (c .before .before .wide .ensures .0) (sym (c .before .is-digit .ensures) ∙ not-true _ (c .if2 .taken))
 
 returns-3 : tie.Need-returns-3 Inv-loop μ-loop
 returns-3 c =
-    let l = c .before .before .before .before .before .before .loop in
-    let s = c .before .before .before .before .before .before .before .before .before in
-    digits-large (s .args .s .now) (s .args .at) (l .i) (l .n) (l .inv .2) (c .before .before .before .wide .result) (c .before .before .before .before .before .loop-test .taken) (c .before .before .before .wide .ensures .0) (sym (c .before .before .is-digit .ensures) ∙ not-false _ (c .before .if2 .left)) (c .if3 .taken)
+    let in-loop = c .before .before .before .before .before in
+    let l = in-loop .before .loop in
+    let s = in-loop .before .before .before .before in
+    digits-large (s .args .s .now) (s .args .at) (l .i) (l .n) (l .inv .2) (c .before .before .before .wide .result) (in-loop .loop-test .taken) (c .before .before .before .wide .ensures .0) (sym (c .before .before .is-digit .ensures) ∙ not-false _ (c .before .if2 .left)) (c .if3 .taken)
 
 sub-n : tie.Need-sub-n Inv-loop μ-loop
 sub-n c =
@@ -46,11 +48,12 @@ add-n c =
 
 loop-again : tie.Need-loop-again Inv-loop μ-loop
 loop-again c =
-    let l = c .before .before .before .before .before .before .loop in
+    let in-loop = c .before .before .before .before .before in
+    let l = in-loop .before .loop in
     let e = sym (c .before .before .is-digit .ensures) ∙ not-false _ (c .before .if2 .left) in
     let d = digit-bounds (c .before .before .before .wide .result) e in
-    let s = c .before .before .before .before .before .before .before .before .before in
-    (search needs, omega arith, digits-more (s .args .s .now) (s .args .at) (l .i) (l .n) (l .inv .2) (c .before .before .before .wide .result) (c .before .before .before .before .before .loop-test .taken) (c .before .before .before .wide .ensures .0) e)
+    let s = in-loop .before .before .before .before in
+    (search needs, omega arith, digits-more (s .args .s .now) (s .args .at) (l .i) (l .n) (l .inv .2) (c .before .before .before .wide .result) (in-loop .loop-test .taken) (c .before .before .before .wide .ensures .0) e)
 
 returns-4 : tie.Need-returns-4 Inv-loop μ-loop
 returns-4 c =
@@ -62,19 +65,15 @@ pub magnitude-spec : {M : Type 1} → statement M
 magnitude-spec =
     tie.close
     (tie.spec
-    Inv-loop
-    μ-loop
+    Inv-loop μ-loop
     returns
     loop-holds
-    (λ c. search needs)
-    (λ c κs. search needs)
-    (λ c κs. search needs)
+    (λ c. search needs) (λ c κs. search needs) (λ c κs. search needs)
     returns-2
     returns-3
     (λ c. search needs)
     sub-n
     add-n
-    (λ c. search needs)
-    (λ c. search needs)
+    (λ c. search needs) (λ c. search needs)
     loop-again
     returns-4)

@@ -10,35 +10,41 @@ returns-2 : tie.Need-returns-2
 returns-2 c = rw (sym (c .before .before .before .before .same .ensures) ∙ c .before .before .before .if1 .left, sym (c .before .same2 .ensures) ∙ c .if2 .taken)
 
 returns-3 : tie.Need-returns-3
-returns-3 c = rw (sym (c .before .before .before .before .before .before .before .same .ensures) ∙ c .before .before .before .before .before .before .if1 .left, sym (c .before .before .before .before .same2 .ensures) ∙ c .before .before .before .if2 .left, sym (c .before .same3 .ensures) ∙ c .if3 .taken)
+returns-3 c =
+    let else2 = c .before .before .before in
+    rw (sym (else2 .before .before .before .before .same .ensures) ∙ else2 .before .before .before .if1 .left, sym (else2 .before .same2 .ensures) ∙ else2 .if2 .left, sym (c .before .same3 .ensures) ∙ c .if3 .taken)
 
 returns-4 : tie.Need-returns-4
-returns-4 c = rw (sym (c .before .before .before .before .before .before .before .before .before .before .same .ensures) ∙ c .before .before .before .before .before .before .before .before .before .if1 .left, sym (c .before .before .before .before .before .before .before .same2 .ensures) ∙ c .before .before .before .before .before .before .if2 .left, sym (c .before .before .before .before .same3 .ensures) ∙ c .before .before .before .if3 .left, sym (c .before .same4 .ensures) ∙ c .if4 .taken)
+returns-4 c =
+    let else3 = c .before .before .before in
+    let else2 = else3 .before .before .before in
+    rw (sym (else2 .before .before .before .before .same .ensures) ∙ else2 .before .before .before .if1 .left, sym (else2 .before .same2 .ensures) ∙ else2 .if2 .left, sym (else3 .before .same3 .ensures) ∙ else3 .if3 .left, sym (c .before .same4 .ensures) ∙ c .if4 .taken)
 
 returns-5 : tie.Need-returns-5
-returns-5 c = rw (sym (c .before .before .before .before .before .before .before .before .before .before .before .before .before .same .ensures) ∙ c .before .before .before .before .before .before .before .before .before .before .before .before .if1 .left, sym (c .before .before .before .before .before .before .before .before .before .before .same2 .ensures) ∙ c .before .before .before .before .before .before .before .before .before .if2 .left, sym (c .before .before .before .before .before .before .before .same3 .ensures) ∙ c .before .before .before .before .before .before .if3 .left, sym (c .before .before .before .before .same4 .ensures) ∙ c .before .before .before .if4 .left, sym (c .before .same5 .ensures) ∙ c .if5 .taken)
+returns-5 c =
+    let after-same4 = c .before .before .before .before in
+    let else2 = after-same4 .before .before .before .before .before in
+    rw (sym (else2 .before .before .before .before .same .ensures) ∙ else2 .before .before .before .if1 .left, sym (else2 .before .same2 .ensures) ∙ else2 .if2 .left, sym (after-same4 .before .before .before .same3 .ensures) ∙ after-same4 .before .before .if3 .left, sym (after-same4 .same4 .ensures) ∙ c .before .before .before .if4 .left, sym (c .before .same5 .ensures) ∙ c .if5 .taken)
 
 returns-6 : tie.Need-returns-6
-returns-6 c = rw (sym (c .before .before .before .before .before .before .before .before .before .before .before .before .before .before .same .ensures) ∙ c .before .before .before .before .before .before .before .before .before .before .before .before .before .if1 .left, sym (c .before .before .before .before .before .before .before .before .before .before .before .same2 .ensures) ∙ c .before .before .before .before .before .before .before .before .before .before .if2 .left, sym (c .before .before .before .before .before .before .before .before .same3 .ensures) ∙ c .before .before .before .before .before .before .before .if3 .left, sym (c .before .before .before .before .before .same4 .ensures) ∙ c .before .before .before .before .if4 .left, sym (c .before .before .same5 .ensures) ∙ c .before .if5 .left) (c .notice .ensures)
+returns-6 c =
+    let after-same4 = c .before .before .before .before .before in
+    let else2 = after-same4 .before .before .before .before .before in
+    rw (sym (else2 .before .before .before .before .same .ensures) ∙ else2 .before .before .before .if1 .left, sym (else2 .before .same2 .ensures) ∙ else2 .if2 .left, sym (after-same4 .before .before .before .same3 .ensures) ∙ after-same4 .before .before .if3 .left, sym (after-same4 .same4 .ensures) ∙ c .before .before .before .before .if4 .left, sym (c .before .before .same5 .ensures) ∙ c .before .if5 .left) (c .notice .ensures)
 
 pub query-spec : {M : Type 1} → statement M
 query-spec =
     tie.close
     (tie.spec
-    (λ c. search needs)
-    (λ c κs. search needs)
+    (λ c. search needs) (λ c κs. search needs)
     returns
-    (λ c. search needs)
-    (λ c κs. search needs)
+    (λ c. search needs) (λ c κs. search needs)
     returns-2
-    (λ c. search needs)
-    (λ c κs. search needs)
+    (λ c. search needs) (λ c κs. search needs)
     returns-3
-    (λ c. search needs)
-    (λ c κs. search needs)
+    (λ c. search needs) (λ c κs. search needs)
     returns-4
-    (λ c. search needs)
-    (λ c κs. search needs)
+    (λ c. search needs) (λ c κs. search needs)
     returns-5
     (λ c κs. search needs)
     returns-6)

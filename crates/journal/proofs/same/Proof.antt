@@ -18,15 +18,17 @@ returns c = sym (lengths-differ _ _ (c .if1 .taken))
 
 returns-2 : tie.Need-returns-2 Inv-loop μ-loop
 returns-2 c =
-    let l = c .before .before .before .before .loop in
-    let s = c .before .before .before .before .before .before in
-    sym (bytes-differ (s .args .a .now) (s .args .b .now) (l .i) (c .before .before .before .before .before .if1 .left) (c .before .before .before .loop-test .taken) (c .if2 .taken)) ∙ l .inv .1
+    let in-loop = c .before .before .before in
+    let l = in-loop .before .loop in
+    let s = in-loop .before .before .before in
+    sym (bytes-differ (s .args .a .now) (s .args .b .now) (l .i) (in-loop .before .before .if1 .left) (in-loop .loop-test .taken) (c .if2 .taken)) ∙ l .inv .1
 
 loop-again : tie.Need-loop-again Inv-loop μ-loop
 loop-again c =
-    let l = c .before .before .before .before .loop in
-    let s = c .before .before .before .before .before .before in
-    (search needs, bytes-more (s .args .a .now) (s .args .b .now) (l .i) (c .before .before .before .before .before .if1 .left) (c .before .before .before .loop-test .taken) (c .if2 .left) ∙ l .inv .1)
+    let in-loop = c .before .before .before in
+    let l = in-loop .before .loop in
+    let s = in-loop .before .before .before in
+    (search needs, bytes-more (s .args .a .now) (s .args .b .now) (l .i) (in-loop .before .before .if1 .left) (in-loop .loop-test .taken) (c .if2 .left) ∙ l .inv .1)
 
 returns-3 : tie.Need-returns-3 Inv-loop μ-loop
 returns-3 c =
@@ -38,14 +40,10 @@ pub same-spec : {M : Type 1} → statement M
 same-spec =
     tie.close
     (tie.spec
-    Inv-loop
-    μ-loop
+    Inv-loop μ-loop
     returns
-    (λ c. search needs)
-    (λ c. search needs)
-    (λ c. search needs)
+    (λ c. search needs) (λ c. search needs) (λ c. search needs)
     returns-2
-    (λ c. search needs)
-    (λ c. search needs)
+    (λ c. search needs) (λ c. search needs)
     loop-again
     returns-3)

@@ -25,36 +25,43 @@ loop-holds c =
 
 returns : tie.Need-returns Inv-loop μ-loop
 returns c =
-    let l = c .before .before .before .before .before .before .loop in
+    let after-word-end = c .before .before .before .before in
+    let l = after-word-end .before .before .loop in
     let q = sym (sym (ap valueOf (c .enum-told .given .1)) ∙ c .before .before .number .ensures) in
-    (sym (numbers-none (c .before .before .before .before .before .before .before .before .before .args .line .now) (l .i) (c .before .before .before .before .word-end .result) (c .before .before .before .before .before .loop-test .taken) (l .inv .3 (c .before .before .before .before .before .loop-test .taken)) (c .before .before .before .before .word-end .ensures) (l .nums) (l .n) q) ∙ l .inv .4, search needs)
+    (sym (numbers-none (after-word-end .before .before .before .before .before .args .line .now) (l .i) (after-word-end .word-end .result) (after-word-end .before .loop-test .taken) (l .inv .3 (after-word-end .before .loop-test .taken)) (after-word-end .word-end .ensures) (l .nums) (l .n) q) ∙ l .inv .4, search needs)
 
 returns-2 : tie.Need-returns-2 Inv-loop μ-loop
 returns-2 c =
-    let l = c .before .before .before .before .before .before .before .before .loop in
-    let line = c .before .before .before .before .before .before .before .before .before .before .before .args .line .now in
-    let e = c .before .before .before .before .before .before .word-end in
-    let h = c .before .before .before .before .before .before .before .loop-test .taken in
-    let q = sym (sym (ap valueOf (c .before .before .x .given .1)) ∙ c .before .before .before .before .number .ensures) ∙ ap some (sym (toZ-ofZ {w = w64} (search needs))) in
+    let after-number = c .before .before .before .before in
+    let in-loop = after-number .before .before .before in
+    let l = in-loop .before .loop in
+    let line = in-loop .before .before .before .before .args .line .now in
+    let e = after-number .before .before .word-end in
+    let h = in-loop .loop-test .taken in
+    let q = sym (sym (ap valueOf (c .before .before .x .given .1)) ∙ after-number .number .ensures) ∙ ap some (sym (toZ-ofZ {w = w64} (search needs))) in
     let m = word-moves line (l .i) (e .result) h (l .inv .3 h) (e .ensures) in
     let more = numbers-more line (l .i) (e .result) h (l .inv .3 h) (e .ensures) (l .nums) (l .n) _ q (omega arith) in
     (numbers-end line (e .result) _ (omega arith) ∙ sym more ∙ l .inv .4, omega arith)
 
 loop-less : tie.Need-loop-less Inv-loop μ-loop
 loop-less c =
-    let l = c .before .before .before .before .before .before .before .before .before .loop in
-    let e = c .before .before .before .before .before .before .before .word-end in
-    let h = c .before .before .before .before .before .before .before .before .loop-test .taken in
-    let m = word-moves (c .before .before .before .before .before .before .before .before .before .before .before .before .args .line .now) (l .i) (e .result) h (l .inv .3 h) (e .ensures) in
+    let after-number = c .before .before .before .before .before in
+    let in-loop = after-number .before .before .before in
+    let l = in-loop .before .loop in
+    let e = after-number .before .before .word-end in
+    let h = in-loop .loop-test .taken in
+    let m = word-moves (in-loop .before .before .before .before .args .line .now) (l .i) (e .result) h (l .inv .3 h) (e .ensures) in
     omega arith
 
 loop-again : tie.Need-loop-again Inv-loop μ-loop
 loop-again c =
-    let l = c .before .before .before .before .before .before .before .before .before .loop in
-    let line = c .before .before .before .before .before .before .before .before .before .before .before .before .args .line .now in
-    let e = c .before .before .before .before .before .before .before .word-end in
-    let h = c .before .before .before .before .before .before .before .before .loop-test .taken in
-    let q = sym (sym (ap valueOf (c .before .before .before .x .given .1)) ∙ c .before .before .before .before .before .number .ensures) ∙ ap some (sym (toZ-ofZ {w = w64} (search needs))) in
+    let after-number = c .before .before .before .before .before in
+    let in-loop = after-number .before .before .before in
+    let l = in-loop .before .loop in
+    let line = in-loop .before .before .before .before .args .line .now in
+    let e = after-number .before .before .word-end in
+    let h = in-loop .loop-test .taken in
+    let q = sym (sym (ap valueOf (c .before .before .before .x .given .1)) ∙ after-number .number .ensures) ∙ ap some (sym (toZ-ofZ {w = w64} (search needs))) in
     let m = word-moves line (l .i) (e .result) h (l .inv .3 h) (e .ensures) in
     let more = numbers-more line (l .i) (e .result) h (l .inv .3 h) (e .ensures) (l .nums) (l .n) _ q (omega arith) in
     let k : e .result < length line = omega arith in
@@ -70,26 +77,15 @@ pub take-numbers-spec : {M : Type 1} → statement M
 take-numbers-spec =
     tie.close
     (tie.spec
-    Inv-loop
-    μ-loop
+    Inv-loop μ-loop
     (λ c κs. search needs)
     loop-holds
-    (λ c κs. search needs)
-    (λ c. search needs)
-    (λ c. search needs)
-    (λ c. search needs)
-    (λ c κs. search needs)
-    (λ c. search needs)
-    (λ c. search needs)
-    (λ c. search needs)
+    (λ c κs. search needs) (λ c. search needs) (λ c. search needs) (λ c. search needs) (λ c κs. search needs)
+    (λ c. search needs) (λ c. search needs) (λ c. search needs)
     returns
-    (λ c. search needs)
-    (λ c. search needs)
-    (λ c. search needs)
-    (λ c. search needs)
+    (λ c. search needs) (λ c. search needs) (λ c. search needs) (λ c. search needs)
     returns-2
-    (λ c. search needs)
-    (λ c κs. search needs)
+    (λ c. search needs) (λ c κs. search needs)
     loop-less
     loop-again
     (λ c. search needs)

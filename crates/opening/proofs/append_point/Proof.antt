@@ -8,22 +8,27 @@ use Rattle.opening.proofs.CallNumbers.{append-is}
 use Rattle.opening.proofs.append_point.Statement.{statement}
 use Rattle.opening.proofs.append_point.Tie as tie
 
+-- ---- the places on the way
+
+abbrev start : tie.After-natural → tie.Start
+start c = c .before .before .before .before .before
+
 mirn-is : (c : tie.After-natural) → c .natural .result ≡ natOf (c .before .before .before .before .before .args .n .mirn)
 mirn-is c =
     let s = c .before in
     c .natural .ensures .0 ∙ natural-read (s .before .before .before .before .args .n .mirn) (sfits-of (s .struct-told4 .given .0 .1))
 
-kind-is : (c : tie.After-natural2) → c .natural2 .result ≡ natOf (c .before .before .before .before .before .before .args .n .kind)
+kind-is : (c : tie.After-natural2) → c .natural2 .result ≡ natOf (start (c .before) .args .n .kind)
 kind-is c =
     let s = c .before .before in
     c .natural2 .ensures .0 ∙ natural-read (s .before .before .before .before .args .n .kind) (sfits-of (s .struct-told4 .given .1 .0 .1))
 
-user-is : (c : tie.After-natural3) → c .natural3 .result ≡ natOf (c .before .before .before .before .before .before .before .args .n .user)
+user-is : (c : tie.After-natural3) → c .natural3 .result ≡ natOf (start (c .before .before) .args .n .user)
 user-is c =
     let s = c .before .before .before in
     c .natural3 .ensures .0 ∙ natural-read (s .before .before .before .before .args .n .user) (sfits-of (s .struct-told4 .given .1 .1 .0 .1))
 
-install-is : (c : tie.After-natural4) → c .natural4 .result ≡ natOf (c .before .before .before .before .before .before .before .before .args .n .install)
+install-is : (c : tie.After-natural4) → c .natural4 .result ≡ natOf (start (c .before .before .before) .args .n .install)
 install-is c =
     let s = c .before .before .before .before in
     c .natural4 .ensures .0 ∙ natural-read (s .before .before .before .before .args .n .install) (sfits-of (s .struct-told4 .given .1 .1 .1 .0 .1))
@@ -31,35 +36,25 @@ install-is c =
 open-point-requires : tie.Need-open-point-requires
 open-point-requires c κs =
     let r = c .before .before in
-    let s = r .before .before .before .before .before .before .before .before in
+    let s = start (r .before .before .before) in
     (omega (arith, part-long (s .args .t .now) (s .args .i) (omega arith)), omega (arith, mirn-is (r .before .before .before)), omega (arith, kind-is (r .before .before)), omega (arith, install-is r), omega (arith, c .before .base-load .ensures), omega (arith, user-is (r .before)))
 
 returns : tie.Need-returns
 returns c =
     let r = c .before .before .before .before in
-    let m = r .before .before .before .before .before .before in
-    let s = m .before .before .before .before .before .args in
+    let after-natural4 = r .before .before .before in
+    let m = after-natural4 .before .before .before in
+    let s = start m .args in
     c .before .put .ensures
-    ∙ append-is (s .t .now) (s .i) (s .n) (mirn-is m) (kind-is (r .before .before .before .before .before)) (user-is (r .before .before .before .before)) (install-is (r .before .before .before)) (r .before .before .base-load .ensures) (r .open-point .ensures)
+    ∙ append-is (s .t .now) (s .i) (s .n) (mirn-is m) (kind-is (after-natural4 .before .before)) (user-is (after-natural4 .before)) (install-is after-natural4) (r .before .before .base-load .ensures) (r .open-point .ensures)
 
 pub append-point-spec : {M : Type 1} → statement M
 append-point-spec =
     tie.close
     (tie.spec
-    (λ c κs. search needs)
-    (λ c κs. search needs)
-    (λ c κs. search needs)
-    (λ c κs. search needs)
-    (λ c κs. search needs)
-    (λ c. search needs)
-    (λ c. search needs)
-    (λ c. search needs)
-    (λ c. search needs)
-    (λ c. search needs)
-    (λ c. search needs)
-    (λ c. search needs)
+    (λ c κs. search needs) (λ c κs. search needs) (λ c κs. search needs) (λ c κs. search needs) (λ c κs. search needs)
+    (λ c. search needs) (λ c. search needs) (λ c. search needs) (λ c. search needs) (λ c. search needs)
+    (λ c. search needs) (λ c. search needs)
     open-point-requires
-    (λ c. search needs)
-    (λ c κs. search needs)
-    (λ c. search needs)
+    (λ c. search needs) (λ c κs. search needs) (λ c. search needs)
     returns)

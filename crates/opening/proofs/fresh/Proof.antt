@@ -17,6 +17,11 @@ use Rattle.opening.proofs.FreshCall.{fresh-short, fresh-out, fresh-ente
 use Rattle.opening.proofs.fresh.Statement.{statement}
 use Rattle.opening.proofs.fresh.Tie as tie
 
+-- ---- the places on the way
+
+abbrev else1 : tie.After-is-range → tie.Else1
+else1 c = c .before .before .before .before .before
+
 returns : tie.Need-returns
 returns c = tells (fresh-short (c .before .args .t .now) (c .before .args .n) (c .if1 .taken)) refl
 
@@ -31,7 +36,7 @@ daily-is c =
     c .bias2 .ensures ∙ bias-read (s .before .before .before .args .n .daily) (sfits-of (s .struct-told2 .given .1 .0 .1))
 
 tested : (c : tie.After-is-range2) → (c .before .is-range .result && c .is-range2 .result)
-    ≡ (isRange (c .before .before .before .before .before .before .before .args .n .nondaily) && isRange (c .before .before .before .before .before .before .before .args .n .daily))
+    ≡ (isRange (else1 (c .before) .before .args .n .nondaily) && isRange (else1 (c .before) .before .args .n .daily))
 tested c =
     let b = c .before .before in
     let n = b .before .before .before .before .before .args .n in
@@ -39,7 +44,7 @@ tested c =
 
 returns-2 : tie.Need-returns-2
 returns-2 c =
-    let r = c .before .before .before .before .before .before .before in
+    let r = else1 (c .before .before) in
     tells (fresh-out (r .before .args .t .now) (r .before .args .n) (r .if1 .left) (sym (tested (c .before)) ∙ not-true _ (c .if2 .taken))) refl
 
 small : (c : tie.After-is-range2) → (c .before .is-range .result && c .is-range2 .result) ≡ true
@@ -50,7 +55,7 @@ small c e =
 
 empty-requires : tie.Need-empty-requires
 empty-requires c κs =
-    let r = c .before .before .before .before .before .before .before .before in
+    let r = else1 (c .before .before .before) in
     let b = small (c .before .before) (not-false _ (c .before .if2 .left)) in
     (r .if1 .left, omega (arith, b .0), omega (arith, b .1))
 
@@ -75,10 +80,7 @@ fresh-spec =
     tie.close
     (tie.spec
     returns
-    (λ c κs. search needs)
-    (λ c κs. search needs)
-    (λ c κs. search needs)
-    (λ c κs. search needs)
+    (λ c κs. search needs) (λ c κs. search needs) (λ c κs. search needs) (λ c κs. search needs)
     returns-2
     empty-requires
     (λ c. search needs)

@@ -8,7 +8,8 @@ use Rattle.opening.proofs.in_range.Tie as tie
 returns : tie.Need-returns
 returns c =
     let s = c .before .before .before .before in
-    let n = s .before .before .before .before .before .before .args .n in
+    let after-struct-told3 = s .before .before .before in
+    let n = after-struct-told3 .before .before .before .args .n in
     let fits = s .before .struct-told5 .given in
     in-range-is n
     (s .natural .ensures .0 ∙ natural-read (n .mirn) (sfits-of (fits .0 .1)))
@@ -21,9 +22,5 @@ pub in-range-spec : {M : Type 1} → statement M
 in-range-spec =
     tie.close
     (tie.spec
-    (λ c κs. search needs)
-    (λ c κs. search needs)
-    (λ c κs. search needs)
-    (λ c κs. search needs)
-    (λ c κs. search needs)
+    (λ c κs. search needs) (λ c κs. search needs) (λ c κs. search needs) (λ c κs. search needs) (λ c κs. search needs)
     returns)

@@ -18,6 +18,11 @@ use Rattle.opening.proofs.OpenCall.{ranged, open-unsound, open-out, ope
 use Rattle.opening.proofs.open.Statement.{statement}
 use Rattle.opening.proofs.open.Tie as tie
 
+-- ---- the places on the way
+
+abbrev else1 : tie.After-natural → tie.Else1
+else1 c = c .before .before .before .before
+
 returns : tie.Need-returns
 returns c =
     let s = c .before .before .before .args in
@@ -33,7 +38,7 @@ returns-2 c =
     let s = c .before .before .before .before .before .args in
     tells (open-out (s .t .now) (s .n) (is-sound (c .before)) (sym (c .before .in-range .ensures) ∙ not-true _ (c .if2 .taken))) refl
 
-is-ranged : (c : tie.After-natural) → ranged (c .before .before .before .before .before .before .before .args .n) ≡ true
+is-ranged : (c : tie.After-natural) → ranged (else1 c .before .before .before .args .n) ≡ true
 is-ranged c = sym (c .before .before .before .in-range .ensures) ∙ not-false _ (c .before .before .if2 .left)
 
 index-of-requires : tie.Need-index-of-requires
@@ -42,10 +47,10 @@ index-of-requires c κs =
     sound-long (r .before .before .before .before .args .t .now) (is-sound r)
 
 index-is : (c : tie.After-index-of) → c .index-of .result
-    ≡ maybe 32 (λ k. k) (indexOf standard (c .before .before .before .before .before .before .before .before .before .args .t .now) (natOf (c .before .before .before .before .before .before .before .before .before .args .n .mirn)))
+    ≡ maybe 32 (λ k. k) (indexOf standard (else1 (c .before .before) .before .before .before .args .t .now) (natOf (else1 (c .before .before) .before .before .before .args .n .mirn)))
 index-is c =
     let m = c .before .before in
-    let s = m .before .before .before .before .before .before .before .args in
+    let s = else1 m .before .before .before .args in
     c .index-of .ensures .0
     ∙ ap (λ k. maybe 32 (λ i. i) (indexOf standard (s .t .now) k)) (m .natural .ensures .0 ∙ natural-read (s .n .mirn) (sfits-of (m .before .struct-told .given .0 .1)))
 
@@ -58,7 +63,8 @@ returns-3 c =
 
 get-requires : tie.Need-get-requires
 get-requires c κs =
-    let r = c .before .before .before .before .before .before .before in
+    let after-natural = c .before .before .before .before in
+    let r = after-natural .before .before .before in
     omega (arith, sound-long (r .before .before .before .before .args .t .now) (is-sound r))
 
 returns-4 : tie.Need-returns-4
@@ -93,11 +99,9 @@ pub open-spec : {M : Type 1} → statement M
 open-spec =
     tie.close
     (tie.spec
-    (λ c κs. search needs)
-    (λ c. search needs)
+    (λ c κs. search needs) (λ c. search needs)
     returns
-    (λ c κs. search needs)
-    (λ c. search needs)
+    (λ c κs. search needs) (λ c. search needs)
     returns-2
     (λ c κs. search needs)
     index-of-requires

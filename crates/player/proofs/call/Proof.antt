@@ -6,29 +6,16 @@ use Rattle.player.proofs.call.Statement.{statement}
 use Rattle.player.proofs.call.Tie as tie
 
 part-obey-end : tie.Need-part-obey-end
-part-obey-end c = omega (arith, ap takenCount (c .before .before .before .n .given .1), c .before .before .before .before .before .before .take-numbers .ensures .1)
+part-obey-end c =
+    let after-n = c .before .before .before in
+    omega (arith, ap takenCount (after-n .n .given .1), after-n .before .before .before .take-numbers .ensures .1)
 
 pub call-spec : {M : Type 1} → statement M
 call-spec =
     tie.close
     (tie.spec
-    (λ c κs. search needs)
-    (λ c. search needs)
-    (λ c κs. search needs)
-    (λ c. search needs)
-    (λ c. search needs)
-    (λ c. search needs)
-    (λ c. search needs)
-    (λ c κs. search needs)
-    (λ c. search needs)
-    (λ c. search needs)
-    (λ c. search needs)
-    (λ c. search needs)
-    (λ c. search needs)
-    (λ c. search needs)
+    (λ c κs. search needs) (λ c. search needs) (λ c κs. search needs) (λ c. search needs) (λ c. search needs)
+    (λ c. search needs) (λ c. search needs) (λ c κs. search needs) (λ c. search needs) (λ c. search needs)
+    (λ c. search needs) (λ c. search needs) (λ c. search needs) (λ c. search needs)
     part-obey-end
-    (λ c κs. search needs)
-    (λ c. search needs)
-    (λ c. search needs)
-    (λ c. search needs)
-    (λ c. search needs))
+    (λ c κs. search needs) (λ c. search needs) (λ c. search needs) (λ c. search needs) (λ c. search needs))

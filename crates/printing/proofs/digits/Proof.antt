@@ -21,8 +21,9 @@ digit-requires c κs = omega (arith, c .shared-slice-known2 .given (c .before .b
 
 loop-again : tie.Need-loop-again Inv-loop μ-loop
 loop-again c =
-    let a = c .before .before .before .before .before .before .before .before .args in
-    let l = c .before .before .before .before .before .loop in
+    let at-loop = c .before .before .before .before .before in
+    let a = at-loop .before .before .before .args in
+    let l = at-loop .loop in
     (search needs, search needs, simp length-set (omega arith), digits-more (l .out) (a .bytes .now) (take (a .at) (a .out .now) ++ hexDigits (a .bytes .now)) (l .i) (l .end) (c .before .before .digit .result) (c .digit2 .result) (omega arith) (omega arith) (c .before .before .digit .ensures) (c .digit2 .ensures) (l .inv .3))
 
 returns : tie.Need-returns Inv-loop μ-loop
@@ -35,19 +36,12 @@ pub digits-spec : {M : Type 1} → statement M
 digits-spec =
     tie.close
     (tie.spec
-    Inv-loop
-    μ-loop
-    (λ c. search needs)
-    (λ c. search needs)
+    Inv-loop μ-loop
+    (λ c. search needs) (λ c. search needs)
     digit-requires
-    (λ c. search needs)
-    (λ c. search needs)
-    (λ c κs. search needs)
-    (λ c. search needs)
+    (λ c. search needs) (λ c. search needs) (λ c κs. search needs) (λ c. search needs)
     (λ c. simp length-set (omega arith))
-    (λ c. search needs)
-    (λ c. search needs)
-    (λ c. search needs)
+    (λ c. search needs) (λ c. search needs) (λ c. search needs)
     loop-again
     (λ c. search needs)
     returns)

@@ -15,22 +15,18 @@ returns c =
 
 returns-2 : tie.Need-returns-2
 returns-2 c =
-    let a = c .before .before .before .before .before .before .before .args in
+    let else1 = c .before .before .before .before in
+    let a = else1 .before .before .before .args in
     let d = c .before .before .digits in
-    (search needs, record { from = omega arith; written = rw (some-are (a .bytes .now) (c .before .before .before .before .if1 .left)) (one-more (d .last .0) (take (a .at) (a .out .now) ++ hexDigits (a .bytes .now)) (d .result) (a .after) (omega arith) (d .ensures .1) ∙ append-assoc (take (a .at) (a .out .now)) (hexDigits (a .bytes .now)) (a .after ∷ [])) })
+    (search needs, record { from = omega arith; written = rw (some-are (a .bytes .now) (else1 .if1 .left)) (one-more (d .last .0) (take (a .at) (a .out .now) ++ hexDigits (a .bytes .now)) (d .result) (a .after) (omega arith) (d .ensures .1) ∙ append-assoc (take (a .at) (a .out .now)) (hexDigits (a .bytes .now)) (a .after ∷ [])) })
 
 pub put-bytes-spec : {M : Type 1} → statement M
 put-bytes-spec =
     tie.close
     (tie.spec
-    (λ c. search needs)
-    (λ c. search needs)
+    (λ c. search needs) (λ c. search needs)
     (λ c. simp length-set (omega arith))
-    (λ c. search needs)
-    (λ c. search needs)
+    (λ c. search needs) (λ c. search needs)
     returns
-    (λ c κs. search needs)
-    (λ c. search needs)
-    (λ c. search needs)
-    (λ c. search needs)
+    (λ c κs. search needs) (λ c. search needs) (λ c. search needs) (λ c. search needs)
     returns-2)

@@ -19,10 +19,11 @@ abbrev μ-loop : tie.MeasureT-loop
 
 loop-again : tie.Need-loop-again Inv-loop μ-loop
 loop-again c =
-    let s = c .before .before .before .before .before .before .before .before .before .before in
-    let l = c .before .before .before .before .before .before .before .loop in
+    let after-separator = c .before .before .before .before .before in
+    let s = after-separator .before .before .before .before .before in
+    let l = after-separator .before .before .loop in
     let p = c .before .before .put in
-    (search needs, omega (arith, p .ensures .1 .from), search needs, search needs, natural-more (s .args .xs .now) (l .i) (take (l .end) (l .out)) _ (c .before .before .before .before .before .separator .result) (omega arith) (c .before .before .before .before .before .separator .ensures) (p .ensures .1 .written) ∙ l .inv .4)
+    (search needs, omega (arith, p .ensures .1 .from), search needs, search needs, natural-more (s .args .xs .now) (l .i) (take (l .end) (l .out)) _ (after-separator .separator .result) (omega arith) (after-separator .separator .ensures) (p .ensures .1 .written) ∙ l .inv .4)
 
 returns : tie.Need-returns Inv-loop μ-loop
 returns c =
@@ -34,17 +35,9 @@ pub row-spec : {M : Type 1} → statement M
 row-spec =
     tie.close
     (tie.spec
-    Inv-loop
-    μ-loop
-    (λ c. search needs)
-    (λ c. search needs)
-    (λ c. search needs)
-    (λ c κs. search needs)
-    (λ c. search needs)
-    (λ c. search needs)
-    (λ c κs. search needs)
-    (λ c. search needs)
-    (λ c. search needs)
+    Inv-loop μ-loop
+    (λ c. search needs) (λ c. search needs) (λ c. search needs) (λ c κs. search needs) (λ c. search needs)
+    (λ c. search needs) (λ c κs. search needs) (λ c. search needs) (λ c. search needs)
     loop-again
     (λ c. search needs)
     returns)

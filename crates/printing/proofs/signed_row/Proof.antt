@@ -21,10 +21,11 @@ abbrev μ-loop : tie.MeasureT-loop
 
 loop-again : tie.Need-loop-again Inv-loop μ-loop
 loop-again c =
-    let s = c .before .before .before .before .before .before .before .before .before in
-    let l = c .before .before .before .before .before .before .before .loop in
+    let after-separator = c .before .before .before .before .before in
+    let s = after-separator .before .before .before .before in
+    let l = after-separator .before .before .loop in
     let p = c .before .before .put-signed in
-    (search needs, omega (arith, p .ensures .1 .from), search needs, search needs, row-more (s .args .xs .now) (l .i) (take (l .end) (l .out)) _ (c .before .before .before .before .before .separator .result) (omega arith) (c .before .before .before .before .before .separator .ensures) (rw (toZ-ofZ w64 (getD (s .args .xs .now) (l .i) (pos 0)) (sfits-of (c .before .before .before .put-signed-arg2 .given))) at (p .ensures .1 .written)) ∙ l .inv .4)
+    (search needs, omega (arith, p .ensures .1 .from), search needs, search needs, row-more (s .args .xs .now) (l .i) (take (l .end) (l .out)) _ (after-separator .separator .result) (omega arith) (after-separator .separator .ensures) (rw (toZ-ofZ w64 (getD (s .args .xs .now) (l .i) (pos 0)) (sfits-of (c .before .before .before .put-signed-arg2 .given))) at (p .ensures .1 .written)) ∙ l .inv .4)
 
 returns : tie.Need-returns Inv-loop μ-loop
 returns c =
@@ -36,17 +37,9 @@ pub signed-row-spec : {M : Type 1} → statement M
 signed-row-spec =
     tie.close
     (tie.spec
-    Inv-loop
-    μ-loop
-    (λ c. search needs)
-    (λ c. search needs)
-    (λ c. search needs)
-    (λ c κs. search needs)
-    (λ c. search needs)
-    (λ c. search needs)
-    (λ c κs. search needs)
-    (λ c. search needs)
-    (λ c. search needs)
+    Inv-loop μ-loop
+    (λ c. search needs) (λ c. search needs) (λ c. search needs) (λ c κs. search needs) (λ c. search needs)
+    (λ c. search needs) (λ c κs. search needs) (λ c. search needs) (λ c. search needs)
     loop-again
     (λ c. search needs)
     returns)

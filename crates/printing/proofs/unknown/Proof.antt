@@ -19,8 +19,7 @@ pub unknown-spec : {M : Type 1} → statement M
 unknown-spec =
     tie.close
     (tie.spec
-    (λ c. search needs)
-    (λ c. search needs)
+    (λ c. search needs) (λ c. search needs)
     (λ c. simp length-set (omega arith))
     (λ c. search needs)
     (λ c κs. simp length-set (omega arith))

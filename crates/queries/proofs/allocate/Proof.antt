@@ -17,9 +17,10 @@ returns c = nothing _ _ _ (rw (ne-eqb _ _ (c .if1 .taken)))
 returns-2 : tie.Need-returns-2
 unfolding allocateLine
 returns-2 c =
-    let s = c .before .before .before .before .before .before .before .before .before in
+    let after-numbers = c .before .before .before .before .before in
+    let s = after-numbers .before .before .before .before in
     let p = c .before .before .before .print-allocation in
-    called (λ (q : AllocationQuery). (allocationRow (s .args .t .now) q (replicate (s .args .room) (negsuc 6)), s .args .t .now)) 6 (s .args .nums .now) _ (c .before .before .before .before .before .before .before .if1 .left) (c .before .before .before .before .before .before .to-allocation .ensures) refl refl (p .ensures .0) (rw (take-replicate (s .args .room) 64 (negsuc 6) (s .pre .0)) at (p .ensures .1))
+    called (λ (q : AllocationQuery). (allocationRow (s .args .t .now) q (replicate (s .args .room) (negsuc 6)), s .args .t .now)) 6 (s .args .nums .now) _ (after-numbers .before .before .if1 .left) (after-numbers .before .to-allocation .ensures) refl refl (p .ensures .0) (rw (take-replicate (s .args .room) 64 (negsuc 6) (s .pre .0)) at (p .ensures .1))
 
 pub allocate-spec : {M : Type 1} → statement M
 allocate-spec =

@@ -13,18 +13,16 @@ lead-requires c κs =
 
 returns : tie.Need-returns
 returns c =
-    let s = c .before .before .before .before .before .before in
-    let f = c .before .before .before .before .allocate in
+    let after-row = c .before .before .before in
+    let s = after-row .before .before .before in
+    let f = after-row .before .allocate in
     c .before .lead .ensures ∙ allocated (s .args .t .now) (s .args .row .now) _ _ (s .args .q) (allocationNumbers (f .result)) (s .pre) refl (f .ensures .0) (f .ensures .1)
 
 pub allocation-spec : {M : Type 1} → statement M
 allocation-spec =
     tie.close
     (tie.spec
-    (λ c. search needs)
-    (λ c. search needs)
-    (λ c. search needs)
-    (λ c κs. search needs)
+    (λ c. search needs) (λ c. search needs) (λ c. search needs) (λ c κs. search needs)
     lead-requires
     (λ c. search needs)
     returns)

@@ -11,7 +11,8 @@ use Rattle.queries.proofs.lead.Tie as tie
 
 copy-requires : tie.Need-copy-requires
 copy-requires c κs =
-    let sixteen : length (c .before .before .before .before .before .before .before .args .a .totals) ≡ 16 = search needs in
+    let after-put = c .before .before .before in
+    let sixteen : length (after-put .before .before .before .before .args .a .totals) ≡ 16 = search needs in
     simp length-set (omega arith)
 
 same-length : tie.Need-same-length
@@ -19,10 +20,12 @@ same-length c = simp length-set at (c .before .copy .kept .1 .0) ∙ c .before .
 
 returns : tie.Need-returns
 returns c =
-    let a = c .before .before .before .before .before .before .before .before .before .args .a in
+    let after-put = c .before .before .before .before .before in
+    let start = after-put .before .before .before .before in
+    let a = start .args .a in
     let sixteen : length (a .totals) ≡ 16 = search needs in
     let back : toZ w64 (ofZ w64 (a .nsl)) ≡ a .nsl = search needs in
-    rw (back, c .before .before .before .before .before .put .ensures) at (c .before .copy .ensures) ∙ led (c .before .before .before .before .before .before .before .before .before .args .row .now) (a .totals) (pos (a .refusal)) (a .nsl) (c .before .before .before .before .before .before .before .before .before .pre .0) sixteen
+    rw (back, after-put .put .ensures) at (c .before .copy .ensures) ∙ led (start .args .row .now) (a .totals) (pos (a .refusal)) (a .nsl) (start .pre .0) sixteen
 
 pub lead-spec : {M : Type 1} → statement M
 lead-spec =

@@ -17,21 +17,18 @@ returns c = nothing _ _ _ (rw (ne-eqb _ _ (c .if1 .taken)))
 
 returns-2 : tie.Need-returns-2
 returns-2 c =
-    let s = c .before .before .before .before .before .before .before .before .before .before in
-    let k = c .before .before .before .before .before .before .look-up in
+    let after-sums = c .before .before .before .before .before in
+    let s = after-sums .before .before .before .before .before in
+    let k = after-sums .before .look-up in
     let p = c .before .before .row in
-    let u = c .before .before .before .before .before .sums in
-    looked (s .args .t .now) (s .args .nums .now) (k .result .now) _ (u .result .s1) (u .result .s2) (c .before .before .before .before .before .before .before .before .if1 .left) (toZ-ofZ {w = w64} {z = getD (s .args .nums .now) 0 (pos 0)} (search needs)) (k .ensures) (u .ensures .0) (u .ensures .1) (omega (arith, p .ensures .0)) (p .ensures .1)
+    let u = after-sums .sums in
+    looked (s .args .t .now) (s .args .nums .now) (k .result .now) _ (u .result .s1) (u .result .s2) (after-sums .before .before .before .if1 .left) (toZ-ofZ {w = w64} {z = getD (s .args .nums .now) 0 (pos 0)} (search needs)) (k .ensures) (u .ensures .0) (u .ensures .1) (omega (arith, p .ensures .0)) (p .ensures .1)
 
 pub look-spec : {M : Type 1} → statement M
 look-spec =
     tie.close
     (tie.spec
     returns
-    (λ c. search needs)
-    (λ c κs. search needs)
-    (λ c κs. search needs)
-    (λ c. search needs)
-    (λ c κs. search needs)
+    (λ c. search needs) (λ c κs. search needs) (λ c κs. search needs) (λ c. search needs) (λ c κs. search needs)
     (λ c. search needs)
     returns-2)

@@ -15,7 +15,9 @@ returns-2 c = nothing _ _ _ (poke-outside _ _ (c .before .get .result) (c .befor
 returns-3 : tie.Need-returns-3
 returns-3 c =
     let p = c .before .before .row in
-    something _ (poke-inside _ _ (c .before .before .before .before .before .before .before .before .before .get .result) (c .before .before .before .before .before .before .before .before .before .before .if1 .left) (c .before .before .before .before .before .before .before .before .before .get .ensures .0) (c .before .before .before .before .before .before .before .before .if2 .left)) (omega (arith, p .ensures .0)) (c .before .before .before .before .before .before .put .ensures) refl (p .ensures .1)
+    let after-t = c .before .before .before .before .before in
+    let else2 = after-t .before .before .before in
+    something _ (poke-inside _ _ (else2 .before .get .result) (else2 .before .before .if1 .left) (else2 .before .get .ensures .0) (else2 .if2 .left)) (omega (arith, p .ensures .0)) (after-t .before .put .ensures) refl (p .ensures .1)
 
 pub poke-spec : {M : Type 1} → statement M
 poke-spec =
@@ -24,9 +26,5 @@ poke-spec =
     returns
     (λ c κs. search needs)
     returns-2
-    (λ c κs. search needs)
-    (λ c. search needs)
-    (λ c κs. search needs)
-    (λ c. search needs)
-    (λ c. search needs)
+    (λ c κs. search needs) (λ c. search needs) (λ c κs. search needs) (λ c. search needs) (λ c. search needs)
     returns-3)

@@ -23,8 +23,9 @@ loop-holds c = (search needs, refl)
 
 loop-again : tie.Need-loop-again Inv-loop μ-loop
 loop-again c =
-    let l = c .before .before .before .before .before .loop in
-    (search needs, sums-more (c .before .before .before .before .before .before .args .t .now) (l .i) (l .s1) (l .s2) (c .before .before .bits .result) (c .before .wrapping-add-u64 .result) (c .wrapping-add-u642 .result) (c .before .before .before .before .loop-test .taken) (c .before .before .bits .ensures ∙ ap (ofZ w64) (toZ-ofZ {w = w64} {z = getD (c .before .before .before .before .before .before .args .t .now) (l .i) (pos 0)} (search needs))) (c .before .wrapping-add-u64 .ensures) (c .wrapping-add-u642 .ensures) ∙ l .inv .1)
+    let in-loop = c .before .before .before .before in
+    let l = in-loop .before .loop in
+    (search needs, sums-more (in-loop .before .before .args .t .now) (l .i) (l .s1) (l .s2) (c .before .before .bits .result) (c .before .wrapping-add-u64 .result) (c .wrapping-add-u642 .result) (in-loop .loop-test .taken) (c .before .before .bits .ensures ∙ ap (ofZ w64) (toZ-ofZ {w = w64} {z = getD (in-loop .before .before .args .t .now) (l .i) (pos 0)} (search needs))) (c .before .wrapping-add-u64 .ensures) (c .wrapping-add-u642 .ensures) ∙ l .inv .1)
 
 returns : tie.Need-returns Inv-loop μ-loop
 returns c =
@@ -36,15 +37,9 @@ pub sums-spec : {M : Type 1} → statement M
 sums-spec =
     tie.close
     (tie.spec
-    Inv-loop
-    μ-loop
+    Inv-loop μ-loop
     loop-holds
-    (λ c. search needs)
-    (λ c. search needs)
-    (λ c κs. search needs)
-    (λ c κs. search needs)
-    (λ c κs. search needs)
-    (λ c. search needs)
-    (λ c. search needs)
+    (λ c. search needs) (λ c. search needs) (λ c κs. search needs) (λ c κs. search needs) (λ c κs. search needs)
+    (λ c. search needs) (λ c. search needs)
     loop-again
     returns)

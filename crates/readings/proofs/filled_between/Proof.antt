@@ -45,13 +45,11 @@ pub filled-between-spec : {M : Type 1} → statement M
 filled-between-spec =
     tie.close
     (tie.spec
-    Inv-loop
-    μ-loop
+    Inv-loop μ-loop
     (λ c κs. search needs)
     loop-holds
     (λ c κs. search needs)
     add-sum
-    (λ c. search needs)
-    (λ c. search needs)
+    (λ c. search needs) (λ c. search needs)
     loop-again
     returns)

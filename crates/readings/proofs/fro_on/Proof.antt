@@ -36,12 +36,10 @@ pub fro-on-spec : {M : Type 1} → statement M
 fro-on-spec =
     tie.close
     (tie.spec
-    Inv-loop
-    μ-loop
+    Inv-loop μ-loop
     (λ c κs. search needs)
     loop-holds
     user-since-requires
-    (λ c. search needs)
-    (λ c. search needs)
+    (λ c. search needs) (λ c. search needs)
     loop-again
     returns)

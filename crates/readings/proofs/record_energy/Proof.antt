@@ -110,11 +110,14 @@ parts c =
     }
 
 sub-result : tie.Need-sub-result
-sub-result c = parts-near (row (c .before .before .before .before .before .before .before .before)) (parts c) .0
+sub-result c =
+    let else1 = c .before .before .before .before .before in
+    parts-near (row (else1 .before .before .before)) (parts c) .0
 
 returns-2 : tie.Need-returns-2
 returns-2 c =
-    let k = row (c .before .before .before .before .before .before .before .before) in
+    let else1 = c .before .before .before .before .before in
+    let k = row (else1 .before .before .before) in
     (parts-are k (parts c), omega (arith, parts-near k (parts c) .1))
 
 pub record-energy-spec : {M : Type 1} → statement M

@@ -43,8 +43,7 @@ cannot-off-spec =
     (tie.spec
     (λ c κs. search needs)
     returns
-    (λ c. search needs)
-    (λ c. search needs)
+    (λ c. search needs) (λ c. search needs)
     add-get-until
     add-get-until-2
     get-until-requires

@@ -50,8 +50,7 @@ cannot-on-spec =
     (tie.spec
     (λ c κs. search needs)
     returns
-    (λ c. search needs)
-    (λ c. search needs)
+    (λ c. search needs) (λ c. search needs)
     add-at
     add-get-until
     get-until-requires

@@ -24,6 +24,9 @@ use Rattle.status.proofs.status.Tie as tie
 
 -- ---- the places on the way, each with the entry
 
+abbrev else2 : tie.After-natural → tie.Else2
+else2 c = c .before .before .before .before .before
+
 abbrev sounds : tie.Else1 → tie.Start
 sounds c = c .before .before .before
 
@@ -31,7 +34,7 @@ abbrev ranges : tie.Else2 → tie.Start
 ranges c = sounds (c .before .before)
 
 abbrev tests : tie.After-index-of → tie.Else2
-tests c = c .before .before .before .before .before .before
+tests c = else2 (c .before)
 
 abbrev finds : tie.After-natural2 → tie.After-index-of
 finds c = c .before .before .before
@@ -89,7 +92,7 @@ returns-2 c =
 
 index-of-requires : tie.Need-index-of-requires
 index-of-requires c κs =
-    let e = c .before .before .before .before .before .before .before in
+    let e = else2 c .before .before in
     sound-long (sounds e .args .t .now) (sound-is e)
 
 returns-3 : tie.Need-returns-3
@@ -140,25 +143,18 @@ pub status-spec : {M : Type 1} → statement M
 status-spec =
     tie.close
     (tie.spec
-    (λ c κs. search needs)
-    (λ c. search needs)
+    (λ c κs. search needs) (λ c. search needs)
     returns
-    (λ c κs. search needs)
-    (λ c. search needs)
+    (λ c κs. search needs) (λ c. search needs)
     returns-2
     (λ c κs. search needs)
     index-of-requires
     (λ c. search needs)
     returns-3
-    (λ c. search needs)
-    (λ c. search needs)
-    (λ c. search needs)
-    (λ c. search needs)
-    (λ c. search needs)
+    (λ c. search needs) (λ c. search needs) (λ c. search needs) (λ c. search needs) (λ c. search needs)
     (λ c. search needs)
     part-enter-end
-    (λ c κs. search needs)
-    (λ c κs. search needs)
+    (λ c κs. search needs) (λ c κs. search needs)
     enter-requires
     (λ c. search needs)
     returns-4

@@ -33,18 +33,20 @@ close-span-requires c κs =
 
 returns : tie.Need-returns
 returns c =
-    let s = c .before .before .before .before .before .before in
+    let then1 = c .before .before .before in
+    let s = then1 .before .before .before in
     let l = part-lays (s .args .p .now) 48 (s .pre .1) (s .pre .0) in
-    let g = c .before .before .before .before .get .ensures .0 in
+    let g = then1 .before .get .ensures .0 in
     let e = place-offs (l .0) (l .1) in
-    let h = room-to-open _ _ (pointFrom (s .args .p .now)) (s .pre .4) (c .before .before .before .if1 .taken) in
-    c .before .open-span .ensures ∙ open-is (l .0) (l .1) (s .args .day) _ (s .args .on) g (omega arith) (c .before .before .before .if1 .taken)
+    let h = room-to-open _ _ (pointFrom (s .args .p .now)) (s .pre .4) (then1 .if1 .taken) in
+    c .before .open-span .ensures ∙ open-is (l .0) (l .1) (s .args .day) _ (s .args .on) g (omega arith) (then1 .if1 .taken)
 
 returns-2 : tie.Need-returns-2
 returns-2 c =
-    let s = c .before .before .before .before .before .before in
+    let else1 = c .before .before .before in
+    let s = else1 .before .before .before in
     let l = part-lays (s .args .p .now) 48 (s .pre .1) (s .pre .0) in
-    let g = c .before .before .before .before .get .ensures .0 in
+    let g = else1 .before .get .ensures .0 in
     let e = place-offs (l .0) (l .1) in
     let h = span-to-close _ _ (pointFrom (s .args .p .now)) (s .pre .4) (omega arith) in
     c .before .close-span .ensures ∙ close-is (l .0) (l .1) (s .args .day) _ (s .args .on) g (omega arith) (omega arith)

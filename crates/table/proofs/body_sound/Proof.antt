@@ -6,11 +6,12 @@ use Rattle.table.proofs.body_sound.Tie as tie
 -- src/lib.rt:93:1
 returns : tie.Need-returns
 returns c =
-    let s = c .before .before .before .before .before .before in
+    let after-zeros-in = c .before .before .before in
+    let s = after-zeros-in .before .before .before in
     body-is (s .args .t .now) (s .args .n) _ _ _ _ _ _ (s .pre .2)
-    (c .before .before .before .before .before .range-ok .ensures)
-    (c .before .before .before .before .range-ok2 .ensures)
-    (c .before .before .before .zeros-in .ensures)
+    (after-zeros-in .before .before .range-ok .ensures)
+    (after-zeros-in .before .range-ok2 .ensures)
+    (after-zeros-in .zeros-in .ensures)
     (c .before .before .parts-sound .ensures)
     (c .before .mirns-differ .ensures)
     (c .zeros-in2 .ensures)
@@ -19,12 +20,6 @@ pub body-sound-spec : {M : Type 1} → statement M
 body-sound-spec =
     tie.close
     (tie.spec
-    (λ c. search needs)
-    (λ c. search needs)
-    (λ c κs. search needs)
-    (λ c κs. search needs)
-    (λ c κs. search needs)
-    (λ c κs. search needs)
-    (λ c κs. search needs)
-    (λ c κs. search needs)
+    (λ c. search needs) (λ c. search needs) (λ c κs. search needs) (λ c κs. search needs) (λ c κs. search needs)
+    (λ c κs. search needs) (λ c κs. search needs) (λ c κs. search needs)
     returns)

@@ -44,13 +44,11 @@ pub parts-sound-spec : {M : Type 1} → statement M
 parts-sound-spec =
     tie.close
     (tie.spec
-    Inv-loop
-    μ-loop
+    Inv-loop μ-loop
     loop-holds
     (λ c κs. search needs)
     part-sound-requires
     returns
-    (λ c. search needs)
-    (λ c. search needs)
+    (λ c. search needs) (λ c. search needs)
     loop-again
     returns-2)

@@ -95,7 +95,8 @@ returns-3 c =
 
 index-of-requires : tie.Need-index-of-requires
 index-of-requires c κs =
-    let e = c .before .before .before .before .before .before .before in
+    let else3 = c .before .before .before in
+    let e = else3 .before .before .before .before in
     sound-long (sounds e .args .t .now) (sound-is e)
 
 returns-4 : tie.Need-returns-4
@@ -144,28 +145,18 @@ pub request-spec : {M : Type 1} → statement M
 request-spec =
     tie.close
     (tie.spec
-    (λ c κs. search needs)
-    (λ c. search needs)
+    (λ c κs. search needs) (λ c. search needs)
     returns
-    (λ c κs. search needs)
-    (λ c. search needs)
+    (λ c κs. search needs) (λ c. search needs)
     returns-2
-    (λ c κs. search needs)
-    (λ c. search needs)
+    (λ c κs. search needs) (λ c. search needs)
     returns-3
     (λ c κs. search needs)
     index-of-requires
     (λ c. search needs)
     returns-4
-    (λ c κs. search needs)
-    (λ c κs. search needs)
-    (λ c κs. search needs)
-    (λ c. search needs)
-    (λ c. search needs)
-    (λ c. search needs)
-    (λ c. search needs)
-    (λ c. search needs)
-    (λ c. search needs)
+    (λ c κs. search needs) (λ c κs. search needs) (λ c κs. search needs) (λ c. search needs) (λ c. search needs)
+    (λ c. search needs) (λ c. search needs) (λ c. search needs) (λ c. search needs)
     part-request-at-end
     request-at-requires
     (λ c. search needs)

@@ -10,6 +10,11 @@ use Rattle.transfer.proofs.Points.{registrations-count, request-waiting
 use Rattle.transfer.proofs.request_at.Statement.{statement}
 use Rattle.transfer.proofs.request_at.Tie as tie
 
+-- ---- the places on the way
+
+abbrev start : tie.After-get2 → tie.Start
+start c = c .before .before .before .before .before
+
 -- what the three places hold
 idle-is : (c : tie.Else1) → numAt (c .before .before .before .args .p .now) 7 ≡ 0
 idle-is c = sym (c .before .get .ensures .0) ∙ c .if1 .left
@@ -17,7 +22,7 @@ idle-is c = sym (c .before .get .ensures .0) ∙ c .if1 .left
 count-is : (c : tie.After-get2) → c .get2 .result ≡ numAt (c .before .before .before .before .before .args .p .now) 4
 count-is c = c .get2 .ensures .0
 
-latest-is : (c : tie.After-get3) → c .get3 .result ≡ numAt (c .before .before .before .before .before .before .before .args .p .now) (15 + 2 * numAt (c .before .before .before .before .before .before .before .args .p .now) 4)
+latest-is : (c : tie.After-get3) → c .get3 .result ≡ numAt (start (c .before .before) .args .p .now) (15 + 2 * numAt (start (c .before .before) .args .p .now) 4)
 latest-is c =
     let n = c .before .before in
     c .get3 .ensures .0 ∙ ap (λ k. numAt (n .before .before .before .before .before .args .p .now) (15 + 2 * k)) (count-is n)
@@ -31,17 +36,17 @@ returns c =
 
 mul-get : tie.Need-mul-get
 mul-get c =
-    let s = c .before .before .before .before .before .before in
+    let s = start (c .before) in
     omega (arith, count-is (c .before), registrations-count (s .args .p .now) (s .pre .0) (s .pre .1) .1)
 
 add-get : tie.Need-add-get
 add-get c =
-    let s = c .before .before .before .before .before .before in
+    let s = start (c .before) in
     omega (arith, count-is (c .before), registrations-count (s .args .p .now) (s .pre .0) (s .pre .1) .1)
 
 get-requires-3 : tie.Need-get-requires-3
 get-requires-3 c κs =
-    let s = c .before .before .before .before .before .before in
+    let s = start (c .before) in
     omega (arith, count-is (c .before), registrations-count (s .args .p .now) (s .pre .0) (s .pre .1) .1)
 
 returns-2 : tie.Need-returns-2
@@ -79,7 +84,7 @@ set-pending-requires : tie.Need-set-pending-requires
 set-pending-requires c κs =
     let f = c .before .before .before in
     let a = f .before .before in
-    let s = a .before .before .before .before .before .before .before .before .before in
+    let s = start (a .before .before .before .before) in
     let b = period-bound (s .args .holidays .now) (s .args .proposed .0) (s .args .nochange) _ _ (sym (a .allowable-period .ensures) ∙ ap periodDays (f .period .given .1)) (s .pre .3) in
     (omega arith, omega arith, omega arith, omega arith)
 
@@ -101,8 +106,7 @@ pub request-at-spec : {M : Type 1} → statement M
 request-at-spec =
     tie.close
     (tie.spec
-    (λ c κs. search needs)
-    (λ c. search needs)
+    (λ c κs. search needs) (λ c. search needs)
     returns
     (λ c κs. search needs)
     mul-get
@@ -110,10 +114,7 @@ request-at-spec =
     get-requires-3
     (λ c. search needs)
     returns-2
-    (λ c κs. search needs)
-    (λ c. search needs)
-    (λ c. search needs)
-    (λ c. search needs)
+    (λ c κs. search needs) (λ c. search needs) (λ c. search needs) (λ c. search needs)
     returns-3
     (λ c. search needs)
     returns-4

@@ -67,7 +67,8 @@ returns-2 c =
 
 index-of-requires : tie.Need-index-of-requires
 index-of-requires c κs =
-    let e = c .before .before .before .before .before .before in
+    let else2 = c .before .before .before .before in
+    let e = else2 .before .before in
     sound-long (sounds e .args .t .now) (sound-is e)
 
 returns-3 : tie.Need-returns-3
@@ -108,23 +109,16 @@ pub withdraw-spec : {M : Type 1} → statement M
 withdraw-spec =
     tie.close
     (tie.spec
-    (λ c κs. search needs)
-    (λ c. search needs)
+    (λ c κs. search needs) (λ c. search needs)
     returns
-    (λ c κs. search needs)
-    (λ c. search needs)
+    (λ c κs. search needs) (λ c. search needs)
     returns-2
     (λ c κs. search needs)
     index-of-requires
     (λ c. search needs)
     returns-3
-    (λ c κs. search needs)
-    (λ c. search needs)
-    (λ c. search needs)
-    (λ c. search needs)
-    (λ c. search needs)
-    (λ c. search needs)
-    (λ c. search needs)
+    (λ c κs. search needs) (λ c. search needs) (λ c. search needs) (λ c. search needs) (λ c. search needs)
+    (λ c. search needs) (λ c. search needs)
     part-withdraw-at-end
     withdraw-at-requires
     (λ c. search needs)

@@ -15,8 +15,9 @@ returns c =
 
 returns-2 : tie.Need-returns-2
 returns-2 c =
-    let s = c .before .before .before .before .before .before in
-    let g = c .before .before .before in
+    let else1 = c .before .before .before in
+    let s = else1 .before .before .before in
+    let g = else1 in
     let p = s .args .p .now in
     let u = s .args .user in
     let w = gives (withdraw-own p u (s .pre .2) (s .pre .0) (s .pre .1) (sym (g .before .get .ensures .0) ∙ g .if1 .left)) in

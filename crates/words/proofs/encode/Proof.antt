@@ -22,8 +22,9 @@ loop-holds c = search needs
 
 loop-again : tie.Need-loop-again Inv-loop μ-loop
 loop-again c =
-    let l = c .before .before .before .before .before .before .loop in
-    (search needs, (search needs, encoded-more _ _ _ _ _ _ _ _ (l .inv .1 .1) (toZ-ofZ (search needs)) (c .before .before .put-word .ensures)))
+    let after-put-word = c .before .before in
+    let l = after-put-word .before .before .before .before .loop in
+    (search needs, (search needs, encoded-more _ _ _ _ _ _ _ _ (l .inv .1 .1) (toZ-ofZ (search needs)) (after-put-word .put-word .ensures)))
 
 returns : tie.Need-returns Inv-loop μ-loop
 returns c =
@@ -35,17 +36,10 @@ pub encode-spec : {M : Type 1} → statement M
 encode-spec =
     tie.close
     (tie.spec
-    Inv-loop
-    μ-loop
+    Inv-loop μ-loop
     loop-holds
-    (λ c. search needs)
-    (λ c. search needs)
-    (λ c. search needs)
-    (λ c. search needs)
-    (λ c. search needs)
-    (λ c κs. search needs)
-    (λ c. search needs)
-    (λ c. search needs)
+    (λ c. search needs) (λ c. search needs) (λ c. search needs) (λ c. search needs) (λ c. search needs)
+    (λ c κs. search needs) (λ c. search needs) (λ c. search needs)
     loop-again
     (λ c. search needs)
     returns)
