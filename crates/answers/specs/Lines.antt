@@ -1,5 +1,5 @@
--- What each notice of a journal does on the numbers of its line: the row that it prints, and the register after it. A line with
--- another count of numbers is no call, and does nothing.
+-- What each notice of a journal does on the numbers of its line: the row that it prints, and the register after it. A
+-- line with another count of numbers is no call, and does nothing.
 use mathlib.Core.Bool.{cond, _&&_}
 use mathlib.Core.List.{List, []}
 use mathlib.Core.Option.{Option, none, some}
@@ -37,7 +37,15 @@ abbrev pub openingOf : List ℤ → Opening
 openingOf xs = record { mirn = num xs 0; kind = num xs 1; user = num xs 2; install = num xs 3; base = num xs 4 }
 
 abbrev pub energyNoticeOf : List ℤ → EnergyNotice
-energyNoticeOf xs = record { mirn = num xs 0; start = num xs 1; end = num xs 2; energy = num xs 3; «type_» = num xs 4; confirmed = num xs 5 }
+energyNoticeOf xs =
+    record {
+      mirn = num xs 0;
+      start = num xs 1;
+      end = num xs 2;
+      energy = num xs 3;
+      «type_» = num xs 4;
+      confirmed = num xs 5;
+    }
 
 abbrev pub statusOf : List ℤ → StatusNotice
 statusOf xs = record { mirn = num xs 0; day = num xs 1; on = num xs 2 }

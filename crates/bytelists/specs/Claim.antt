@@ -10,8 +10,9 @@ use Rattle.buffers.specs.Buffers.{tableIn}
 use Rattle.bytelists.specs.ByteLists.{LentCall, petlumas-fresh, byteStep, byteRun, replies, bookRun, bookReplies}
 
 -- Lend any bytes b₀ and any answer buffer to petlumas_fresh, with any two ranges n. If it returns 0, then lend the
--- bytes that it left, b, to any calls of the hub, one after the other, with any numbers and with buffers of any bytes. Of the
--- table in the register's bytes after the last call and the day book given the same calls all that `Agrees` says holds.
+-- bytes that it left, b, to any calls of the hub, one after the other, with any numbers and with buffers of any bytes.
+-- Of the table in the register's bytes after the last call and the day book given the same calls all that `Agrees` says
+-- holds.
 -- Each call returns what the book's answer begins with, and leaves the bytes of the book's numbers in its answer buffer
 -- and, for an allocation, in its answer table; the book decides a request by the holidays that its bytes spell. A call
 -- whose answer buffer is too short for the book's answer returns 2, and leaves the book and its buffers as they were.

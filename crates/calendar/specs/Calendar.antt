@@ -55,7 +55,8 @@ dayOf y m d = newYear (y - 1970) + daysBefore m + cond (leap y && ltb 2 m) 1 0 +
 -- Dates run from 1 January 1970 to 7 July 2079.
 unfoldable pub isDate : ℤ → ℤ → ℤ → Bool
 isDate y m d =
-    within (pos 1970) (pos 2079) y && within (pos 1) (pos 12) m && within (pos 1) (pos (monthLength (natOf y) (natOf m))) d
+    within (pos 1970) (pos 2079) y && within (pos 1) (pos 12) m
+    && within (pos 1) (pos (monthLength (natOf y) (natOf m))) d
     && leb (dayOf (natOf y) (natOf m) (natOf d)) 39999
 
 -- Document 01's numbers of an answer: the refusal, then the day.

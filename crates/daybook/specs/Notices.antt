@@ -96,8 +96,11 @@ opened n =
     record { facts = factsOf n; entry = λ d. none; off = λ d. false; fro = fro; pending = none }
 
 unfoldable pub openingRows : Edition → Opening → Bool → ℕ → List Row
-openingRows ed n known count =
-    (2, not (isMirn (n .mirn) && isFlag (n .kind) && isUser (n .user) && isDay (n .install) && within (negsuc 0) (pos 10000) (n .base)))
+openingRows ed n known count = (
+  2,
+  not (isMirn (n .mirn) && isFlag (n .kind) && isUser (n .user) && isDay (n .install)
+      && within (negsuc 0) (pos 10000) (n .base)),
+)
     ∷ (5, known) ∷ (16, leb (ed .points) count) ∷ []
 
 unfoldable pub opening : Edition → Opening → Book → Numbers × Book
@@ -127,8 +130,11 @@ unfoldable pub entryOf : EnergyNotice → Entry
 entryOf n = record { start = natOf (n .start); end = natOf (n .end); energy = n .energy; type = natOf (n .«type_») }
 
 unfoldable pub energyEarly : EnergyNotice → List Row
-energyEarly n =
-    (2, not (isMirn (n .mirn) && isDay (n .start) && isDay (n .end) && within (negsuc 999999) (pos 1000000) (n .energy) && within (pos 0) (pos 2) (n .«type_») && isFlag (n .confirmed)))
+energyEarly n = (
+  2,
+  not (isMirn (n .mirn) && isDay (n .start) && isDay (n .end)
+      && within (negsuc 999999) (pos 1000000) (n .energy) && within (pos 0) (pos 2) (n .«type_») && isFlag (n .confirmed)),
+)
     ∷ []
 
 -- A non-daily record has start < end, a daily one start = end.
@@ -249,7 +255,8 @@ requestEarly n holidays =
 
 unfoldable pub requestRows : ℕ → Option (ℕ × ℕ) → Option Pending → List (ℕ × ℕ) → ℕ → List Row
 requestRows user period pending registrations latestUser =
-    (10, isSome pending) ∷ (12, eqb latestUser user) ∷ (13, not (isSome period)) ∷ (16, leb 8 (length registrations)) ∷ []
+    (10, isSome pending) ∷ (12, eqb latestUser user) ∷ (13, not (isSome period))
+    ∷ (16, leb 8 (length registrations)) ∷ []
 
 abbrev pub periodNumbers : Option (ℕ × ℕ) → Numbers
 periodNumbers o = maybe [] (λ period. pos (period .0) ∷ pos (period .1) ∷ []) o

@@ -110,7 +110,8 @@ abbrev pub allocationInRange : AllocationQuery → ℕ → Bool
 allocationInRange n room =
     isDay (n .gasday) && isDay (n .from) && isDay (n .to) && leZ (n .from) (n .to) && ltZ (n .to) (n .gasday)
     && leb (natOf (n .to) - natOf (n .from)) 399 && within (pos 0) (pos 1000000000) (n .tdq)
-    && within (negsuc 999999999) (pos 1000000000) (n .uag) && within (negsuc 999999999) (pos 1000000000) (n .clp) && leb 32 room
+    && within (negsuc 999999999) (pos 1000000000) (n .uag) && within (negsuc 999999999) (pos 1000000000) (n .clp)
+    && leb 32 room
 
 unfoldable pub allocateRows : AllocationQuery → ℕ → Book → List Row
 allocateRows n room B = (2, not (allocationInRange n room)) ∷ (15, eqb (total (weights n B)) 0) ∷ []

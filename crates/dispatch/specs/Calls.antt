@@ -14,7 +14,8 @@ use Rattle.queries.specs.Lines.{accountLine, allocateLine, dateLine, lookLine, 
 abbrev pub onLent : List ℤ → ℕ → LineResult → LineResult
 onLent t lent o = maybe none (λ p. some (p .0, p .1 ++ drop lent t)) o
 
--- Any call but tlen, alen and those on bytes, on a buffer of which the first numbers are lent, with an answer table of `room` numbers.
+-- Any call but tlen, alen and those on bytes, on a buffer of which the first numbers are lent, with an answer table of
+-- `room` numbers.
 abbrev pub callLine : Command → List ℤ → ℕ → ℕ → List ℤ → LineResult
 callLine Fresh t lent room xs = onLent t lent (freshLine (take lent t) xs)
 callLine Open t lent room xs = onLent t lent (openLine (take lent t) xs)

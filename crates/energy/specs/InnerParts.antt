@@ -111,7 +111,13 @@ outcomeAt x q = outcomeOf append (entryFrom x) (latestOf (q .regs) .0) (q .pendi
 
 abbrev pub settledLists : Outcome → ℕ → Lists → Lists
 settledLists o end q =
-    record { facts = q .facts; regs = regsAfter o end (q .regs); offs = q .offs; recs = q .recs; pending = pendingAfter o (q .pending) }
+    record {
+      facts = q .facts;
+      regs = regsAfter o end (q .regs);
+      offs = q .offs;
+      recs = q .recs;
+      pending = pendingAfter o (q .pending);
+    }
 
 pub record SettledTo (p : List ℤ) (x : RaisedNotice) (s : Settled) (p′ : List ℤ) : Type 0 where
   pub numbersAre : s .user ∷ s .lapsed ∷ [] ≡ outcomeNumbers (outcomeAt x (pointFrom p))

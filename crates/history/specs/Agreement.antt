@@ -62,8 +62,12 @@ pub record Stands (p : Point) (d : ℕ) (e : Entry) : Type 0 where
 -- 32 numbers included. One given adds up, over Users and over points, to its net section load.
 pub record Allocated (t : List ℤ) (B : Book) (n : AllocationQuery) (room : ℕ) : Type 0 where
   pub asBook : allocateCall t n room ≡ allocate n room B
-  pub overUsers : refused (allocateCall t n room .0) ≡ false → added (totalsIn (allocateCall t n room .0)) ≡ loadIn (allocateCall t n room .0)
-  pub overPoints : refused (allocateCall t n room .0) ≡ false → added (allocateCall t n room .1) ≡ loadIn (allocateCall t n room .0)
+  pub overUsers :
+      refused (allocateCall t n room .0) ≡ false
+      → added (totalsIn (allocateCall t n room .0)) ≡ loadIn (allocateCall t n room .0)
+  pub overPoints :
+      refused (allocateCall t n room .0) ≡ false
+      → added (allocateCall t n room .1) ≡ loadIn (allocateCall t n room .0)
   pub all32 : refused (allocateCall t n room .0) ≡ false → length (allocateCall t n room .1) ≡ 32
 
 pub record Agrees (t : List ℤ) (B : Book) : Type 0 where
@@ -82,5 +86,6 @@ pub record Agrees (t : List ℤ) (B : Book) : Type 0 where
   pub accountsAddUp :
       (a c : ℕ) → a ≤ c → c ≤ 39999
       → sumFrom (λ u. accountFrom t u a c) 1 16 ≡ sumOf (λ p. sumOver (dayShare p) a c) (B .points)
-  pub entries : (i : ℕ) (p : Point) (d : ℕ) (e : Entry) → pointNo i (B .points) ≡ some p → p .entry d ≡ some e → Stands p d e
+  pub entries :
+      (i : ℕ) (p : Point) (d : ℕ) (e : Entry) → pointNo i (B .points) ≡ some p → p .entry d ≡ some e → Stands p d e
   pub allocations : (n : AllocationQuery) (room : ℕ) → Allocated t B n room

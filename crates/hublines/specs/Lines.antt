@@ -1,6 +1,6 @@
--- What each call of a journal on bytes does on the numbers of its line. The first of them are the lengths of the buffers that
--- it lends: the register's first bytes, and others whose every byte is 0xAA (170). A line with another count of numbers or
--- with a length out of range is no call.
+-- What each call of a journal on bytes does on the numbers of its line. The first of them are the lengths of the buffers
+-- that it lends: the register's first bytes, and others whose every byte is 0xAA (170). A line with another count of
+-- numbers or with a length out of range is no call.
 use mathlib.Core.Bool.{cond, _&&_}
 use mathlib.Core.List.{List, [], _∷_, _++_}
 use mathlib.Core.Option.{Option, none, some}
@@ -58,7 +58,8 @@ accountDone b answer t xs =
 
 unfoldable pub allocateDone : List ℕ → List ℕ → List ℕ → List ℤ → List ℤ → List ℕ × List ℤ
 allocateDone b answer shares t xs =
-    let w : ℤ × (List ℕ × List ℕ) = written (allocateCall (tableIn (take (size xs 0) b)) (allocationQueryOf (drop 3 xs)) (length shares / 8)) shares answer in
+    let w : ℤ × (List ℕ × List ℕ) =
+    written (allocateCall (tableIn (take (size xs 0) b)) (allocationQueryOf (drop 3 xs)) (length shares / 8)) shares answer in
     (shownBoth (w .0) (w .1 .1) (w .1 .0), t)
 
 -- ---- the lines
@@ -83,7 +84,8 @@ hubAccountLine t xs = lending 5 xs (accountDone (bytesOf t) (buffer (size xs 1))
 -- An allocation's third number is a length too.
 unfoldable pub hubAllocateLine : List ℤ → List ℤ → HubLineResult
 hubAllocateLine t xs =
-    cond (leb (size xs 2) 300) (lending 9 xs (allocateDone (bytesOf t) (buffer (size xs 1)) (buffer (size xs 2)) t xs)) none
+    cond (leb (size xs 2) 300)
+    (lending 9 xs (allocateDone (bytesOf t) (buffer (size xs 1)) (buffer (size xs 2)) t xs)) none
 
 -- The call that the word after `hub` names.
 abbrev pub hubLine : Command → List ℤ → List ℤ → HubLineResult

@@ -36,7 +36,8 @@ negative m = cond (leb m (2 ^ 63)) (some (subℕ 0 m)) none
 -- The number that a word stands for, from -2^63 to 2^63 - 1: digits, after a minus sign (45) if it is negative.
 unfoldable pub numberOf : List ℕ → Option ℤ
 numberOf [] = none
-numberOf (b ∷ s) = cond (eqb b 45) (maybe none negative (valueOfDigits s)) (maybe none nonNegative (valueOfDigits (b ∷ s)))
+numberOf (b ∷ s) =
+    cond (eqb b 45) (maybe none negative (valueOfDigits s)) (maybe none nonNegative (valueOfDigits (b ∷ s)))
 
 -- ---- words
 

@@ -18,7 +18,8 @@ cleared t a (suc n) = set (cleared t a n) (a + n) (pos 0)
 -- The four numbers of record j.
 unfoldable pub putRecord : List ℤ → ℕ → Entry → List ℤ
 putRecord p j x =
-    set (set (set (set p (48 + 4 * j) (pos (x .start))) (48 + 4 * j + 1) (pos (x .end))) (48 + 4 * j + 2) (x .energy)) (48 + 4 * j + 3) (pos (x .type))
+    set (set (set (set p (48 + 4 * j) (pos (x .start))) (48 + 4 * j + 1) (pos (x .end))) (48 + 4 * j + 2) (x .energy))
+    (48 + 4 * j + 3) (pos (x .type))
 
 -- Record n, and n + 1 records.
 unfoldable pub appendRecord : List ℤ → ℕ → Entry → List ℤ
@@ -49,7 +50,8 @@ clearPending p = setPending p 0 0 0
 -- A point's facts, and its first registration, of User u from the install day on.
 unfoldable pub openPoint : List ℤ → Facts → ℕ → List ℤ
 openPoint p f u =
-    appendRegistration (set (set (set (set p 0 (pos (f .mirn))) 1 (pos (f .kind))) 2 (pos (f .install))) 3 (pos (f .base))) 0 (f .install) u
+    appendRegistration
+    (set (set (set (set p 0 (pos (f .mirn))) 1 (pos (f .kind))) 2 (pos (f .install))) 3 (pos (f .base))) 0 (f .install) u
 
 -- Point n, and n + 1 points.
 unfoldable pub appendPoint : Edition → List ℤ → ℕ → Facts → ℕ → List ℤ

@@ -64,13 +64,15 @@ unfoldable pub headNumbers : Lists → List ℤ
 headNumbers q =
     pos (q .facts .mirn) ∷ pos (q .facts .kind) ∷ pos (q .facts .install) ∷ pos (q .facts .base)
     ∷ pos (length (q .regs)) ∷ pos (length (q .offs)) ∷ pos (length (q .recs))
-    ∷ pos (pendingOrZeros (q .pending) .user) ∷ pos (pendingOrZeros (q .pending) .first) ∷ pos (pendingOrZeros (q .pending) .last)
+    ∷ pos (pendingOrZeros (q .pending) .user) ∷ pos (pendingOrZeros (q .pending) .first)
+    ∷ pos (pendingOrZeros (q .pending) .last)
     ∷ replicate 6 (pos 0)
 
 -- From 16 registrations, from 32 off spans, from 48 records.
 unfoldable pub pointNumbers : ℕ → Lists → List ℤ
 pointNumbers room q =
-    headNumbers q ++ (pad 16 (regNumbers (q .regs)) ++ (pad 16 (offNumbers (q .offs)) ++ pad (4 * room) (recNumbers (q .recs))))
+    headNumbers q ++ (pad 16 (regNumbers (q .regs)) ++ (pad 16 (offNumbers (q .offs))
+    ++ pad (4 * room) (recNumbers (q .recs))))
 
 unfoldable pub pointsNumbers : ℕ → List Lists → List ℤ
 pointsNumbers room [] = []
@@ -79,7 +81,8 @@ pointsNumbers room (q ∷ qs) = pointNumbers room q ++ pointsNumbers room qs
 -- Places 0 to 7: how many points, the two ranges, five zeros. Then the points; what is left of the table is 0.
 unfoldable pub layout : Edition → Register → List ℤ
 layout ed R =
-    pad tableLength (pad 8 (pos (length (R .points)) ∷ R .nondaily ∷ R .daily ∷ []) ++ pointsNumbers (ed .records) (R .points))
+    pad tableLength
+    (pad 8 (pos (length (R .points)) ∷ R .nondaily ∷ R .daily ∷ []) ++ pointsNumbers (ed .records) (R .points))
 
 -- ---- from numbers to lists
 

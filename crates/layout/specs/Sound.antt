@@ -25,7 +25,8 @@ neighbours test (x ∷ y ∷ l) = test x y && neighbours test (y ∷ l)
 
 -- All values are in range.
 unfoldable pub factsSound : Facts → Bool
-factsSound f = leb 1 (f .mirn) && leb (f .mirn) 9999999999 && leb (f .kind) 1 && leb (f .install) 39999 && leb (f .base) 10000
+factsSound f =
+    leb 1 (f .mirn) && leb (f .mirn) 9999999999 && leb (f .kind) 1 && leb (f .install) 39999 && leb (f .base) 10000
 
 abbrev pub startsOn : ℕ → List (ℕ × ℕ) → Bool
 startsOn install [] = true
@@ -40,7 +41,8 @@ regsSound install l =
 -- Spans begin at or after install, each ends after it begins, the next begins after that on day, only the last is open.
 unfoldable pub offsSound : ℕ → List (ℕ × Option ℕ) → Bool
 offsSound install l =
-    each (λ (x : ℕ × Option ℕ). leb install (x .0) && leb (x .0) 39999 && maybe true (λ on. ltb (x .0) on && leb on 39999) (x .1)) l
+    each (λ (x : ℕ × Option ℕ). leb install (x .0) && leb (x .0) 39999
+    && maybe true (λ on. ltb (x .0) on && leb on 39999) (x .1)) l
     && neighbours (λ (x y : ℕ × Option ℕ). maybe false (λ on. ltb on (y .0)) (x .1)) l
 
 -- The point with only these records.
@@ -56,14 +58,16 @@ byAppendRule q before (x ∷ l) =
 -- Records start by the append rule, fit their kind and hold no off day.
 unfoldable pub recsSound : Lists → Bool
 recsSound q =
-    each (λ (x : Entry). leb (x .end) 39999 && within (negsuc 999999) (pos 1000000) (x .energy) && leb (x .type) 2 && fitsKind (q .facts .kind) (x .start) (x .end) && not (offWithin (pointOf q) (x .start) (x .end))) (q .recs)
+    each (λ (x : Entry). leb (x .end) 39999 && within (negsuc 999999) (pos 1000000) (x .energy) && leb (x .type) 2
+    && fitsKind (q .facts .kind) (x .start) (x .end) && not (offWithin (pointOf q) (x .start) (x .end))) (q .recs)
     && byAppendRule q [] (q .recs)
 
 -- A pending User isn't the latest, first ≤ last, both are days, and registrations are at most 7.
 unfoldable pub pendingSound : Lists → Bool
 pendingSound q =
     maybe true
-    (λ (r : Pending). leb (r .user) 16 && not (eqb (maybe 0 (λ x. x .1) (lastOf (q .regs))) (r .user)) && leb (r .first) (r .last) && leb (r .last) 39999 && leb (length (q .regs)) 7)
+    (λ (r : Pending). leb (r .user) 16 && not (eqb (maybe 0 (λ x. x .1) (lastOf (q .regs))) (r .user))
+    && leb (r .first) (r .last) && leb (r .last) 39999 && leb (length (q .regs)) 7)
     (q .pending)
 
 unfoldable pub listsSound : Lists → Bool
@@ -83,7 +87,8 @@ countsSound p =
 -- Unused places are 0; without a pending User, all three are 0.
 unfoldable pub unusedZero : List ℤ → Bool
 unusedZero p =
-    zeros p 10 16 && zeros p (16 + 2 * numAt p 4) 32 && zeros p (32 + 2 * numAt p 5) 48 && zeros p (48 + 4 * numAt p 6) (length p)
+    zeros p 10 16 && zeros p (16 + 2 * numAt p 4) 32 && zeros p (32 + 2 * numAt p 5) 48
+    && zeros p (48 + 4 * numAt p 6) (length p)
     && cond (eqb (numAt p 7) 0) (zeros p 7 10) true
 
 unfoldable pub partSound : List ℤ → Bool
@@ -96,6 +101,7 @@ mirnsDiffer (q ∷ qs) = each (λ (r : Lists). not (eqb (q .facts .mirn) (r .fac
 -- The header, every point, MIRNs that differ, and 0 in all that is left.
 unfoldable pub sound : Edition → List ℤ → Bool
 sound ed t =
-    leb tableLength (length t) && leb (numAt t 0) (ed .points) && isRange (getD t 1 (pos 0)) && isRange (getD t 2 (pos 0))
-    && zeros t 3 8 && all (λ i. partSound (partOf ed t i)) (numAt t 0) && mirnsDiffer (pointsFrom ed (numAt t 0) (drop 8 t))
+    leb tableLength (length t) && leb (numAt t 0) (ed .points)
+    && isRange (getD t 1 (pos 0)) && isRange (getD t 2 (pos 0)) && zeros t 3 8
+    && all (λ i. partSound (partOf ed t i)) (numAt t 0) && mirnsDiffer (pointsFrom ed (numAt t 0) (drop 8 t))
     && zeros t (placeOf ed (numAt t 0)) tableLength

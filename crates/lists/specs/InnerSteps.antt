@@ -115,7 +115,8 @@ putLists m q (x ∷ xs) = cond (eqb m (x .facts .mirn)) (q ∷ xs) (x ∷ putLis
 unfoldable pub withLists : ℕ → Lists → Register → Register
 withLists m q R = record { nondaily = R .nondaily; daily = R .daily; points = putLists m q (R .points) }
 
-unfoldable pub onLists : ℕ → ℤ → List Row → (Lists → List Row) → (Lists → Numbers × Lists) → Register → Numbers × Register
+unfoldable pub onLists :
+    ℕ → ℤ → List Row → (Lists → List Row) → (Lists → Numbers × Lists) → Register → Numbers × Register
 onLists k m early rows effect R =
     let found : Option Lists = findLists (natOf m) (R .points) in
     let after : Numbers × Register = maybe ([], R) (λ q. (effect q .0, withLists (natOf m) (effect q .1) R)) found in
@@ -140,7 +141,13 @@ unfoldable pub enteredLists : Entry → Which → Outcome → Lists → Numbers 
 enteredLists x w o q =
     let regs : List (ℕ × ℕ) = regsAfter o (x .end) (q .regs) in (
       map pos (whichNumber w ∷ removed w (x .start) (q .recs) ∷ outcomeNumbers o),
-      record { facts = q .facts; regs = regs; offs = q .offs; recs = recsAfter w x (q .recs); pending = pendingAfter o (q .pending) },
+      record {
+        facts = q .facts;
+        regs = regs;
+        offs = q .offs;
+        recs = recsAfter w x (q .recs);
+        pending = pendingAfter o (q .pending);
+      },
     )
 
 unfoldable pub enterLists : Entry → Lists → Numbers × Lists

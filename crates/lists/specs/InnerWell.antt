@@ -37,7 +37,8 @@ pub data Spans : ℕ → List (ℕ × Option ℕ) → Type 0 where
 pub data Recs (kind : ℕ) (offs : List (ℕ × Option ℕ)) : ℕ → List Entry → Type 0 where
   norec : {from : ℕ} → Recs kind offs from []
   rec :
-      {from : ℕ} {x : Entry} {l : List Entry} → skip offs from ≡ some (x .start) → fitsKind kind (x .start) (x .end) ≡ true
+      {from : ℕ} {x : Entry} {l : List Entry} → skip offs from ≡ some (x .start)
+      → fitsKind kind (x .start) (x .end) ≡ true
       → x .end ≤ 39999 → within (negsuc 999999) (pos 1000000) (x .energy) ≡ true → x .type ≤ 2
       → ((d : ℕ) → x .start ≤ d → d ≤ x .end → offOn offs d ≡ false)
       → Recs kind offs (suc (x .end)) l → Recs kind offs from (x ∷ l)
@@ -46,7 +47,8 @@ pub data Recs (kind : ℕ) (offs : List (ℕ × Option ℕ)) : ℕ → List Entr
 pub data PendingOk (regs : List (ℕ × ℕ)) : Option Pending → Type 0 where
   nopending : PendingOk regs none
   pending :
-      {q : Pending} → 1 ≤ q .user → q .user ≤ 16 → eqb (latestOf regs .1) (q .user) ≡ false → q .first ≤ q .last → q .last ≤ 39999
+      {q : Pending} → 1 ≤ q .user → q .user ≤ 16 → eqb (latestOf regs .1) (q .user) ≡ false → q .first ≤ q .last
+      → q .last ≤ 39999
       → length regs ≤ 7 → PendingOk regs (some q)
 
 pub record FactsOk (f : Facts) : Type 0 where
