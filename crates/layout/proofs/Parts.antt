@@ -1,16 +1,12 @@
 -- A point's part in the table: read it, and put another in its place. What is outside of the part is framed by
 -- `with-part-front` and `with-part-past`. Assumes nothing.
-use mathlib.Core.Path.{_≡_, refl, sym, _∙_, ap, ap₂}
-use mathlib.Core.Logic.{_≢_}
-use mathlib.Core.Bool.{Bool, true, false}
-use mathlib.Core.List.{List, [], _∷_, _++_, append-assoc}
-use Prim.Native.Nat.{ℕ, zero, suc, _+_, _-_, _*_, _≤_, _<_}
+use mathlib.Core.Path.{_≡_, sym, _∙_, ap, ap₂}
+use mathlib.Core.List.{List, _++_, append-assoc}
+use Prim.Native.Nat.{ℕ, suc, _+_, _-_, _*_, _≤_, _<_}
 use native.Mathlib.Omega.{arith}
-use native.Mathlib.Nat.{mul-suc, mul-le-mul-left, zero-add, suc-add, le-add-right}
-use borrow.Author.Tests.{ltb-true, ltb-false}
-use lib.Dec.{ltb}
+use native.Mathlib.Nat.{mul-suc, mul-le-mul-left}
 use lib.ListN.{length, take, drop, length-append, length-drop, take-append-drop}
-use lib.Seq.{length-take-le, take-at, drop-at, take-append-le, take-take, take-nil, drop-append-add, drop-drop}
+use lib.Seq.{length-take-le, take-append-le, take-take, drop-append-add, drop-drop}
 use lib.IntN.{ℤ}
 use Rattle.daybook.specs.Book.{Edition}
 use Rattle.layout.specs.Layout.{tableLength, stride, placeOf, Fits, partOf}
@@ -47,10 +43,6 @@ module _ (a s : ℕ) (t p : List ℤ) (e : length p ≡ s) (h : a + s ≤ length
   patched-front : (n : ℕ) → n ≤ a → take n patched ≡ take n t
   patched-front n k = take-append-le n (take a t) (p ++ drop (a + s) t) (omega (arith, front-length)) ∙ take-take n a t k
 
-  patched-same : take s (drop a patched) ≡ p
-  patched-same =
-      ap (take s) (drop-at (take a t) (p ++ drop (a + s) t) a front-length) ∙ take-at p (drop (a + s) t) s e
-
   patched-past : (n : ℕ) → a + s ≤ n → drop n patched ≡ drop n t
   patched-past n k =
       ap₂ drop (split n k) (sym (append-assoc (take a t) p (drop (a + s) t)))
@@ -63,12 +55,6 @@ module _ (a s : ℕ) (t p : List ℤ) (e : length p ≡ s) (h : a + s ≤ length
 
       back : (n : ℕ) → a + s ≤ n → a + s + (n - (a + s)) ≡ n
       back n k = omega arith
-
--- s numbers from place m on, of a list that is known up to their end
-drop-take : (m s : ℕ) (l : List ℤ) → drop m (take (m + s) l) ≡ take s (drop m l)
-drop-take zero s l = ap (λ n. take n l) (zero-add s)
-drop-take (suc m) s [] = ap (λ n. drop (suc m) (take n [])) (suc-add m s) ∙ sym (take-nil s)
-drop-take (suc m) s (x ∷ l) = ap (λ n. drop (suc m) (take n (x ∷ l))) (suc-add m s) ∙ drop-take m s l
 
 -- ---- the part of point i
 
@@ -84,29 +70,6 @@ module _ (ed : Edition) (t : List ℤ) (i : ℕ) (p : List ℤ) (e : length p �
   pub with-part-past : (n : ℕ) → placeOf ed i + stride ed ≤ n → drop n (withPart ed t i p) ≡ drop n t
   unfolding withPart
   with-part-past = patched-past (placeOf ed i) (stride ed) t p e h
-
-  pub with-part-same : partOf ed (withPart ed t i p) i ≡ p
-  unfolding withPart partOf
-  with-part-same = patched-same (placeOf ed i) (stride ed) t p e h
-
-  with-part-other : (j : ℕ) → j ≢ i → partOf ed (withPart ed t i p) j ≡ partOf ed t j
-  unfolding partOf
-  with-part-other j k = go (ltb j i) refl
-    where
-      go : (b : Bool) → ltb j i ≡ b → take (stride ed) (drop (placeOf ed j) (withPart ed t i p)) ≡ take (stride ed) (drop (placeOf ed j) t)
-      go true l =
-          sym (drop-take (placeOf ed j) (stride ed) (withPart ed t i p))
-          ∙ ap (drop (placeOf ed j)) (with-part-front (placeOf ed j + stride ed) (next-place ed j i (ltb-true j i l)))
-          ∙ drop-take (placeOf ed j) (stride ed) t
-      go false l =
-          let m : i ≤ j = ltb-false j i l in
-          ap (take (stride ed)) (with-part-past (placeOf ed j) (next-place ed i j (omega arith)))
-
-  -- the frame: the header, every other point and the numbers past the register are as they were
-  pub with-part-frame : Fits ed → i < ed .points
-      → (take 8 (withPart ed t i p) ≡ take 8 t) × ((j : ℕ) → j ≢ i → partOf ed (withPart ed t i p) j ≡ partOf ed t j) × (drop tableLength (withPart ed t i p) ≡ drop tableLength t)
-  with-part-frame f l =
-      (with-part-front 8 (le-add-right 8 (stride ed * i)), with-part-other, with-part-past tableLength (part-ends ed i f l))
 
 -- a part put back as it was
 pub with-part-own : (ed : Edition) (t : List ℤ) (i : ℕ) → withPart ed t i (partOf ed t i) ≡ t

@@ -3,8 +3,8 @@ use mathlib.Core.Path.{_≡_, refl, ap}
 use mathlib.Core.Bool.{Bool, true, false}
 use Prim.Native.Nat.{ℕ, suc, _-_, _^_, _≤_, _<_}
 use native.Mathlib.Omega.{arith}
-use borrow.Author.Tests.{ltb-true, ltb-false, lt-ltb, le-ltb, le-leb, lt-leb, eq-eqb, ne-eqb, eqb-true, eqb-false}
-use lib.Dec.{T, eqb, leb, ltb}
+use borrow.Author.Tests.{ltb-true, ltb-false, lt-ltb, le-ltb, le-leb, lt-leb, eqb-true}
+use lib.Dec.{T, leb, ltb}
 use lib.IntN.{ℤ, pos, negsuc, natAbs, _+ℤ_}
 use lib.Signed.{ltZ, nonNeg, mag}
 use mir.Val.{Fits, SFits, toZ, ofZ}
@@ -112,38 +112,11 @@ bias-is x h =
 
 -- ---- equality
 
-eqb-flip : (K a b : ℕ) → a < K → b < K → eqb (K - suc a) (K - suc b) ≡ eqb a b
-eqb-flip K a b ha hb = go (eqb a b) refl
-  where
-    go : (v : Bool) → eqb a b ≡ v → eqb (K - suc a) (K - suc b) ≡ v
-    go true e = let h : a ≡ b = eqb-true a b e in eq-eqb (K - suc a) (K - suc b) (omega arith)
-    go false e = ne-eqb _ _ (λ (q : K - suc a ≡ K - suc b). eqb-false a b e (omega arith))
-
--- numbers are equal where their bits are
-pub same-bits : (a b : ℤ) → SFits w64 a → SFits w64 b → eqb (ofZ w64 a) (ofZ w64 b) ≡ sameZ a b
-same-bits (pos a) (pos b) f g = refl
-same-bits (pos a) (negsuc b) f g =
-    let x : a < 2 ^ 63 = f .sfits in
-    let y : b < 2 ^ 63 = g .sfits in
-    ne-eqb _ _ (λ (q : a ≡ 2 ^ 64 - suc b). omega arith)
-same-bits (negsuc a) (pos b) f g =
-    let x : a < 2 ^ 63 = f .sfits in
-    let y : b < 2 ^ 63 = g .sfits in
-    ne-eqb _ _ (λ (q : 2 ^ 64 - suc a ≡ b). omega arith)
-same-bits (negsuc a) (negsuc b) f g =
-    let x : a < 2 ^ 63 = f .sfits in
-    let y : b < 2 ^ 63 = g .sfits in
-    eqb-flip (2 ^ 64) a b (omega arith) (omega arith)
-
 pub same-true : (a b : ℤ) → sameZ a b ≡ true → a ≡ b
 same-true (pos a) (pos b) e = ap pos (eqb-true a b e)
 same-true (pos a) (negsuc b) e = let z : _≡_ {A = ℕ} 0 1 = cc in absurd (omega arith)
 same-true (negsuc a) (pos b) e = let z : _≡_ {A = ℕ} 0 1 = cc in absurd (omega arith)
 same-true (negsuc a) (negsuc b) e = ap negsuc (eqb-true a b e)
-
-pub same-refl : (a : ℤ) → sameZ a a ≡ true
-same-refl (pos a) = eq-eqb a a refl
-same-refl (negsuc a) = eq-eqb a a refl
 
 -- ---- a number that is copied is read as it is
 

@@ -4,14 +4,13 @@ use mathlib.Core.Bool.{Bool, true, false}
 use Prim.Native.Nat.{ℕ, _+_, _-_, _*_, _/_, _≤_, _<_}
 use native.Mathlib.Nat.{div-le-of-le-mul, le-div-iff-mul-le, mul-le-mul, mul-le-mul-right, mul-add, mul-comm, add-mul}
 use native.Mathlib.Omega.{arith}
-use native.Mathlib.Numerals.{add-one}
 use borrow.Author.Tests.{leb-true, leb-false}
 use lib.Dec.{leb}
 use lib.IntN.{ℤ, pos, subℕ, _-ℤ_, _*ℤ_, +ℤ-idr}
 use Rattle.numbers.specs.InnerEnergies.{energyOf}
 use Rattle.numbers.specs.Sums.{sumFrom}
 use Rattle.numbers.specs.Shares.{floorDiv, floorPart, partialEnergy, share}
-use Rattle.numbers.proofs.Integers.{up, dn, eqZ, sub-fact, minus-fact, mul-fact, sub-minus, raised-same}
+use Rattle.numbers.proofs.Integers.{up, dn, eqZ, sub-fact, minus-fact, mul-fact, raised-same}
 use Rattle.numbers.proofs.Sums.{telescope}
 use Rattle.numbers.proofs.Floor.{floor-shift, floor-all, floor-none}
 
@@ -59,17 +58,6 @@ raised-partial u n k p l =
   where
     E : ℤ
     E = energyOf u
-
--- the sum of the shares of days a to b - 1, from two raised floors
-pub raised-shares : (E : ℤ) (n a b r s : ℕ) → a ≤ b → energyOf r ≡ partialEnergy E n b → energyOf s ≡ partialEnergy E n a → subℕ r s ≡ sumFrom (share E n) a (b - a)
-raised-shares E n a b r s l p q =
-    let e : a + (b - a) ≡ b = omega arith in
-    sym (shares-between E n a (b - a) ∙ rw (e, ← p, ← q) (sub-minus r s 1000000))
-
--- and the share of one day
-pub raised-share : (E : ℤ) (n k r s : ℕ) → energyOf r ≡ partialEnergy E n (k + 1) → energyOf s ≡ partialEnergy E n k → subℕ r s ≡ share E n k
-unfolding share
-raised-share E n k r s p q = sym (rw (← add-one k, ← p, ← q) (sub-minus r s 1000000))
 
 -- ---- the energy of an entry's first days lies between 0 and the entry's
 
