@@ -1,7 +1,7 @@
--- Dates: the month table's rule, 1 January by division, and dates read as naturals. Assumes nothing.
+-- Dates: the days before a month by formula, 1 January by division, and dates read as naturals. Assumes nothing.
 use mathlib.Core.Path.{_≡_, refl, sym, ap, ap₂, _∙_}
 use mathlib.Core.Bool.{Bool, true, false, _&&_, _||_, and-false, cond, false≢true}
-use mathlib.Core.List.{List, [], _∷_}
+use mathlib.Core.List.{[], _∷_}
 use Prim.Native.Nat.{ℕ, zero, suc, _+_, _-_, _*_, _/_, _%_, _^_, _≤_, _<_}
 use native.Mathlib.Nat.{le-trans}
 use native.Mathlib.Omega.{arith}
@@ -9,25 +9,22 @@ use borrow.Author.Tests.{eqb-true, eqb-false, leb-true, le-leb, lt-leb}
 use lib.Dec.{leb, ltb, eqb}
 use lib.IntN.{ℤ, pos, negsuc}
 use lib.Signed.{leZ, ltZ}
-use lib.ListN.{getD}
 use Rattle.numbers.specs.Naturals.{natOf}
 use Rattle.numbers.specs.Rows.{all}
 use Rattle.numbers.proofs.Bools.{both, cond-small}
 use Rattle.numbers.proofs.Rows.{all-at}
 use Rattle.calendar.specs.Calendar.{within, isDay, leap, monthLength, daysBefore, newYear, dayOf, isDate, dateCall}
 
--- a table of twelve numbers that passes the test holds the days before each month
-abbrev rule : List ℕ → ℕ → Bool
-rule table k = eqb (getD table k 0) (daysBefore (suc k))
+-- the code's formula for the days before a month, tested at the twelve months (and at 0, where it is 0 as well)
+abbrev formula : ℕ → ℕ
+formula m = let spread = (367 * m - 362) / 12 in cond (leb m 2) spread (spread - 2)
 
-pub month-table : (table : List ℕ) → all (rule table) 12 ≡ true → (m : ℕ) → 1 ≤ m → m ≤ 12 → getD table (m - 1) 0 ≡ daysBefore m
-month-table table e m l h =
-    let k : suc (m - 1) ≡ m = omega arith in
-    eqb-true _ _ (all-at (rule table) 12 e (m - 1) (omega arith)) ∙ ap daysBefore k
-
-pub days-before-bound : (m : ℕ) → m ≤ 12 → daysBefore m ≤ 334
+pub month-formula : (m : ℕ) → m ≤ 12 → {r : ℕ} → r ≡ formula m → (r ≡ daysBefore m) × (r ≤ 334)
 unfolding daysBefore all
-days-before-bound m h = leb-true _ _ (all-at (λ k. leb (daysBefore k) 334) 13 refl m (omega arith))
+month-formula m h e =
+    let t = both _ _ (all-at (λ k. eqb (formula k) (daysBefore k) && leb (formula k) 334) 13 refl m (omega arith)) in
+    let small : formula m ≤ 334 = leb-true _ _ (t .1) in
+    (e ∙ eqb-true _ _ (t .0), rw e small)
 
 -- 1 January of the year 1970 + k, with no recursion
 pub new-year : (k : ℕ) → newYear k ≡ 365 * k + (k + 1) / 4

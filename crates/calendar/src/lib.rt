@@ -41,14 +41,17 @@ pub enum Period {
     Outside,
 }
 
-// The days before each month in a common year.
-const DAYS_BEFORE: [u64; 12] = [0, 31, 59, 90, 120, 151, 181, 212, 243, 273, 304, 334];
-
+// The days before a month in a common year. 367 days, with 30 in February, spread evenly over the months; from March on
+// 2 fewer have passed.
 fn days_before(month: u64) -> u64
     requires { ⌜ (1 ≤ month) × (month ≤ 12) ⌝ }
     ensures { λ r. ⌜ (r ≡ daysBefore month) × (r ≤ 334) ⌝ }
 {
-    DAYS_BEFORE[(month - 1) as usize]
+    let spread = (367 * month - 362) / 12;
+    if month <= 2 {
+        return spread;
+    }
+    spread - 2
 }
 
 fn month_length(year: u64, month: u64) -> u64
