@@ -33,6 +33,7 @@ pub record InRange (q : AllocationQuery) : Type 0 where
   pub gasdayLow : 1 ≤ natOf (q .gasday)
   pub gasdayHigh : natOf (q .gasday) ≤ 39999
   pub order : natOf (q .from) ≤ natOf (q .to)
+  pub window : natOf (q .to) ≤ natOf (q .from) + 399
   pub toHigh : natOf (q .to) ≤ 39999
   pub tdqOk : within (pos 0) (pos 1000000000) (q .tdq) ≡ true
   pub uagOk : isLoad (q .uag) ≡ true
@@ -55,6 +56,7 @@ in-range-tells q room e =
         gasdayLow = omega arith;
         gasdayHigh = day (q .gasday) (a .0);
         order = leb-true _ _ (days-order (q .from) (q .to) (a .1) (b .1) .0 ∙ c .1);
+        window = let days : natOf (q .to) - natOf (q .from) ≤ 399 = leb-true _ _ (f .1) in omega arith;
         toHigh = day (q .to) (b .1);
         tdqOk = g .1;
         uagOk = h .1;

@@ -3,14 +3,15 @@ use mathlib.Core.Path.{_≡_, refl, sym, _∙_, ap, ap₂}
 use mathlib.Core.List.{List, [], _∷_, _++_, map, append-assoc}
 use Prim.Native.Nat.{ℕ, zero, suc, _+_, _-_, _≤_, _<_}
 use native.Mathlib.Omega.{arith}
-use lib.ListN.{length, getD, set, replicate}
+use lib.ListN.{length, set, replicate}
 use lib.Seq.{set-at}
 use lib.IntN.{ℤ}
 use Rattle.daybook.specs.Book.{Point}
+use Rattle.daybook.specs.Queries.{total}
 use Rattle.layout.specs.Layout.{numAt}
 use Rattle.point.proofs.Rows.{rowsAt, length-rows, rows-join}
 use Rattle.readings.proofs.Points.{partPoint, points-are}
-use Rattle.allocate.specs.InnerParts.{pointsOf, padded, Below}
+use Rattle.allocate.specs.InnerParts.{pointsOf, padded}
 
 map-rows : {A B : Type 0} (f : A → B) (p : ℕ → A) (i n : ℕ) → map f (rowsAt p i n) ≡ rowsAt (λ k. f (p k)) i n
 unfolding rowsAt
@@ -45,19 +46,9 @@ all-filled f t =
     let is : rowsAt (λ i. f (partPoint t i)) 0 (numAt t 0) ≡ map f (pointsOf t) = sym (ap (map f) (points-are t) ∙ map-rows f (partPoint t) 0 (numAt t 0)) in
     ap₂ (λ l n. l ++ replicate (32 - n) 0) is (sym (length-rows (λ i. f (partPoint t i)) 0 (numAt t 0)) ∙ ap length is)
 
--- ---- small numbers
-
-pub none-above : (most : ℕ) → Below most (replicate 32 0)
-none-above most k = go 32 k
-  where
-    go : (n k : ℕ) → getD (replicate n 0) k 0 ≤ most
-    go zero k = omega arith
-    go (suc n) zero = omega arith
-    go (suc n) (suc k) = go n k
-
-pub put-below : (most : ℕ) (l : List ℕ) (i x : ℕ) → Below most l → x ≤ most → Below most (set l i x)
-put-below most [] i x b h k = b k
-put-below most (y ∷ l) zero x b h zero = h
-put-below most (y ∷ l) zero x b h (suc k) = b (suc k)
-put-below most (y ∷ l) (suc i) x b h zero = b 0
-put-below most (y ∷ l) (suc i) x b h (suc k) = put-below most l i x (λ j. b (suc j)) h k
+-- a number that is put adds at most itself
+pub put-adds : (l : List ℕ) (i x : ℕ) → total (set l i x) ≤ total l + x
+unfolding total
+put-adds [] i x = omega arith
+put-adds (y ∷ l) zero x = omega arith
+put-adds (y ∷ l) (suc i) x = omega (arith, put-adds l i x)

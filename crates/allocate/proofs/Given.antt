@@ -22,7 +22,7 @@ use Rattle.allocate.proofs.Splits.{part-small, share-is}
 
 -- ---- weights of 0
 
-total-zeros : (n : ℕ) → total (replicate n 0) ≡ 0
+pub total-zeros : (n : ℕ) → total (replicate n 0) ≡ 0
 unfolding total
 total-zeros zero = refl
 total-zeros (suc n) = zero-add _ ∙ total-zeros n

@@ -12,6 +12,7 @@ use Rattle.numbers.specs.Shares.{floorPart}
 use Rattle.numbers.proofs.Integers.{eqZ, minus-fact}
 use Rattle.daybook.specs.Queries.{total, split}
 use Rattle.lists.proofs.Splits.{total-append, split-append, split-length}
+use Rattle.allocate.specs.InnerParts.{mostTotal}
 
 -- ---- the sum of the first k weights
 
@@ -52,7 +53,8 @@ part-up load acc x s p =
     grows : (a b : ℕ) → a ≤ a + b
     grows a b = omega arith
 
-pub product-small : (load acc : ℕ) → load ≤ 3032000000 → acc ≤ 1920320000 → load * acc ≤ 5822410240000000000
+-- products are below 2^63
+pub product-small : (load acc : ℕ) → load ≤ 3032000000 → acc ≤ mostTotal → load * acc ≤ 6209536000000000000
 product-small load acc a b = omega (arith, mul-le-mul a b)
 
 pub nothing-yet : (load s : ℕ) → (load * 0) / s ≡ 0

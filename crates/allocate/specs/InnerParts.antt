@@ -2,7 +2,7 @@
 use mathlib.Core.Path.{_≡_}
 use mathlib.Core.Bool.{true, cond}
 use mathlib.Core.List.{List, _∷_, _++_, map}
-use Prim.Native.Nat.{ℕ, zero, suc, _+_, _-_, _≤_, _<_}
+use Prim.Native.Nat.{ℕ, zero, suc, _+_, _-_, _*_, _≤_, _<_}
 use lib.Dec.{eqb}
 use lib.IntN.{ℤ, pos, subℕ, _-ℤ_}
 use lib.ListN.{length, getD, replicate}
@@ -30,10 +30,12 @@ totalTo us xs u (suc k) = totalTo us xs u k + cond (eqb (getD us k 0) u) (numAt 
 abbrev pub loadOf : AllocationQuery → ℕ → ℕ → ℤ
 loadOf n tdm raised = n .tdq -ℤ subℕ tdm raised -ℤ n .uag -ℤ n .clp
 
--- Every number of an array is at most `most`; every one of the first 32 of a table is.
-abbrev pub Below : ℕ → List ℕ → Type 0
-Below most l = (k : ℕ) → getD l k 0 ≤ most
+-- S is at most this, in any edition of the table: 4,000,000 for each of at most 32 points, a base load of 10,000 over
+-- 400 days, and 1,000,000 for each record, which takes four of the 7,680 numbers of all points.
+abbrev pub mostTotal : ℕ
+mostTotal = 32 * 4000000 + 250000 * 7680
 
+-- Every one of the first 32 numbers of a table is at most `most`.
 abbrev pub SharesBelow : ℕ → List ℤ → Type 0
 SharesBelow most l = (k : ℕ) → k < 32 → numAt l k ≤ most
 
@@ -51,4 +53,4 @@ pub record MaySplit (t : List ℤ) (q : AllocationQuery) (ws : List ℕ) (s room
   pub weigh : ws ≡ padded (weights q (tableBook standard t))
   pub sum : s ≡ total ws
   pub some : 0 < s
-  pub few : s ≤ 1920320000
+  pub few : s ≤ mostTotal

@@ -5,7 +5,7 @@ use daybook::AllocationQuery;
 ghost use mathlib.Core.Path.{_≡_};
 ghost use mathlib.Core.Bool.{true, cond};
 ghost use mathlib.Core.List.{_∷_, map};
-ghost use Prim.Native.Nat.{_*_, _<_, _≤_};
+ghost use Prim.Native.Nat.{_+_, _*_, _<_, _≤_};
 ghost use lib.Dec.{eqb};
 ghost use lib.ListN.{length, replicate};
 ghost use lib.IntN.{pos, negsuc, subℕ};
@@ -16,7 +16,7 @@ ghost use Rattle.daybook.specs.Book.{standard};
 ghost use Rattle.layout.specs.Layout.{numAt, tableBook};
 ghost use Rattle.layout.specs.Sound.{sound};
 ghost use Rattle.allocate.specs.Allocate.{allocateCall, placed};
-ghost use Rattle.allocate.specs.InnerParts.{pointsOf, padded, Below, SharesBelow, totalTo, loadOf, MaySplit, givenOf};
+ghost use Rattle.allocate.specs.InnerParts.{pointsOf, padded, mostTotal, SharesBelow, totalTo, loadOf, MaySplit, givenOf};
 
 // Is this an amount of unaccounted gas or of a linepack change?
 fn load_ok(x: i64) -> bool
@@ -76,8 +76,8 @@ fn net_load(q: AllocationQuery, tdm: u64, n: u64) -> u64
 
 // S, the sum of 32 weights.
 fn sum_of(ws: &[u64]) -> u64
-    requires { ⌜ (length (now ws) ≡ 32) × Below 60010000 (now ws) ⌝ }
-    ensures { λ r. ⌜ (r ≡ totalOfWeights (now (ws .entry))) × (r ≤ 1920320000) ⌝ }
+    requires { ⌜ (length (now ws) ≡ 32) × (totalOfWeights (now ws) ≤ mostTotal) ⌝ }
+    ensures { λ r. ⌜ r ≡ totalOfWeights (now (ws .entry)) ⌝ }
 {
     let mut sum: u64 = 0;
     let mut k: usize = 0;
@@ -90,7 +90,7 @@ fn sum_of(ws: &[u64]) -> u64
 
 // The load split by 32 weights, of which s is the sum; a point with weight 0 gets 0.
 fn split_to(ws: &[u64], load: u64, s: u64, out: &mut [i64])
-    requires { ⌜ (length (now ws) ≡ 32) × (32 ≤ length (now out)) × (load ≤ 3032000000) × (0 < s) × (s ≤ 1920320000) × (s ≡ totalOfWeights (now ws)) ⌝ }
+    requires { ⌜ (length (now ws) ≡ 32) × (32 ≤ length (now out)) × (load ≤ 3032000000) × (0 < s) × (s ≤ mostTotal) × (s ≡ totalOfWeights (now ws)) ⌝ }
     ensures { λ _. ⌜ now (out .exit) ≡ placed (split load s 0 (now (ws .entry))) (now (out .entry)) ⌝ }
 {
     let mut sum: u64 = 0;
@@ -145,8 +145,8 @@ fn totals(us: &[u64], xs: &[i64]) -> [i64; 16]
 
 // The weights of the points, 0 past the last one.
 fn weights(t: &[i64], g: u64, a: u64, b: u64) -> [u64; 32]
-    requires { ⌜ (sound standard (now t) ≡ true) × (g ≤ 39999) × (a ≤ b) × (b ≤ 39999) ⌝ }
-    ensures { λ r. ⌜ (r ≡ padded (map (weight g a b) (pointsOf (now (t .entry))))) × Below 60010000 r ⌝ }
+    requires { ⌜ (sound standard (now t) ≡ true) × (g ≤ 39999) × (a ≤ b) × (b ≤ a + 399) × (b ≤ 39999) ⌝ }
+    ensures { λ r. ⌜ (r ≡ padded (map (weight g a b) (pointsOf (now (t .entry))))) × (totalOfWeights r ≤ mostTotal) ⌝ }
 {
     let n = numbers::get(t, 0) as usize;
     let mut ws = [0u64; 32];

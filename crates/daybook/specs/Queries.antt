@@ -1,7 +1,7 @@
 -- The two calls that read the book: account and allocate.
 use mathlib.Core.Bool.{Bool, not, _&&_, cond}
 use mathlib.Core.List.{List, [], _∷_, _++_, map}
-use Prim.Native.Nat.{ℕ, suc, _+_, _-_}
+use Prim.Native.Nat.{ℕ, suc, _+_, _-_, _*_}
 use lib.Dec.{leb, eqb}
 use lib.ListN.{length, replicate}
 use lib.IntN.{ℤ, pos, negsuc, _+ℤ_, _-ℤ_}
@@ -74,11 +74,15 @@ atLeast0 (negsuc n) = 0
 unfoldable pub nslOf : AllocationQuery → Book → ℕ
 nslOf n B = atLeast0 (n .tdq -ℤ tdmOf (natOf (n .gasday)) B -ℤ n .uag -ℤ n .clp)
 
--- T of an active non-daily point: its shares over a to b or, with no day there filled, its base load.
+-- A base load (8.11.5) is MJ for one day: it counts once for each of the days a to b (document 02, b).
+abbrev pub baseOver : ℕ → ℕ → ℕ → ℕ
+baseOver base a b = base * (suc b - a)
+
+-- T of an active non-daily point: its shares over a to b or, with no day there filled, its base load over these days.
 unfoldable pub weight : ℕ → ℕ → ℕ → Point → ℕ
 weight g a b p =
     let measured : ℕ = atLeast0 (sumOver (dayShare p) a b) in
-    let t : ℕ = cond (someFilled p a b) measured (p .facts .base) in
+    let t : ℕ = cond (someFilled p a b) measured (baseOver (p .facts .base) a b) in
     cond (active g p && eqb (p .facts .kind) 0) t 0
 
 unfoldable pub weights : AllocationQuery → Book → List ℕ

@@ -13,7 +13,7 @@ use Rattle.numbers.specs.Shares.{share}
 use Rattle.numbers.specs.Sums.{sumFrom, sumOver}
 use Rattle.numbers.proofs.Bools.{both}
 use Rattle.daybook.specs.Book.{Entry, Point, dayShare, filled}
-use Rattle.daybook.specs.Queries.{active, allFilled, dailyGas, meteredOf, atLeast0, weight}
+use Rattle.daybook.specs.Queries.{active, allFilled, dailyGas, meteredOf, atLeast0, baseOver, weight}
 use Rattle.readings.specs.InnerReadings.{filledDays}
 use Rattle.readings.proofs.Days.{some-filled}
 
@@ -50,7 +50,7 @@ module _ (p : Point) (g a b : ℕ) where
   weight-none e = rw e
 
   module _ (here : (active g p && eqb (p .facts .kind) 0) ≡ true) where
-    pub weight-base : filledDays p a (b + 1 - a) ≡ 0 → p .facts .base ≡ weight g a b p
+    pub weight-base : filledDays p a (b + 1 - a) ≡ 0 → baseOver (p .facts .base) a b ≡ weight g a b p
     unfolding weight
     weight-base z = rw (here, some-filled p a b, eq-eqb (filledDays p a (b + 1 - a)) 0 z)
 

@@ -9,7 +9,7 @@ ghost use lib.ListN.{length};
 ghost use lib.IntN.{pos, subℕ};
 ghost use Rattle.numbers.specs.Sums.{sumFrom, sumOver};
 ghost use Rattle.daybook.specs.Book.{dayShare, filled};
-ghost use Rattle.daybook.specs.Queries.{active as isActive, allFilled, atLeast0, dailyGas, meteredOf, weight as weightOf};
+ghost use Rattle.daybook.specs.Queries.{active as isActive, allFilled, atLeast0, baseOver, dailyGas, meteredOf, weight as weightOf};
 ghost use Rattle.layout.specs.Layout.{numAt};
 ghost use Rattle.point.specs.InnerTests.{regStart, regUser, recRow};
 ghost use Rattle.readings.specs.InnerReadings.{pointAt, Readable, daysPassed, filledDays};
@@ -146,10 +146,18 @@ fn measured(p: &[i64], a: u64, b: u64) -> u64
     energy - 2000000000
 }
 
+// A base load, MJ for one day, over the days a to b.
+fn base_over(base: u64, a: u64, b: u64) -> u64
+    requires { ⌜ (base ≤ 10000) × (a ≤ b) × (b ≤ a + 399) × (b ≤ 39999) ⌝ }
+    ensures { λ r. ⌜ (r ≡ baseOver base a b) × (r ≤ 4000000) ⌝ }
+{
+    base * (b + 1 - a)
+}
+
 // T of a point over the days a to b, for gas day g. Filled days are counted only where no energy shows them.
 pub fn weight(p: &[i64], g: u64, a: u64, b: u64) -> u64
-    requires { ⌜ Readable (now p) × (g ≤ 39999) × (a ≤ b) × (b ≤ 39999) ⌝ }
-    ensures { λ r. ⌜ (r ≡ weightOf g a b (pointAt (now (p .entry)))) × (r ≤ 10000 + 250000 * length (now (p .entry))) ⌝ }
+    requires { ⌜ Readable (now p) × (g ≤ 39999) × (a ≤ b) × (b ≤ a + 399) × (b ≤ 39999) ⌝ }
+    ensures { λ r. ⌜ (r ≡ weightOf g a b (pointAt (now (p .entry)))) × (r ≤ 4000000 + 250000 * length (now (p .entry))) ⌝ }
 {
     if !(active(p, g) & (numbers::get(p, 1) == 0)) {
         return 0;
@@ -159,7 +167,7 @@ pub fn weight(p: &[i64], g: u64, a: u64, b: u64) -> u64
         return energy;
     }
     if filled_between(p, a, b + 1) == 0 {
-        return numbers::get(p, 3);
+        return base_over(numbers::get(p, 3), a, b);
     }
     0
 }

@@ -54,7 +54,7 @@ weights-are c =
     c .weights .ensures .0 ∙ (λ i. padded (map (weight (gasday-is (c .before) i) (from-is (c .before) i) (to-is (c .before) i)) points))
 
 sum-is : (c : tie.After-sum-of) → c .sum-of .result ≡ total (weights (start (c .before .before .before) .args .q) (tableBook standard (start (c .before .before .before) .args .t .now)))
-sum-is c = c .sum-of .ensures .0 ∙ ap total (weights-are (c .before .before)) ∙ total-padded (weights (start (c .before .before .before) .args .q) (tableBook standard (start (c .before .before .before) .args .t .now)))
+sum-is c = c .sum-of .ensures ∙ ap total (weights-are (c .before .before)) ∙ total-padded (weights (start (c .before .before .before) .args .q) (tableBook standard (start (c .before .before .before) .args .t .now)))
 
 -- src/lib.rt:224:9
 returns : tie.Need-returns
@@ -76,6 +76,7 @@ weights-requires c κs =
       sound-is (else2 (c .before .before .before) .before .before),
       rw (gasday-is c) (ok .gasdayHigh),
       rw (from-is c, to-is c) (ok .order),
+      rw (from-is c, to-is c) (ok .window),
       rw (to-is c) (ok .toHigh),
     )
 
@@ -92,9 +93,9 @@ apportion-requires c κs = record {
   isSound = sound-is (else2 (after-natural (c .before .before .before) .before) .before .before);
   inRange = range-is (else2 (after-natural (c .before .before .before) .before));
   weigh = weights-are (c .before .before .before .before .before);
-  sum = c .before .before .before .sum-of .ensures .0;
+  sum = c .before .before .before .sum-of .ensures;
   some = omega (arith, c .before .before .if3 .left);
-  few = c .before .before .before .sum-of .ensures .1;
+  few = omega (arith, c .before .before .before .before .before .weights .ensures .1);
 }
 
 -- src/lib.rt:220:1

@@ -1,10 +1,10 @@
-use mathlib.Core.Path.{_≡_, sym, ap₂, _∙_}
+use mathlib.Core.Path.{_≡_, sym, ap, ap₂, _∙_}
 use mathlib.Core.Bool.{_&&_}
 use native.Mathlib.Omega.{arith}
 use borrow.Author.Tests.{not-true, not-false}
 use lib.Dec.{eqb}
 use Rattle.daybook.specs.Book.{Point}
-use Rattle.daybook.specs.Queries.{active}
+use Rattle.daybook.specs.Queries.{active, baseOver}
 use Rattle.readings.specs.InnerReadings.{pointAt}
 use Rattle.readings.proofs.Part.{part-counted}
 use Rattle.readings.proofs.Users.{kind-is, base-is, base-few}
@@ -40,14 +40,21 @@ returns-2 c =
       omega arith,
     )
 
+base-over-requires : tie.Need-base-over-requires
+base-over-requires c κs =
+    let i = c .before .before .before .before .before in
+    let h = base-few (i .before .before .before .pre .0) in
+    search needs
+
 returns-3 : tie.Need-returns-3
 returns-3 c =
-    let f = c .before .before in
+    let b = c .before in
+    let f = b .before .before in
     let i = f .before .before .before in
-    let s = i .before .before .before in
-    let h = base-few (s .pre .0) in (
-      c .get2 .ensures .0 ∙ base-is (s .args .p .now)
-          ∙ weight-base (point s) (s .args .g) (s .args .a) (s .args .b) (sym (test-is (i .before)) ∙ not-false _ (i .if1 .left)) (sym (f .filled-between .ensures) ∙ c .before .if3 .taken),
+    let s = i .before .before .before in (
+      c .base-over .ensures .0
+          ∙ ap (λ base. baseOver base (s .args .a) (s .args .b)) (b .get2 .ensures .0 ∙ base-is (s .args .p .now))
+          ∙ weight-base (point s) (s .args .g) (s .args .a) (s .args .b) (sym (test-is (i .before)) ∙ not-false _ (i .if1 .left)) (sym (f .filled-between .ensures) ∙ b .before .if3 .taken),
       omega arith,
     )
 
@@ -71,5 +78,6 @@ weight-spec =
     (λ c κs. search needs)
     returns-2
     (λ c. search needs) (λ c κs. search needs) (λ c κs. search needs)
+    base-over-requires
     returns-3
     returns-4)
