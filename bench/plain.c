@@ -402,11 +402,11 @@ static int64_t reading(const int64_t *p, int64_t gasday) {
     return gasday >= 1 ? share_of(p, gasday - 1) : 0;
 }
 
-/* What the split of the load goes by. */
+/* What the split of the load goes by; a base load is for one day. */
 static int64_t weight(const int64_t *p, int64_t from, int64_t to) {
     bool filled = false;
     int64_t sum = shares_between(p, from, to, &filled);
-    return filled ? most(sum, 0) : p[BASE];
+    return filled ? most(sum, 0) : p[BASE] * (to - from + 1);
 }
 
 static int64_t user_on(const int64_t *p, int64_t day) {

@@ -86,7 +86,7 @@ int64_t petlumas_fresh(uint8_t *PETLUMAS_RESTRICT reg, size_t reg_len,
 
 /* Opens a point.
  * mirn, kind, user, install: the point, its User and its first day.
- * base: the base load, 0 to 10,000, or -1 for 1,000.
+ * base: the base load, MJ for one day, 0 to 10,000, or -1 for 1,000.
  * Answer: no field.
  * Refusals: 1, 2, 5, 16. */
 int64_t petlumas_open(uint8_t *PETLUMAS_RESTRICT reg, size_t reg_len,
@@ -149,7 +149,9 @@ int64_t petlumas_account(const uint8_t *PETLUMAS_RESTRICT reg, size_t reg_len,
  *   its first 32 numbers are the points' loads in order of opening, 0 past the
  *   last point; else it is as it was.
  * gasday: the gas day.
- * from, to: the days that weigh the points, before the gas day, at most 400.
+ * from, to: the days that weigh the points, before the gas day, at most 400: a
+ *   non-daily point by its energy on them or, where none is filled, by its base
+ *   load for each.
  * tdq: the gas injected, 0 to 1,000,000,000.
  * uag, clp: unaccounted gas and linepack change, within 1,000,000,000 of 0.
  * Answer: the net section load, then the totals of the Users 1 to 16.
