@@ -6,7 +6,7 @@ use Prim.Native.Nat.{ℕ, _+_, _-_, _*_, _≤_, _<_}
 use native.Mathlib.Omega.{arith}
 use lib.Dec.{leb}
 use lib.ListN.{length, drop, replicate, length-append, length-map, length-replicate, List·getD-append}
-use lib.IntN.{ℤ, pos, subℕ, _-ℤ_}
+use lib.IntN.{ℤ, pos, subℕ, _+ℤ_, _-ℤ_}
 use lib.Signed.{leZ, ltZ}
 use borrow.Author.Tests.{leb-true, ltb-true}
 use Rattle.numbers.specs.Naturals.{natOf}
@@ -24,7 +24,7 @@ use Rattle.table.proofs.Laws.{sound-long}
 use Rattle.readings.proofs.Points.{partPoint, points-are}
 use Rattle.allocate.specs.Allocate.{placed}
 use Rattle.allocate.specs.InnerParts.{pointsOf, padded, SharesBelow, totalTo, loadOf, MaySplit, givenOf}
-use Rattle.allocate.proofs.Loads.{isLoad}
+use Rattle.allocate.proofs.Loads.{isLoad, next-order}
 use Rattle.allocate.proofs.Given.{total-padded, split-padded, split-small, user-total}
 
 -- ---- numbers in range
@@ -32,7 +32,7 @@ use Rattle.allocate.proofs.Given.{total-padded, split-padded, split-sma
 pub record InRange (q : AllocationQuery) : Type 0 where
   pub gasdayLow : 1 ≤ natOf (q .gasday)
   pub gasdayHigh : natOf (q .gasday) ≤ 39999
-  pub order : natOf (q .from) ≤ natOf (q .to)
+  pub order : natOf (q .from) ≤ natOf (q .to) + 1
   pub window : natOf (q .to) ≤ natOf (q .from) + 399
   pub toHigh : natOf (q .to) ≤ 39999
   pub tdqOk : within (pos 0) (pos 1000000000) (q .tdq) ≡ true
@@ -47,7 +47,7 @@ in-range-tells q room e =
     let g = both _ (within (pos 0) (pos 1000000000) (q .tdq)) (h .0) in
     let f = both _ (leb (natOf (q .to) - natOf (q .from)) 399) (g .0) in
     let d = both _ (ltZ (q .to) (q .gasday)) (f .0) in
-    let c = both _ (leZ (q .from) (q .to)) (d .0) in
+    let c = both _ (leZ (q .from) (q .to +ℤ pos 1)) (d .0) in
     let b = both _ (isDay (q .to)) (c .0) in
     let a = both (isDay (q .gasday)) (isDay (q .from)) (b .0) in
     let day : (z : ℤ) → isDay z ≡ true → natOf z ≤ 39999 = λ z k. within-bounds 0 39999 z k .1 in
@@ -55,7 +55,7 @@ in-range-tells q room e =
       record {
         gasdayLow = omega arith;
         gasdayHigh = day (q .gasday) (a .0);
-        order = leb-true _ _ (days-order (q .from) (q .to) (a .1) (b .1) .0 ∙ c .1);
+        order = leb-true _ _ (next-order (q .from) (q .to) (a .1) (b .1) ∙ c .1);
         window = let days : natOf (q .to) - natOf (q .from) ≤ 399 = leb-true _ _ (f .1) in omega arith;
         toHigh = day (q .to) (b .1);
         tdqOk = g .1;

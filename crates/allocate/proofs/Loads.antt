@@ -1,6 +1,6 @@
 -- Row 2 of an allocation on naturals, and the net section load from raised numbers. Assumes nothing.
 use mathlib.Core.Path.{_≡_, refl, sym, ap, ap₂, _∙_}
-use mathlib.Core.Bool.{Bool, true, false, _&&_}
+use mathlib.Core.Bool.{Bool, true, false, _&&_, false≢true}
 use Prim.Native.Nat.{ℕ, _+_, _-_, _≤_, _<_}
 use native.Mathlib.Omega.{arith}
 use lib.Dec.{leb, ltb}
@@ -70,27 +70,33 @@ window-is x y = go (leb y (x + 399)) refl
     go true e = sym (le-leb (y - x) 399 (omega (arith, leb-true y (x + 399) e)))
     go false e = sym (lt-leb (y - x) 399 (omega (arith, leb-false y (x + 399) e)))
 
+-- a day, and the day after another one
+pub next-order : (x y : ℤ) → isDay x ≡ true → isDay y ≡ true → leb (natOf x) (natOf y + 1) ≡ leZ x (y +ℤ pos 1)
+next-order (pos x) (pos y) e f = refl
+next-order (pos x) (negsuc y) e f = absurd (false≢true f)
+next-order (negsuc x) y e f = absurd (false≢true e)
+
 module _ (g a b : ℤ) where
   abbrev areDays : Bool
   areDays = isDay g && isDay a && isDay b
 
-  in-order : areDays ≡ true → (leb (natOf a) (natOf b) ≡ leZ a b) × (ltb (natOf b) (natOf g) ≡ ltZ b g)
+  in-order : areDays ≡ true → (leb (natOf a) (natOf b + 1) ≡ leZ a (b +ℤ pos 1)) × (ltb (natOf b) (natOf g) ≡ ltZ b g)
   in-order e =
       let d = both (isDay g && isDay a) (isDay b) e in
       let c = both (isDay g) (isDay a) (d .0) in
-      (days-order a b (c .1) (d .1) .0, days-order b g (d .1) (c .0) .1)
+      (next-order a b (c .1) (d .1), days-order b g (d .1) (c .0) .1)
 
-  pub window : (leb (natOf g) 39999 && leb (natOf a) 39999 && leb (natOf b) 39999 && leb (natOf a) (natOf b) && ltb (natOf b) (natOf g) && leb (natOf b) (natOf a + 399))
-      ≡ (isDay g && isDay a && isDay b && leZ a b && ltZ b g && leb (natOf b - natOf a) 399)
+  pub window : (leb (natOf g) 39999 && leb (natOf a) 39999 && leb (natOf b) 39999 && leb (natOf a) (natOf b + 1) && ltb (natOf b) (natOf g) && leb (natOf b) (natOf a + 399))
+      ≡ (isDay g && isDay a && isDay b && leZ a (b +ℤ pos 1) && ltZ b g && leb (natOf b - natOf a) 399)
   window =
       ap₂ _&&_
-      (ap (λ p. p && leb (natOf a) (natOf b) && ltb (natOf b) (natOf g)) (ap₂ _&&_ (ap₂ _&&_ (day-natural g) (day-natural a)) (day-natural b))
+      (ap (λ p. p && leb (natOf a) (natOf b + 1) && ltb (natOf b) (natOf g)) (ap₂ _&&_ (ap₂ _&&_ (day-natural g) (day-natural a)) (day-natural b))
       ∙ ap (λ p. p && ltb (natOf b) (natOf g)) (and-where areDays (λ e. in-order e .0))
-      ∙ and-where (areDays && leZ a b) (λ e. in-order (both areDays (leZ a b) e .0) .1))
+      ∙ and-where (areDays && leZ a (b +ℤ pos 1)) (λ e. in-order (both areDays (leZ a (b +ℤ pos 1)) e .0) .1))
       (window-is (natOf a) (natOf b))
 
 pub in-range-is : (n : AllocationQuery) (room : ℕ) {g a b q : ℕ} {u c : Bool} → g ≡ natOf (n .gasday) → a ≡ natOf (n .from) → b ≡ natOf (n .to) → q ≡ natOf (n .tdq) → u ≡ isLoad (n .uag) → c ≡ isLoad (n .clp)
-    → (leb g 39999 && leb a 39999 && leb b 39999 && leb a b && ltb b g && leb b (a + 399) && leb q 1000000000 && u && c && leb 32 room) ≡ allocationInRange n room
+    → (leb g 39999 && leb a 39999 && leb b 39999 && leb a (b + 1) && ltb b g && leb b (a + 399) && leb q 1000000000 && u && c && leb 32 room) ≡ allocationInRange n room
 in-range-is n room g a b q u c =
     rw (g, a, b, q, u, c)
     (ap₂ (λ w q. w && q && isLoad (n .uag) && isLoad (n .clp) && leb 32 room) (window (n .gasday) (n .from) (n .to)) (up-to-natural 1000000000 (n .tdq) (omega arith)))

@@ -49,7 +49,7 @@ fn in_range(n: AllocationQuery, room: usize) -> bool
     (g <= 39999)
         & (a <= 39999)
         & (b <= 39999)
-        & (a <= b)
+        & (a <= b + 1)
         & (b < g)
         & (b <= a + 399)
         & (numbers::natural(tdq) <= 1000000000)
@@ -145,7 +145,7 @@ fn totals(us: &[u64], xs: &[i64]) -> [i64; 16]
 
 // The weights of the points, 0 past the last one.
 fn weights(t: &[i64], g: u64, a: u64, b: u64) -> [u64; 32]
-    requires { ⌜ (sound standard (now t) ≡ true) × (g ≤ 39999) × (a ≤ b) × (b ≤ a + 399) × (b ≤ 39999) ⌝ }
+    requires { ⌜ (sound standard (now t) ≡ true) × (g ≤ 39999) × (a ≤ b + 1) × (b ≤ a + 399) × (b ≤ 39999) ⌝ }
     ensures { λ r. ⌜ (r ≡ padded (map (weight g a b) (pointsOf (now (t .entry))))) × (totalOfWeights r ≤ mostTotal) ⌝ }
 {
     let n = numbers::get(t, 0) as usize;

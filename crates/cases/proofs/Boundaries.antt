@@ -1,14 +1,18 @@
 -- Answers at the boundaries, as the outside vectors have them, each list computed from the definitions.
 use mathlib.Core.Path.{_≡_, refl}
-use mathlib.Core.Bool.{false, cond}
+use mathlib.Core.Bool.{false, _&&_, cond}
 use mathlib.Core.Option.{Option, none, some}
 use mathlib.Core.List.{List, [], _∷_}
-use Prim.Native.Nat.{ℕ, _+_}
-use lib.Dec.{leb, ltb}
+use Prim.Native.Nat.{ℕ, suc, _+_, _-_}
+use native.Mathlib.Nat.{mul-one}
+use native.Mathlib.Omega.{arith}
+use lib.Dec.{leb, ltb, eqb}
 use lib.IntN.{pos, negsuc}
 use lib.ListN.{replicate}
+use Rattle.numbers.specs.Search.{firstFrom}
 use Rattle.daybook.specs.Book.{Entry, Pending, Point, Edition}
 use Rattle.daybook.specs.Notices.{least, append, replacement, recut, registers, lapses, stays, outcomeOf, statusRows, requestRows}
+use Rattle.daybook.specs.Queries.{active, someFilled, weight}
 use Rattle.daybook.specs.Calls.{Call, State}
 use Rattle.cases.specs.Journal.{Fresh, Open, Energy, Status, Request, Withdraw, Account, Allocate, answersFrom, answersOf, naturals}
 
@@ -196,3 +200,15 @@ metered-answers :
     × (answersFrom (metered 7) (Allocate 9 0 1 50 ∷ Allocate 8 8 8 50 ∷ []) ≡ naturals ((15 ∷ replicate 17 0) ∷ (2 ∷ replicate 17 0) ∷ []))
 unfolding answersFrom metered load
 metered-answers = (refl, refl, refl)
+
+-- a window of no days, a = b + 1: T of an active non-daily point is its base load, once (document 02, h)
+no-days : (g b : ℕ) (p : Point) → weight g (suc b) b p ≡ cond (active g p && eqb (p .facts .kind) 0) (p .facts .base) 0
+unfolding weight someFilled firstFrom
+no-days g b p = let no-day : suc b - suc b ≡ 0 = omega arith in rw (no-day, mul-one (p .facts .base))
+
+-- it may end on the day before g, and not on g; a = b + 2 is refused, and an account with a = b + 1 as before
+no-days-answers :
+    answersFrom (metered 7) (Allocate 8 8 7 50 ∷ Allocate 8 9 8 50 ∷ Allocate 8 9 7 50 ∷ Account 2 8 7 ∷ [])
+    ≡ naturals (load 50 ∷ (2 ∷ replicate 17 0) ∷ (2 ∷ replicate 17 0) ∷ (2 ∷ 0 ∷ []) ∷ [])
+unfolding answersFrom metered load
+no-days-answers = refl

@@ -1,7 +1,7 @@
 -- The two calls that read the book: account and allocate.
 use mathlib.Core.Bool.{Bool, not, _&&_, cond}
 use mathlib.Core.List.{List, [], _∷_, _++_, map}
-use Prim.Native.Nat.{ℕ, suc, _+_, _-_, _*_}
+use Prim.Native.Nat.{ℕ, suc, _+_, _-_, _*_, max}
 use lib.Dec.{leb, eqb}
 use lib.ListN.{length, replicate}
 use lib.IntN.{ℤ, pos, negsuc, _+ℤ_, _-ℤ_}
@@ -74,9 +74,10 @@ atLeast0 (negsuc n) = 0
 unfoldable pub nslOf : AllocationQuery → Book → ℕ
 nslOf n B = atLeast0 (n .tdq -ℤ tdmOf (natOf (n .gasday)) B -ℤ n .uag -ℤ n .clp)
 
--- A base load (8.11.5) is MJ for one day: it counts once for each of the days a to b (document 02, b).
+-- A base load (8.11.5) is MJ for one day: it counts once for each of the days a to b (document 02, b), and once where
+-- a = b + 1, a window of no days (document 02, h).
 abbrev pub baseOver : ℕ → ℕ → ℕ → ℕ
-baseOver base a b = base * (suc b - a)
+baseOver base a b = base * max 1 (suc b - a)
 
 -- T of an active non-daily point: its shares over a to b or, with no day there filled, its base load over these days.
 unfoldable pub weight : ℕ → ℕ → ℕ → Point → ℕ
@@ -109,10 +110,10 @@ totalOf g u (p ∷ ps) (x ∷ xs) = cond (eqb (p .fro g) u) x (pos 0) +ℤ total
 abbrev pub users : List ℕ
 users = 1 ∷ 2 ∷ 3 ∷ 4 ∷ 5 ∷ 6 ∷ 7 ∷ 8 ∷ 9 ∷ 10 ∷ 11 ∷ 12 ∷ 13 ∷ 14 ∷ 15 ∷ 16 ∷ []
 
--- a ≤ b < g, at most 400 days; `room` is the answer table's length.
+-- a ≤ b + 1, b < g, at most 400 days and maybe none (document 02, h); `room` is the answer table's length.
 abbrev pub allocationInRange : AllocationQuery → ℕ → Bool
 allocationInRange n room =
-    isDay (n .gasday) && isDay (n .from) && isDay (n .to) && leZ (n .from) (n .to) && ltZ (n .to) (n .gasday)
+    isDay (n .gasday) && isDay (n .from) && isDay (n .to) && leZ (n .from) (n .to +ℤ pos 1) && ltZ (n .to) (n .gasday)
     && leb (natOf (n .to) - natOf (n .from)) 399 && within (pos 0) (pos 1000000000) (n .tdq)
     && within (negsuc 999999999) (pos 1000000000) (n .uag) && within (negsuc 999999999) (pos 1000000000) (n .clp)
     && leb 32 room

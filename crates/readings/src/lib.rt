@@ -136,7 +136,7 @@ pub fn active(p: &[i64], g: u64) -> bool
 
 // Shares over the days a to b that add up to less than 0 count 0.
 fn measured(p: &[i64], a: u64, b: u64) -> u64
-    requires { ⌜ Readable (now p) × (a ≤ b) × (b ≤ 39999) ⌝ }
+    requires { ⌜ Readable (now p) × (a ≤ b + 1) × (b ≤ 39999) ⌝ }
     ensures { λ r. ⌜ (r ≡ atLeast0 (sumOver (dayShare (pointAt (now (p .entry)))) a b)) × (r ≤ 1000000 * numAt (now (p .entry)) 6) ⌝ }
 {
     let energy = energy_between(p, a, b + 1);
@@ -146,17 +146,20 @@ fn measured(p: &[i64], a: u64, b: u64) -> u64
     energy - 2000000000
 }
 
-// A base load, MJ for one day, over the days a to b.
+// A base load, MJ for one day, over the days a to b; over no days once.
 fn base_over(base: u64, a: u64, b: u64) -> u64
-    requires { ⌜ (base ≤ 10000) × (a ≤ b) × (b ≤ a + 399) × (b ≤ 39999) ⌝ }
+    requires { ⌜ (base ≤ 10000) × (b ≤ a + 399) × (b ≤ 39999) ⌝ }
     ensures { λ r. ⌜ (r ≡ baseOver base a b) × (r ≤ 4000000) ⌝ }
 {
+    if b < a {
+        return base;
+    }
     base * (b + 1 - a)
 }
 
 // T of a point over the days a to b, for gas day g. Filled days are counted only where no energy shows them.
 pub fn weight(p: &[i64], g: u64, a: u64, b: u64) -> u64
-    requires { ⌜ Readable (now p) × (g ≤ 39999) × (a ≤ b) × (b ≤ a + 399) × (b ≤ 39999) ⌝ }
+    requires { ⌜ Readable (now p) × (g ≤ 39999) × (a ≤ b + 1) × (b ≤ a + 399) × (b ≤ 39999) ⌝ }
     ensures { λ r. ⌜ (r ≡ weightOf g a b (pointAt (now (p .entry)))) × (r ≤ 4000000 + 250000 * length (now (p .entry))) ⌝ }
 {
     if !(active(p, g) & (numbers::get(p, 1) == 0)) {
