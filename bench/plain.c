@@ -402,11 +402,11 @@ static int64_t reading(const int64_t *p, int64_t gasday) {
     return gasday >= 1 ? share_of(p, gasday - 1) : 0;
 }
 
-/* What the split of the load goes by; a base load is for one day. */
+/* What the split of the load goes by; a base load is for one day, and counts once over no days. */
 static int64_t weight(const int64_t *p, int64_t from, int64_t to) {
     bool filled = false;
     int64_t sum = shares_between(p, from, to, &filled);
-    return filled ? most(sum, 0) : p[BASE] * (to - from + 1);
+    return filled ? most(sum, 0) : p[BASE] * most(to - from + 1, 1);
 }
 
 static int64_t user_on(const int64_t *p, int64_t day) {
@@ -418,7 +418,7 @@ static int64_t user_on(const int64_t *p, int64_t day) {
 
 static bool allocation_in_range(int64_t gasday, int64_t from, int64_t to, int64_t tdq, int64_t uag,
                                 int64_t clp) {
-    return is_day(gasday) && is_day(from) && is_day(to) && from <= to && to < gasday &&
+    return is_day(gasday) && is_day(from) && is_day(to) && from <= to + 1 && to < gasday &&
            to - from < 400 && within(tdq, 0, AMOUNT_MOST) &&
            within(uag, -AMOUNT_MOST, AMOUNT_MOST) && within(clp, -AMOUNT_MOST, AMOUNT_MOST);
 }

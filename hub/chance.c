@@ -148,11 +148,12 @@ void choose_account(struct chance *c, int64_t *args) {
     args[2] = mostly(c, from + between(c, -100, 1000));
 }
 
+/* One window in eight has no days. */
 void choose_allocate(struct chance *c, int64_t *args) {
     int64_t gasday = between(c, 1, one_in(c, 2) ? 130 : 1200);
     int64_t to = between(c, gasday > 100 ? gasday - 100 : 0, gasday - 1);
     args[0] = mostly(c, gasday);
-    args[1] = mostly(c, between(c, to > 400 ? to - 400 : 0, to));
+    args[1] = mostly(c, one_in(c, 8) ? to + 1 : between(c, to > 400 ? to - 400 : 0, to));
     args[2] = mostly(c, to);
     args[3] = mostly(c, between(c, 0, 1000000000));
     args[4] = mostly(c, between(c, -1000000, 1000000));

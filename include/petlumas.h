@@ -9,9 +9,9 @@
  * register is as it was.
  *
  *    1  the register is too short or (petlumas_fresh aside) unsound
- *    2  a number out of range, no such date, from after to, to not before the
- *       gas day, more than 400 days, or a buffer other than the register too
- *       short
+ *    2  a number out of range, no such date, from after to (for an allocation
+ *       after to + 1), to not before the gas day, more than 400 days, or a
+ *       buffer other than the register too short
  *    3  the holidays are more than 512, or not strictly ascending, or one is
  *       no day
  *    4  the MIRN is unknown
@@ -151,7 +151,8 @@ int64_t petlumas_account(const uint8_t *PETLUMAS_RESTRICT reg, size_t reg_len,
  * gasday: the gas day.
  * from, to: the days that weigh the points, before the gas day, at most 400: a
  *   non-daily point by its energy on them or, where none is filled, by its base
- *   load for each.
+ *   load for each. With from = to + 1 there are no days, and its base load
+ *   counts once.
  * tdq: the gas injected, 0 to 1,000,000,000.
  * uag, clp: unaccounted gas and linepack change, within 1,000,000,000 of 0.
  * Answer: the net section load, then the totals of the Users 1 to 16.
