@@ -102,8 +102,8 @@ ninth-registration :
 unfolding answersFrom
 ninth-registration = (refl, refl, refl)
 
--- a record that ends before the window leaves the request, on its first and on its last day it registers, unless a later
--- registration stands there already, and after it the request lapses
+-- an append that ends before the window leaves the request, on its first and on its last day it registers, unless a
+-- later registration stands there already, and after it the request lapses
 ending : ℕ → Entry
 ending d = record { start = 1; end = d; energy = pos 10; type = 0 }
 
@@ -113,11 +113,43 @@ waiting = some (record { user = 2; first = 11; last = 39 })
 window :
     (outcomeOf append (ending 10) 1 waiting ≡ stays)
     × (outcomeOf append (ending 11) 1 waiting ≡ registers 2)
-    × (outcomeOf recut (ending 39) 1 waiting ≡ registers 2)
-    × (outcomeOf replacement (ending 39) 40 waiting ≡ stays)
-    × (outcomeOf recut (ending 40) 1 waiting ≡ lapses)
+    × (outcomeOf append (ending 39) 1 waiting ≡ registers 2)
+    × (outcomeOf append (ending 39) 40 waiting ≡ stays)
+    × (outcomeOf append (ending 40) 1 waiting ≡ lapses)
 unfolding ending waiting
 window = (refl, refl, refl, refl, refl)
+
+-- a replacement or recut leaves any request, wherever it ends (document 02, c)
+left : (x : Entry) (s : ℕ) (o : Option Pending) → (outcomeOf replacement x s o ≡ stays) × (outcomeOf recut x s o ≡ stays)
+left x s o = (refl, refl)
+
+-- so a replacement in the window and a recut past it leave a request that can be withdrawn, and nobody is registered
+corrected : List Call
+corrected =
+    Fresh (negsuc 0) (negsuc 0)
+    ∷ Open 5 0 1 1 (negsuc 0)
+    ∷ Energy 5 1 3 (pos 10)
+    ∷ Request 5 2 14 []
+    ∷ Energy 5 1 3 (pos 20)
+    ∷ Energy 5 1 29 (pos 29)
+    ∷ Withdraw 5 2
+    ∷ Account 1 1 29
+    ∷ []
+
+corrected-answers :
+    answersOf small corrected
+    ≡ naturals
+    ((0 ∷ [])
+    ∷ (0 ∷ [])
+    ∷ (0 ∷ 1 ∷ 0 ∷ 0 ∷ 0 ∷ [])
+    ∷ (0 ∷ 0 ∷ 28 ∷ [])
+    ∷ (0 ∷ 2 ∷ 0 ∷ 0 ∷ 0 ∷ [])
+    ∷ (0 ∷ 3 ∷ 0 ∷ 0 ∷ 0 ∷ [])
+    ∷ (0 ∷ [])
+    ∷ (0 ∷ 29 ∷ [])
+    ∷ [])
+unfolding answersFrom corrected
+corrected-answers = refl
 
 -- a lapsed request is gone
 lapsed : List Call

@@ -179,13 +179,15 @@ pub data Outcome : Type 0 where
   registers : ℕ → Outcome
   lapses stays : Outcome
 
--- Whichever of the three the notice is, its own end counts: in the period, with end + 1 after the latest registration's
--- start, it registers; after the period the request lapses.
+-- Only an append settles the request (document 02, c), by its own end: in the period, with end + 1 after the latest
+-- registration's start, it registers; after the period the request lapses. A replacement or recut leaves it.
 abbrev pub outcomeOf : Which → Entry → ℕ → Option Pending → Outcome
-outcomeOf w x latestStart none = stays
-outcomeOf w x latestStart (some q) =
+outcomeOf append x latestStart none = stays
+outcomeOf append x latestStart (some q) =
     cond (leb (q .first) (x .end) && leb (x .end) (q .last) && ltb latestStart (suc (x .end))) (registers (q .user))
     (cond (ltb (q .last) (x .end)) lapses stays)
+outcomeOf replacement x latestStart o = stays
+outcomeOf recut x latestStart o = stays
 
 -- The User registered or 0, and whether the request lapsed.
 abbrev pub outcomeNumbers : Outcome → List ℕ
@@ -198,7 +200,7 @@ settled (registers u) end p = withFro (fromOn (suc end) u (p .fro)) (withPending
 settled lapses end p = withPending none p
 settled stays end p = p
 
--- The entry goes onto its days, then the request is looked at.
+-- The entry goes onto its days, and then the request comes to o.
 unfoldable pub entered : Entry → Which → Outcome → Point → Numbers × Point
 entered x w o p = (
   map pos (whichNumber w ∷ removed w (x .start) (records p) ∷ outcomeNumbers o),
@@ -208,13 +210,15 @@ entered x w o p = (
 unfoldable pub enter : Entry → Point → Numbers × Point
 enter x p = let w : Which = which p x in entered x w (outcomeOf w x (latest p .0) (p .pending)) p
 
-unfoldable pub energy : Edition → EnergyNotice → Book → Numbers × Book
-energy ed n B =
+-- The rows that the point decides.
+unfoldable pub energyRowsAt : Edition → EnergyNotice → Book → Point → List Row
+energyRowsAt ed n B p =
     let x : Entry = entryOf n in
-    onPoint 4 (n .mirn) (energyEarly n)
-    (λ p. energyRows ed n (p .facts .kind) (which p x) (appendDay p) (offWithin p (x .start) (x .end))
-    (beyond (B .nondaily) (B .daily) (p .facts .kind) (x .energy)) (length (records p)))
-    (enter x) B
+    energyRows ed n (p .facts .kind) (which p x) (appendDay p) (offWithin p (x .start) (x .end))
+    (beyond (B .nondaily) (B .daily) (p .facts .kind) (x .energy)) (length (records p))
+
+unfoldable pub energy : Edition → EnergyNotice → Book → Numbers × Book
+energy ed n B = onPoint 4 (n .mirn) (energyEarly n) (energyRowsAt ed n B) (enter (entryOf n)) B
 
 -- ---- status
 

@@ -1,12 +1,14 @@
--- A notice that its point does not send back: the entry, then the request, are the lists' one step. Assumes nothing.
+-- A notice that its point does not send back: the entry and, after an append, the request are the lists' one step.
+-- Assumes nothing.
 use mathlib.Core.Path.{_≡_, refl, sym, _∙_, ap, ap₂}
-use mathlib.Core.Option.{Option, none, some}
+use mathlib.Core.Option.{Option, none}
 use mathlib.Core.List.{List, [], _∷_, map}
 use Prim.Native.Nat.{ℕ, zero, suc}
+use native.Mathlib.Omega.{arith}
 use lib.ListN.{replicate}
 use lib.IntN.{ℤ, pos}
 use Rattle.daybook.specs.Book.{Entry, Pending, standard}
-use Rattle.daybook.specs.Notices.{least, Which, append, Outcome, outcomeOf, outcomeNumbers, entryOf, energyEarly}
+use Rattle.daybook.specs.Notices.{least, Which, append, replacement, recut, whichNumber, Outcome, stays, outcomeOf, outcomeNumbers, entryOf, energyEarly}
 use Rattle.lists.specs.Lists.{Lists}
 use Rattle.lists.specs.InnerSteps.{latestOf, whichIn, appendDayOf, withPendingLists, enteredLists, enterLists, energyListsRows}
 use Rattle.lists.specs.InnerWell.{nopending, Well, MayEnter}
@@ -67,10 +69,16 @@ record-keeps {q} ok x may =
           more = may .more;
         })
 
--- which of the three it is does not matter to the request
-any-which : (w : Which) (x : Entry) (s : ℕ) (o : Option Pending) → outcomeOf append x s o ≡ outcomeOf w x s o
-any-which w x s none = refl
-any-which w x s (some r) = refl
+-- only an append has its number, and nothing else settles a request
+is-append : (w : Which) → whichNumber w ≡ 1 → w ≡ append
+is-append append e = refl
+is-append replacement e = absurd (omega arith)
+is-append recut e = absurd (omega arith)
+
+stays-else : (w : Which) (x : Entry) (s : ℕ) (o : Option Pending) → (whichNumber w ≡ 1 → ⊥) → outcomeOf w x s o ≡ stays
+stays-else append x s o n = absurd (n refl)
+stays-else replacement x s o n = refl
+stays-else recut x s o n = refl
 
 module _ {p : List ℤ} (ok : Laid p) (x : RaisedNotice) (inside : InRange x) (a b : ℕ) where
   abbrev q : Lists
@@ -104,16 +112,29 @@ module _ {p : List ℤ} (ok : Laid p) (x : RaisedNotice) (inside : InRange x) (a
       abbrev o : Outcome
       o = outcomeOf (whichIn q e) e (latestOf (q .regs) .0) (q .pending)
 
-      outcome-same : outcomeAt x (pointFrom p″) ≡ o
-      unfolding withRecs
-      outcome-same = ap (outcomeAt x) back ∙ any-which (whichIn q e) e (latestOf (q .regs) .0) (q .pending)
-
-      pub entered : (s : Settled) {p′ : List ℤ} → SettledTo p″ x s p′
-          → (pos 0 ∷ pos (k .which) ∷ pos (k .removed) ∷ pos (s .user) ∷ pos (s .lapsed) ∷ [] ≡ energyPart x a b p .0) × (p′ ≡ energyPart x a b p .1)
+      pub corrected : (k .which ≡ 1 → ⊥)
+          → (pos 0 ∷ pos (k .which) ∷ pos (k .removed) ∷ pos 0 ∷ pos 0 ∷ [] ≡ energyPart x a b p .0) × (p″ ≡ energyPart x a b p .1)
       unfolding energyPart enterLists enteredLists withRecs
-      entered s {p′} t =
+      corrected n =
           let w = gives (part-entered 4 (energyRowsOf x a b) (enterLists e) p clear) in
-          let n : pos 0 ∷ map pos (k .which ∷ k .removed ∷ s .user ∷ s .lapsed ∷ []) ≡ pos 0 ∷ enterLists e q .0 =
-          λ i. pos 0 ∷ map pos (rec .whichIs i ∷ rec .removedIs i ∷ (t .numbersAre ∙ ap outcomeNumbers outcome-same) i) in
-          let l : p′ ≡ pointNumbers 48 (enterLists e q .1) = t .partIs ∙ ap₂ (λ o q. pointNumbers 48 (settledLists o (x .end) q)) outcome-same back in
-          (n ∙ w .0, l ∙ w .1)
+          let st : stays ≡ o = sym (stays-else (whichIn q e) e (latestOf (q .regs) .0) (q .pending) (λ z. n (rec .whichIs ∙ z))) in
+          let l : pos 0 ∷ map pos (k .which ∷ k .removed ∷ 0 ∷ 0 ∷ []) ≡ pos 0 ∷ enterLists e q .0 =
+          λ i. pos 0 ∷ map pos (rec .whichIs i ∷ rec .removedIs i ∷ ap outcomeNumbers st i) in
+          (l ∙ w .0, rec .partIs ∙ ap (λ o. pointNumbers 48 (settledLists o (x .end) (recorded e q))) st ∙ w .1)
+
+      module _ (appends : k .which ≡ 1) where
+        outcome-same : outcomeAt x (pointFrom p″) ≡ o
+        unfolding withRecs
+        outcome-same =
+            ap (outcomeAt x) back
+            ∙ ap (λ w. outcomeOf w e (latestOf (q .regs) .0) (q .pending)) (sym (is-append (whichIn q e) (sym (rec .whichIs) ∙ appends)))
+
+        pub entered : (s : Settled) {p′ : List ℤ} → SettledTo p″ x s p′
+            → (pos 0 ∷ pos (k .which) ∷ pos (k .removed) ∷ pos (s .user) ∷ pos (s .lapsed) ∷ [] ≡ energyPart x a b p .0) × (p′ ≡ energyPart x a b p .1)
+        unfolding energyPart enterLists enteredLists withRecs
+        entered s {p′} t =
+            let w = gives (part-entered 4 (energyRowsOf x a b) (enterLists e) p clear) in
+            let n : pos 0 ∷ map pos (k .which ∷ k .removed ∷ s .user ∷ s .lapsed ∷ []) ≡ pos 0 ∷ enterLists e q .0 =
+            λ i. pos 0 ∷ map pos (rec .whichIs i ∷ rec .removedIs i ∷ (t .numbersAre ∙ ap outcomeNumbers outcome-same) i) in
+            let l : p′ ≡ pointNumbers 48 (enterLists e q .1) = t .partIs ∙ ap₂ (λ o q. pointNumbers 48 (settledLists o (x .end) q)) outcome-same back in
+            (n ∙ w .0, l ∙ w .1)

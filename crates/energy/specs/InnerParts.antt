@@ -105,7 +105,7 @@ pub record Recorded (p : List ℤ) (x : RaisedNotice) (k : Kept) (p′ : List �
   pub removedIs : k .removed ≡ removed (whichIn (pointFrom p) (entryFrom x)) (x .start) (pointFrom p .recs)
   pub partIs : p′ ≡ pointNumbers 48 (recorded (entryFrom x) (pointFrom p))
 
--- What the pending request comes to. Which of the three the notice is does not matter to it.
+-- What the pending request comes to by an append.
 abbrev pub outcomeAt : RaisedNotice → Lists → Outcome
 outcomeAt x q = outcomeOf append (entryFrom x) (latestOf (q .regs) .0) (q .pending)
 

@@ -1,4 +1,5 @@
-// energy: an energy notice fills days of its point as an append, a replacement or a recut, and settles a pending request.
+// energy: an energy notice fills days of its point as an append, a replacement or a recut; an append alone settles a
+// pending request.
 // The public call finds the point; the functions before it work on that point's part alone.
 use daybook::EnergyAnswer;
 use daybook::EnergyNotice;
@@ -186,8 +187,8 @@ fn enter_record(p: &mut [i64], x: RaisedNotice) -> Kept
     }
 }
 
-// The pending request, once the entry stands: by the notice's own end its User is registered from the next day on, or the
-// request lapses, or it stays.
+// The pending request, once an append stands: by its end the User is registered from the next day on, or the request
+// lapses, or it stays.
 fn settle_request(p: &mut [i64], x: RaisedNotice) -> Settled
     requires { ⌜ Laid (now p) × InRange x ⌝ }
     ensures { λ r. ⌜ SettledTo (now (p .entry)) x r (now (p .exit)) ⌝ }
@@ -220,6 +221,14 @@ fn enter(p: &mut [i64], x: RaisedNotice, nondaily: u64, daily: u64) -> EnergyAns
         return EnergyAnswer::Refused(row);
     }
     let kept = enter_record(p, x);
+    if kept.which != 1 {
+        return EnergyAnswer::Entered {
+            which: kept.which,
+            removed: kept.removed,
+            user: 0,
+            lapsed: 0,
+        };
+    }
     let settled = settle_request(p, x);
     EnergyAnswer::Entered {
         which: kept.which,

@@ -22,7 +22,7 @@ use Rattle.daybook.specs.declared.Withdrawal.{Withdrawal}
 use Rattle.daybook.specs.declared.AccountQuery.{AccountQuery}
 use Rattle.daybook.specs.declared.AllocationQuery.{AllocationQuery}
 use Rattle.daybook.specs.Book.{Book, Point, standard}
-use Rattle.daybook.specs.Notices.{Row, smaller, least, Numbers, decide, find, onPoint, freshRows, fresh, openingRows, opening, energyEarly, energyRows, energy, statusEarly, statusRows, status, requestEarly, requestRows, request, withdrawEarly, withdrawRows, withdraw}
+use Rattle.daybook.specs.Notices.{Row, smaller, least, Numbers, decide, find, onPoint, freshRows, fresh, openingRows, opening, energyEarly, energyRows, energyRowsAt, energy, statusEarly, statusRows, status, requestEarly, requestRows, request, withdrawEarly, withdrawRows, withdraw}
 use Rattle.daybook.specs.Queries.{accountRows, account, allocateRows, allocate}
 use Rattle.layout.specs.Layout.{tableLength, tableBook}
 use Rattle.layout.specs.Sound.{sound}
@@ -100,7 +100,7 @@ unfolding openCall opening openingRows small
 open-small t n = on-table 0 (opening standard n) t (λ B. rw decided (small-least (openingRows standard n _ (length (B .points))) refl))
 
 pub energy-small : (t : List ℤ) (n : EnergyNotice) → refusalOf (energyCall t n .0) ≤ 16
-unfolding energyCall energy energyEarly energyRows small
+unfolding energyCall energy energyEarly energyRowsAt energyRows small
 energy-small t n = on-table 4 (energy standard n) t (λ B. on-point 4 (n .mirn) (energyEarly n) _ _ B refl (λ p. refl))
 
 pub status-small : (t : List ℤ) (n : StatusNotice) → refusalOf (statusCall t n .0) ≤ 16

@@ -16,7 +16,7 @@ use Rattle.numbers.proofs.Bools.{both}
 use Rattle.calendar.specs.Calendar.{within, isDay}
 use Rattle.daybook.specs.declared.EnergyNotice.{EnergyNotice}
 use Rattle.daybook.specs.Book.{Entry, Pending, Edition, days, fill, withEntries, withFro, withPending, records, latest, appendDay}
-use Rattle.daybook.specs.Notices.{least, isMirn, isFlag, Which, append, whichNumber, which, entryOf, energyEarly, energyRows, fitsKind, offWithin, beyond, kept, removed, Outcome, registers, lapses, stays, outcomeOf, outcomeNumbers, settled, entered, enter, energy}
+use Rattle.daybook.specs.Notices.{least, isMirn, isFlag, Which, append, replacement, recut, whichNumber, which, entryOf, energyEarly, energyRows, energyRowsAt, fitsKind, kept, removed, Outcome, registers, lapses, stays, outcomeOf, outcomeNumbers, settled, entered, enter, energy}
 use Rattle.lists.specs.Lists.{Lists, Register, offOn, entryOn, userOn, pointOf, bookOf}
 use Rattle.lists.specs.InnerSteps.{latestOf, whichIn, appendDayOf, recsAfter, userFrom, regsAfter, pendingAfter, enteredLists, enterLists, energyListsRows, energyLists}
 use Rattle.lists.specs.InnerWell.{Regs, StartsOn, PendingOk, nopending, pending, Well, WellFormed, MayEnter}
@@ -87,11 +87,8 @@ module _ {room : ℕ} {q : Lists} (ok : Well room q) where
   append-is = append-day-is ok (last-filled-is ok) day-after-days
 
   -- the rows of the notice, on the point's days and on its lists
-  energy-rows-is : (ed : Edition) (n : EnergyNotice) (R : Register)
-      → energyRows ed n (q .facts .kind) (which (pointOf q) (entryOf n)) (appendDay (pointOf q)) (offWithin (pointOf q) (entryOf n .start) (entryOf n .end))
-      (beyond (R .nondaily) (R .daily) (q .facts .kind) (entryOf n .energy)) (length (records (pointOf q)))
-      ≡ energyListsRows ed n R q
-  unfolding energyListsRows
+  energy-rows-is : (ed : Edition) (n : EnergyNotice) (R : Register) → energyRowsAt ed n (bookOf R) (pointOf q) ≡ energyListsRows ed n R q
+  unfolding energyRowsAt energyListsRows pointOf bookOf
   energy-rows-is ed n R = rw (which-is ok (entryOf n), append-is, off-within-is ok (entryOf n .start) (entryOf n .end), records-is ok)
 
   -- an entry goes onto the lists as it goes onto the days, whatever becomes of the request
@@ -139,7 +136,9 @@ record Settled (install : ℕ) (regs : List (ℕ × ℕ)) (o : Option Pending) :
 -- whatever the request comes to leaves them so
 settled-keeps : {install : ℕ} {regs : List (ℕ × ℕ)} {o : Option Pending} → Settled install regs o → (w : Which) (x : Entry) → x .end ≤ 39999
     → Settled install (regsAfter (outcomeOf w x (latestOf regs .0) o) (x .end) regs) (pendingAfter (outcomeOf w x (latestOf regs .0) o) o)
-settled-keeps {install} {regs} {o} ok w x h = go o (ok .pendingOk)
+settled-keeps ok replacement x h = ok
+settled-keeps ok recut x h = ok
+settled-keeps {install} {regs} {o} ok append x h = go o (ok .pendingOk)
   where
     norequest : Settled install regs none
     norequest = record { regsOk = ok .regsOk; regsStart = ok .regsStart; regsFew = ok .regsFew; pendingOk = nopending }
@@ -161,7 +160,7 @@ settled-keeps {install} {regs} {o} ok w x h = go o (ok .pendingOk)
         }
 
     go : (o : Option Pending) → PendingOk regs o
-        → Settled install (regsAfter (outcomeOf w x (latestOf regs .0) o) (x .end) regs) (pendingAfter (outcomeOf w x (latestOf regs .0) o) o)
+        → Settled install (regsAfter (outcomeOf append x (latestOf regs .0) o) (x .end) regs) (pendingAfter (outcomeOf append x (latestOf regs .0) o) o)
     go none p = norequest
     go (some r) (pending a b c d e f) = by (leb (r .first) (x .end) && leb (x .end) (r .last)) (ltb (latestOf regs .0) (suc (x .end))) refl
       where

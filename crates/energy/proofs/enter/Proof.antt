@@ -1,7 +1,8 @@
 use Rattle.numbers.proofs.Answers.{row-refuses}
 use mathlib.Core.Path.{refl}
+use native.Mathlib.Omega.{arith}
 use borrow.Author.Needs.{needs}
-use Rattle.energy.proofs.Entered.{refused, may, then-laid, entered}
+use Rattle.energy.proofs.Entered.{refused, may, then-laid, corrected, entered}
 use Rattle.energy.proofs.enter.Statement.{statement}
 use Rattle.energy.proofs.enter.Tie as tie
 
@@ -18,21 +19,31 @@ enter-record-requires c κs =
     let s = k .before .before in
     (s .pre .0, s .pre .1, may (s .pre .0) (s .args .x) (s .pre .1) (s .args .nondaily) (s .args .daily) _ (k .check .ensures) (c .before .if1 .left))
 
+returns-2 : tie.Need-returns-2
+returns-2 c =
+    let r = c .before .before .before in
+    let l = r .before .before in
+    let k = l .before in
+    let s = k .before .before in
+    let w = corrected (s .pre .0) (s .args .x) (s .pre .1) (s .args .nondaily) (s .args .daily) _ (k .check .ensures) (l .if1 .left) (r .enter-record .ensures) (λ e. omega (arith, c .if2 .taken, e)) in
+    (w .0, w .1, refl)
+
 settle-request-requires : tie.Need-settle-request-requires
 settle-request-requires c κs =
-    let r = c .before .before in
+    let r = c .before .before .before .before in
     let l = r .before .before in
     let k = l .before in
     let s = k .before .before in
     (then-laid (s .pre .0) (s .args .x) (s .pre .1) (s .args .nondaily) (s .args .daily) _ (k .check .ensures) (l .if1 .left) (r .enter-record .ensures), s .pre .1)
 
-returns-2 : tie.Need-returns-2
-returns-2 c =
-    let r = c .before .before .before .before in
+returns-3 : tie.Need-returns-3
+returns-3 c =
+    let i = c .before .before .before in
+    let r = i .before .before .before in
     let l = r .before .before in
     let k = l .before in
     let s = k .before .before in
-    let w = entered (s .pre .0) (s .args .x) (s .pre .1) (s .args .nondaily) (s .args .daily) _ (k .check .ensures) (l .if1 .left) (r .enter-record .ensures) _ (c .before .settle-request .ensures) in
+    let w = entered (s .pre .0) (s .args .x) (s .pre .1) (s .args .nondaily) (s .args .daily) _ (k .check .ensures) (l .if1 .left) (r .enter-record .ensures) (i .if2 .left) _ (c .before .settle-request .ensures) in
     (w .0, w .1, refl)
 
 pub enter-spec : {M : Type 1} → statement M
@@ -42,6 +53,8 @@ enter-spec =
     (λ c κs. search needs) (λ c. search needs)
     returns
     enter-record-requires
+    (λ c. search needs)
+    returns-2
     settle-request-requires
     (λ c. search needs)
-    returns-2)
+    returns-3)
