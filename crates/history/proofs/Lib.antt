@@ -1,5 +1,5 @@
 -- The claim about every list of calls: the calls follow the book, what a sound table's book adds up to, and both
--- together. And what one call leaves as it was.
+-- together. And what one call leaves as it was, and which answers request c changed.
 pub mod Steps
 pub mod Runs
 pub mod Accounts
@@ -9,3 +9,4 @@ pub mod Points
 pub mod SoundTables
 pub mod Theorem
 pub mod Frames
+pub mod OnlyAppends

@@ -1,5 +1,7 @@
--- Lists of calls on a lent table, what is claimed of the table that a list leaves, the claim, and what one call leaves.
+-- Lists of calls on a lent table, what is claimed of the table that a list leaves, the claim, what one call leaves, and
+-- which answers document 02's request c changed.
 pub mod Runs
 pub mod Agreement
 pub mod Claim
 pub mod Frame
+pub mod OnlyAppends

@@ -12,7 +12,7 @@ use Rattle.transfer.specs.Transfer.{requestCall, withdrawCall}
 use Rattle.account.specs.Account.{accountCall}
 use Rattle.allocate.specs.Allocate.{allocateCall}
 
-abbrev changed : Numbers × List ℤ → Answer × List ℤ
+abbrev pub changed : Numbers × List ℤ → Answer × List ℤ
 changed w = ((w .0, []), w .1)
 
 -- What a call answers, and what it leaves of the table: the very definitions that the contracts equate the code with.

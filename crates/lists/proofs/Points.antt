@@ -2,7 +2,7 @@
 -- well-formed if its effect keeps the point so.
 use mathlib.Core.Path.{_≡_, refl, sym, _∙_, ap}
 use mathlib.Core.Bool.{Bool, true, false, cond}
-use mathlib.Core.Option.{Option, none, some}
+use mathlib.Core.Option.{Option, none, some, Option·none-ne-some, Option·some-injective}
 use mathlib.Core.List.{List, [], _∷_, _++_, map}
 use Prim.Native.Nat.{ℕ, suc}
 use native.Mathlib.Omega.{arith}
@@ -31,6 +31,20 @@ find-is m (q ∷ qs) = go (eqb m (q .facts .mirn)) (find-is m qs)
         → cond b (some (pointOf q)) (find m (map pointOf qs)) ≡ maybe none (λ q. some (pointOf q)) (cond b (some q) (findLists m qs))
     go true ih = refl
     go false ih = ih
+
+-- A point in the place of the one found, with its facts, is found there.
+pub find-put : (m : ℕ) (p p′ : Point) (ps : List Point) → p′ .facts ≡ p .facts → find m ps ≡ some p → find m (put m p′ ps) ≡ some p′
+unfolding find put
+find-put m p p′ [] s e = absurd (Option·none-ne-some p e)
+find-put m p p′ (x ∷ xs) s e = go (eqb m (x .facts .mirn)) refl e (find-put m p p′ xs s)
+  where
+    go : (b : Bool) → eqb m (x .facts .mirn) ≡ b → cond b (some x) (find m xs) ≡ some p → (find m xs ≡ some p → find m (put m p′ xs) ≡ some p′)
+        → find m (cond b (p′ ∷ xs) (x ∷ put m p′ xs)) ≡ some p′
+    go true h e ih =
+        let facts : p′ .facts ≡ x .facts = s ∙ sym (ap (λ (p : Point). p .facts) (Option·some-injective x p e)) in
+        let here : eqb m (p′ .facts .mirn) ≡ true = ap (λ f. eqb m (f .mirn)) facts ∙ h in
+        rw here
+    go false h e ih = rw h (ih e)
 
 -- The points after putting one are those of the lists after putting its lists.
 pub put-is : (m : ℕ) (q : Lists) (qs : List Lists) → put m (pointOf q) (map pointOf qs) ≡ map pointOf (putLists m q qs)
