@@ -236,7 +236,7 @@ static int64_t refuse_record(const int64_t *table, const int64_t *p, int64_t row
     return 0;
 }
 
-/* A pending request after a record that ends on this day. */
+/* A pending request after an append that ends on this day. */
 static void settle(int64_t *p, int64_t end, struct plain_energy *answer) {
     if (p[PENDING] == 0)
         return;
@@ -274,7 +274,8 @@ static struct plain_energy enter(int64_t *p, int64_t row, int64_t start, int64_t
     r[1] = end;
     r[2] = energy;
     r[3] = type;
-    settle(p, end, &answer);
+    if (answer.which == 1)
+        settle(p, end, &answer);
     return answer;
 }
 

@@ -94,7 +94,8 @@ int64_t petlumas_open(uint8_t *PETLUMAS_RESTRICT reg, size_t reg_len,
                       int64_t mirn, int64_t kind, int64_t user,
                       int64_t install, int64_t base);
 
-/* Enters an energy record, and settles a pending request by its end.
+/* Enters an energy record. An append settles a pending request by its end; a
+ * replacement or a recut corrects the record and leaves the request.
  * mirn, start, end, energy, type: the record.
  * confirmed: yes lets an energy beyond the range pass.
  * Answer: which it was (1 append, 2 replacement, 3 recut), how many later
