@@ -2,7 +2,7 @@
 use mathlib.Core.Path.{_≡_, refl}
 use mathlib.Core.Bool.{false, _&&_, cond}
 use mathlib.Core.Option.{Option, none, some}
-use mathlib.Core.List.{List, [], _∷_}
+use mathlib.Core.List.{List, [], _∷_, map}
 use Prim.Native.Nat.{ℕ, suc, _+_, _-_}
 use native.Mathlib.Nat.{mul-one}
 use native.Mathlib.Omega.{arith}
@@ -10,11 +10,25 @@ use lib.Dec.{leb, ltb, eqb}
 use lib.IntN.{pos, negsuc}
 use lib.ListN.{replicate}
 use Rattle.numbers.specs.Search.{firstFrom}
+use Rattle.numbers.specs.Shares.{share}
 use Rattle.daybook.specs.Book.{Entry, Pending, Point, Edition}
 use Rattle.daybook.specs.Notices.{least, append, replacement, recut, registers, lapses, stays, outcomeOf, statusRows, requestRows}
 use Rattle.daybook.specs.Queries.{active, someFilled, weight}
 use Rattle.daybook.specs.Calls.{Call, State}
 use Rattle.cases.specs.Journal.{Fresh, Open, Energy, Status, Request, Withdraw, Account, Allocate, answersFrom, answersOf, naturals}
+
+-- an odd megajoule goes early, also below 0 and over the most days; 0 is shared as 0 (document 02, f)
+odd :
+    (map (share (pos 1) 3) (0 ∷ 1 ∷ 2 ∷ []) ≡ pos 1 ∷ pos 0 ∷ pos 0 ∷ [])
+    × (map (share (negsuc 0) 2) (0 ∷ 1 ∷ []) ≡ pos 0 ∷ negsuc 0 ∷ [])
+    × (map (share (negsuc 0) 3) (0 ∷ 1 ∷ 2 ∷ []) ≡ pos 0 ∷ pos 0 ∷ negsuc 0 ∷ [])
+    × (map (share (pos 0) 3) (0 ∷ 1 ∷ 2 ∷ []) ≡ replicate 3 (pos 0))
+    × (map (share (pos 1000000) 40000) (0 ∷ 19999 ∷ 39999 ∷ []) ≡ replicate 3 (pos 25))
+    × (map (share (negsuc 999999) 40000) (0 ∷ 19999 ∷ 39999 ∷ []) ≡ replicate 3 (negsuc 24))
+    × (map (share (pos 999999) 40000) (0 ∷ 39998 ∷ 39999 ∷ []) ≡ pos 25 ∷ pos 25 ∷ pos 24 ∷ [])
+    × (map (share (negsuc 999998) 40000) (0 ∷ 1 ∷ 39999 ∷ []) ≡ negsuc 23 ∷ negsuc 24 ∷ negsuc 24 ∷ [])
+unfolding answersFrom
+odd = (refl, refl, refl, refl, refl, refl, refl, refl)
 
 -- 1 point of 1 record, where only the bounds of the edition count
 abbrev small : Edition

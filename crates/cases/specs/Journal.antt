@@ -5,7 +5,7 @@ use lib.IntN.{ℤ, pos}
 use Rattle.numbers.specs.Rows.{all}
 use Rattle.numbers.specs.Search.{firstFrom, lastBelow}
 use Rattle.numbers.specs.Sums.{sumFrom}
-use Rattle.numbers.specs.Shares.{floorPart, partialEnergy, share}
+use Rattle.numbers.specs.Shares.{floorPart, ceilPart, partialEnergy, share}
 use Rattle.calendar.specs.Calendar.{allowablePeriod, businessDayBefore, businessDayAfter, listed, holidayList}
 use Rattle.daybook.specs.Book.{Edition, fromOn, fill, withEntries, withOff, withFro, withPending, lastOf, gather, recordAt, records, begins, registrationAt, registrations, latest, spanAt, spans, lastFilled, appendDay, dayShare}
 use Rattle.daybook.specs.Notices.{least, Numbers, decide, find, put, withPoint, onPoint, freshRows, fresh, factsOf, opened, openingRows, opening, which, entryOf, energyEarly, offWithin, energyRows, laterStarts, entered, enter, energyRowsAt, energy, statusEarly, statusRows, switched, status, requestEarly, requestRows, request, withdrawEarly, withdrawRows, withdraw}
@@ -47,7 +47,7 @@ numbers (a ∷ l) = a .0 ∷ numbers l
 
 -- Each call's numbers, the refusal first. To unfold this definition is to unfold the whole day book.
 unfoldable pub answersFrom : State → List Call → List Numbers
-unfolding all firstFrom lastBelow sumFrom floorPart partialEnergy share allowablePeriod businessDayBefore businessDayAfter listed holidayList fromOn fill withEntries withOff withFro withPending lastOf gather recordAt records begins registrationAt registrations latest spanAt spans lastFilled appendDay dayShare least decide find put withPoint onPoint freshRows fresh factsOf opened openingRows opening which entryOf energyEarly offWithin energyRows laterStarts entered enter energyRowsAt energy statusEarly statusRows switched status requestEarly requestRows request withdrawEarly withdrawRows withdraw sumOf ownShare accountOf accountRows account someFilled allFilled dailyGas meteredOf tdmOf nslOf weight weights total split pointShares totalOf allocateRows allocate step answers
+unfolding all firstFrom lastBelow sumFrom floorPart ceilPart partialEnergy share allowablePeriod businessDayBefore businessDayAfter listed holidayList fromOn fill withEntries withOff withFro withPending lastOf gather recordAt records begins registrationAt registrations latest spanAt spans lastFilled appendDay dayShare least decide find put withPoint onPoint freshRows fresh factsOf opened openingRows opening which entryOf energyEarly offWithin energyRows laterStarts entered enter energyRowsAt energy statusEarly statusRows switched status requestEarly requestRows request withdrawEarly withdrawRows withdraw sumOf ownShare accountOf accountRows account someFilled allFilled dailyGas meteredOf tdmOf nslOf weight weights total split pointShares totalOf allocateRows allocate step answers
 answersFrom S calls = numbers (answers calls S)
 
 -- From nothing: what stands in the book before fresh does not matter.

@@ -1,4 +1,5 @@
--- The marked cases of document 01: one list, in its order and under its words, a field each.
+-- The marked cases of document 01: one list, in its order and under its words, a field each. The shares of an entry and
+-- User 1's account over 1–5 are document 02's (f).
 use mathlib.Core.Path.{_≡_}
 use mathlib.Core.Option.{some}
 use mathlib.Core.List.{List, [], _∷_, map}
@@ -43,7 +44,7 @@ accountsAnswers =
     ∷ (0 ∷ 1 ∷ 0 ∷ 2 ∷ 0 ∷ [])
     ∷ (0 ∷ 1 ∷ 0 ∷ 0 ∷ 0 ∷ [])
     ∷ (0 ∷ 0 ∷ [])
-    ∷ (0 ∷ 3 ∷ [])
+    ∷ (0 ∷ 4 ∷ [])
     ∷ (0 ∷ 2 ∷ [])
     ∷ [])
 
@@ -59,12 +60,12 @@ recutAnswers =
     ∷ [])
 
 pub record Marked : Type 0 where
-  -- ● 10 over 3 days: 3, 3, 4.
-  pub ten : map (share (pos 10) 3) (0 ∷ 1 ∷ 2 ∷ []) ≡ pos 3 ∷ pos 3 ∷ pos 4 ∷ []
-  -- ● -10 over 3: -4, -3, -3.
-  pub minus-ten : map (share (negsuc 9) 3) (0 ∷ 1 ∷ 2 ∷ []) ≡ negsuc 3 ∷ negsuc 2 ∷ negsuc 2 ∷ []
-  -- ● 1 over 2: 0, 1.
-  pub one : map (share (pos 1) 2) (0 ∷ 1 ∷ []) ≡ pos 0 ∷ pos 1 ∷ []
+  -- ● 10 over 3 days: 4, 3, 3.
+  pub ten : map (share (pos 10) 3) (0 ∷ 1 ∷ 2 ∷ []) ≡ pos 4 ∷ pos 3 ∷ pos 3 ∷ []
+  -- ● -10 over 3: -3, -3, -4.
+  pub minus-ten : map (share (negsuc 9) 3) (0 ∷ 1 ∷ 2 ∷ []) ≡ negsuc 2 ∷ negsuc 2 ∷ negsuc 3 ∷ []
+  -- ● 1 over 2: 1, 0.
+  pub one : map (share (pos 1) 2) (0 ∷ 1 ∷ []) ≡ pos 1 ∷ pos 0 ∷ []
   -- ● 26 January 1970 is day 25;
   pub january : dateCall (pos 1970) (pos 1) (pos 26) ≡ pos 0 ∷ pos 25 ∷ []
   -- ● 29 February 2000 is 11,016.
@@ -79,7 +80,7 @@ pub record Marked : Type 0 where
   pub saturday : allowablePeriod [] 23 0 ≡ some (11, 36)
   -- ● Proposed 14: 0 to 28.
   pub first-day : allowablePeriod [] 14 0 ≡ some (0, 28)
-  -- ● Account of User 1 over 1–10 is 0, over 1–5 is 3; of User 2 over 8–9 is 2.
+  -- ● Account of User 1 over 1–10 is 0, over 1–5 is 4; of User 2 over 8–9 is 2.
   pub accounts : take 9 (answersOf standard story) ≡ accountsAnswers
   -- ● Energy 4–5: 8 removes one; User 1 over 1–10 is 18, User 2 has 0; the next append day is 6, a start at 7 gets 7.
   pub recut : drop 9 (answersOf standard story) ≡ recutAnswers

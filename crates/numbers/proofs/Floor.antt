@@ -37,10 +37,10 @@ floor-shift u m n p = go (ltb u (m * n)) refl
         split-q : m ≤ u / n → u / n ≡ u / n - m + m
         split-q h = omega arith
 
--- rounded down, and by less than one: what is left over is 0 to n - 1
-pub floor-rest : (z : ℤ) (n : ℕ) → 0 < n → (r : ℕ) × ((r < n) × (z ≡ floorDiv z n *ℤ pos n +ℤ pos r))
-floor-rest (pos a) n p = (a % n, (mod-lt a p, ap pos (sym (div-add-mod' a n))))
-floor-rest (negsuc a) n p = (
+-- what is left over is 0 to n - 1
+div-rest : (z : ℤ) (n : ℕ) → 0 < n → (r : ℕ) × ((r < n) × (z ≡ floorDiv z n *ℤ pos n +ℤ pos r))
+div-rest (pos a) n p = (a % n, (mod-lt a p, ap pos (sym (div-add-mod' a n))))
+div-rest (negsuc a) n p = (
   n - suc (a % n),
   (
     omega (arith, mod-lt a p),
@@ -49,6 +49,11 @@ floor-rest (negsuc a) n p = (
 )
 
 module _ (E : ℤ) (n : ℕ) (p : 0 < n) where
+  -- rounded down, and by less than one
+  pub floor-rest : (k : ℕ) → (r : ℕ) × ((r < n) × (E *ℤ pos k ≡ floorPart E n k *ℤ pos n +ℤ pos r))
+  unfolding floorPart
+  floor-rest k = div-rest (E *ℤ pos k) n p
+
   pub floor-all : floorPart E n n ≡ E
   unfolding floorPart
   floor-all =

@@ -1,6 +1,6 @@
 -- Equations of integers for omega, which reads naturals: each z is up z - dn z, each operation has one fact of these,
 -- and eqZ is the way back. Assumes nothing.
-use mathlib.Core.Path.{_≡_, refl, ap}
+use mathlib.Core.Path.{_≡_, refl, sym, ap}
 use mathlib.Core.Bool.{Bool, true, false}
 use Prim.Native.Nat.{ℕ, zero, suc, _+_, _-_, _*_, _^_, _≤_, _<_}
 use native.Mathlib.Nat.{zero-mul}
@@ -8,7 +8,7 @@ use native.Mathlib.Omega.{arith}
 use borrow.Author.Tests.{ltb-true, ltb-false, leb-true, leb-false}
 use lib.Dec.{ltb}
 use lib.Signed.{leZ}
-use lib.IntN.{ℤ, pos, negsuc, negℤ, subℕ, _+ℤ_, _-ℤ_, _*ℤ_}
+use lib.IntN.{ℤ, pos, negsuc, negℤ, subℕ, _+ℤ_, _-ℤ_, _*ℤ_, negℤ-negℤ}
 use mir.Val.{SFits}
 use mir.Syntax.{w64}
 
@@ -77,6 +77,11 @@ sfits-of-bounds (negsuc n) h k = record { sfits = omega arith }
 
 pub difference-split : (x : ℤ) → x ≡ subℕ (up x) (dn x)
 difference-split x = eqZ _ _ (omega (arith, sub-fact (up x) (dn x)))
+
+pub neg-mul : (x : ℤ) (k : ℕ) → negℤ x *ℤ pos k ≡ negℤ (x *ℤ pos k)
+neg-mul (pos zero) k = rw (zero-mul k) refl
+neg-mul (pos (suc a)) k = refl
+neg-mul (negsuc a) k = sym (negℤ-negℤ (pos (suc a * k)))
 
 pub pos-minus : (a b : ℕ) → pos a -ℤ pos b ≡ subℕ a b
 pos-minus a b = eqZ _ _ (omega (arith, minus-fact (pos a) (pos b), sub-fact a b))

@@ -1,4 +1,4 @@
--- Integers as the register reads them: naturals of a table, energies, sums over days, floor parts and shares.
+-- Integers as the register reads them: naturals of a table, energies, sums over days, floor and ceil parts, shares.
 pub mod Naturals
 pub mod Answers
 pub mod Rows

@@ -7,7 +7,7 @@ ghost use lib.ListN.{length, getD, set};
 ghost use lib.IntN.{pos, subℕ};
 ghost use Rattle.numbers.specs.Naturals.{natOf};
 ghost use Rattle.numbers.specs.InnerEnergies.{biasOf, energyOf};
-ghost use Rattle.numbers.specs.Shares.{partialEnergy};
+ghost use Rattle.numbers.specs.Shares.{floorPart, partialEnergy};
 
 // A number as a natural; a negative one as the marker 2^63.
 pub fn natural(x: i64) -> u64
@@ -79,11 +79,20 @@ pub fn put(t: &mut [i64], i: usize, n: u64)
     t[i] = integer(n);
 }
 
-// The energy of the first k of the n days of an entry: u is the entry's energy and the result that of the days,
-// both raised by 1,000,000, so that an unsigned division rounds towards minus infinity.
+// The floor part of a total: u is the total, and the result its part, both raised by 1,000,000, so that an unsigned
+// division rounds towards minus infinity.
+fn floor_part(u: u64, n: u64, k: u64) -> u64
+    requires { ⌜ (u ≤ 2000000) × (0 < n) × (n ≤ 40001) × (k ≤ n) ⌝ }
+    ensures { λ r. ⌜ (energyOf r ≡ floorPart (energyOf u) n k) × (r ≤ 2000000) ⌝ }
+{
+    (u * k + 1000000 * (n - k)) / n
+}
+
+// The energy of the first k of the n days of an entry: u is the entry's energy and the result that of the days, both
+// raised by 1,000,000. It is a ceil part: the energy is turned about, and its floor part turned back.
 pub fn partial_energy(u: u64, n: u64, k: u64) -> u64
     requires { ⌜ (u ≤ 2000000) × (0 < n) × (n ≤ 40001) × (k ≤ n) ⌝ }
     ensures { λ r. ⌜ (energyOf r ≡ partialEnergy (energyOf u) n k) × (r ≤ 2000000) ⌝ }
 {
-    (u * k + 1000000 * (n - k)) / n
+    2000000 - floor_part(2000000 - u, n, k)
 }

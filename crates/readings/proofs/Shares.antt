@@ -43,7 +43,7 @@ part-small {e} ok i j h k =
     l = omega (arith, ok .order)
 
     part : (m : ℕ) → m ≤ n → partialEnergy (e .energy) n m ≡ energyOf (raisedPart u n m)
-    part m q = ap (λ z. partialEnergy z n m) (sym (bias-is (e .energy) (ok .small))) ∙ sym (raised-partial u n m l q)
+    part m q = ap (λ z. partialEnergy z n m) (sym (bias-is (e .energy) (ok .small))) ∙ sym (raised-partial u n m (ok .small) l q)
 
 day-small : {kind from : ℕ} {offs : List (ℕ × Option ℕ)} {l : List Entry} → Recs kind offs from l → (d : ℕ) → Small (dayOf partialOf (entryOn l d) d)
 unfolding entryOn dayOf fill

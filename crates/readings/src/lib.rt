@@ -1,6 +1,6 @@
 // What is read off one point's part of the table: the energy and the filled days between two days, the FRO and the
 // status of a day, the weight T of an allocation and a daily point's gas. No function walks days: a record's energy
-// between two days is the difference of two floors, since its shares telescope. A sum is raised, so that it is natural.
+// between two days is the difference of two parts, since its shares telescope. A sum is raised, so that it is natural.
 ghost use mathlib.Core.Path.{_≡_};
 ghost use mathlib.Core.Bool.{_&&_, cond};
 ghost use Prim.Native.Nat.{suc, _+_, _-_, _*_, _<_, _≤_};
