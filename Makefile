@@ -45,7 +45,7 @@ test-c-plain: target/c/hub target/c/damage
 
 # The README's example compiles and prints what its comment says.
 test-c-example: target/c/example
-	test "$$(target/c/example)" = '0 6'
+	test "$$(target/c/example)" = '0 7'
 
 # Only the C program is instrumented: what the library does outside a buffer is for valgrind and damage.c's pages.
 test-c-sanitized: target/c/hub-sanitized target/c/damage-sanitized

@@ -60,8 +60,8 @@ static int64_t most(int64_t a, int64_t b) {
 }
 
 /* n > 0 */
-static int64_t floor_div(int64_t x, int64_t n) {
-    return x / n - (x % n < 0);
+static int64_t ceil_div(int64_t x, int64_t n) {
+    return x / n + (x % n > 0);
 }
 
 static const int64_t *registrations(const int64_t *p) {
@@ -301,7 +301,7 @@ struct plain_energy plain_energy(int64_t *table, size_t length, int64_t mirn, in
 
 /* The energy of a record's first k days. */
 static int64_t first_days(const int64_t *r, int64_t k) {
-    return floor_div(r[2] * k, r[1] - r[0] + 1);
+    return ceil_div(r[2] * k, r[1] - r[0] + 1);
 }
 
 /* The shares of the days from to to; *filled is set where a record has one of them. */
