@@ -20,6 +20,6 @@ ceilPart total n k = negℤ (floorPart (negℤ total) n k)
 unfoldable pub partialEnergy : ℤ → ℕ → ℕ → ℤ
 partialEnergy E n k = ceilPart E n k
 
--- The share of day k, counted from 0 (document 01, "The day book", with document 02's rounding).
+-- The share of day k, counted from 0 (ours; document 01, "The day book", rounded as document 02 asks).
 unfoldable pub share : ℤ → ℕ → ℕ → ℤ
 share E n k = partialEnergy E n (suc k) -ℤ partialEnergy E n k
