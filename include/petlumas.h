@@ -140,7 +140,8 @@ int64_t petlumas_withdraw(uint8_t *PETLUMAS_RESTRICT reg, size_t reg_len,
 /* Sums a User's energy.
  * user, from, to: the User, and the first and the last day.
  * Answer: the sum of the shares of those days, in MJ. The first k of the n
- *   days of a record have its energy * k / n together, rounded up.
+ *   days of a record have its energy * k / n together, rounded towards plus
+ *   infinity.
  * Refusals: 1, 2. */
 int64_t petlumas_account(const uint8_t *PETLUMAS_RESTRICT reg, size_t reg_len,
                          uint8_t *PETLUMAS_RESTRICT answer, size_t answer_len,
