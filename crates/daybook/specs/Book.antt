@@ -43,14 +43,6 @@ pub record Book : Type 0 where
   pub daily : ℤ
   pub points : List Point
 
--- Beside the book stands the edition of the table: how many points it holds, and how many records of each.
-pub record Edition : Type 0 where
-  pub points : ℕ
-  pub records : ℕ
-
-abbrev pub standard : Edition
-standard = record { points = 32; records = 48 }
-
 -- How many days the book has: 0 to 40,000.
 abbrev pub days : ℕ
 days = 40001

@@ -21,7 +21,8 @@ use Rattle.daybook.specs.declared.RequestAnswer.the-variants as Request
 use Rattle.daybook.specs.declared.AccountAnswer.{AccountAnswer}
 use Rattle.daybook.specs.declared.AccountAnswer.the-variants as Account
 use Rattle.daybook.specs.declared.AllocationAnswer.{AllocationAnswer}
-use Rattle.daybook.specs.Book.{Book, Edition}
+use Rattle.daybook.specs.declared.Edition.{Edition}
+use Rattle.daybook.specs.Book.{Book}
 use Rattle.daybook.specs.Notices.{Numbers, fresh, opening, energy, status, request, withdraw}
 use Rattle.daybook.specs.Queries.{account, allocate}
 

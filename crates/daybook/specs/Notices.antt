@@ -16,7 +16,8 @@ use Rattle.daybook.specs.declared.EnergyNotice.{EnergyNotice}
 use Rattle.daybook.specs.declared.StatusNotice.{StatusNotice}
 use Rattle.daybook.specs.declared.TransferRequest.{TransferRequest}
 use Rattle.daybook.specs.declared.Withdrawal.{Withdrawal}
-use Rattle.daybook.specs.Book.{Entry, Pending, Facts, Point, Book, Edition, fromOn, fill, withEntries, withOff, withFro, withPending, lastOf, recordAt, records, registrations, spans, latest, lastFilled, appendDay}
+use Rattle.daybook.specs.declared.Edition.{Edition}
+use Rattle.daybook.specs.Book.{Entry, Pending, Facts, Point, Book, fromOn, fill, withEntries, withOff, withFro, withPending, lastOf, recordAt, records, registrations, spans, latest, lastFilled, appendDay}
 
 -- A row: the number that is returned, and whether the row applies.
 abbrev pub Row : Type 0

@@ -2,6 +2,12 @@
 // an enum, so that a refusal carries no field. Allocate's answer holds an array and so is a struct.
 use calendar::Day;
 
+// Beside the book stands the edition of the table: how many points it holds, and how many records of each.
+pub struct Edition {
+    pub points: usize,
+    pub records: usize,
+}
+
 pub struct Ranges {
     pub nondaily: i64,
     pub daily: i64,

@@ -18,3 +18,5 @@ pub mod Tables
 pub mod TableSound
 pub mod SoundTable
 pub mod Mirns
+pub mod SoundParts
+pub mod Editions

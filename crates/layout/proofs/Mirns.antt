@@ -12,7 +12,7 @@ use lib.IntN.{ℤ, pos}
 use Rattle.numbers.specs.Naturals.{natOf}
 use Rattle.numbers.specs.Rows.{all}
 use Rattle.numbers.proofs.Rows.{all-none, all-front, all-same}
-use Rattle.daybook.specs.Book.{Edition}
+use Rattle.daybook.specs.declared.Edition.{Edition}
 use Rattle.lists.specs.Lists.{Lists}
 use Rattle.layout.specs.Layout.{stride, placeOf, numAt, pointFrom, pointsFrom}
 use Rattle.layout.specs.Sound.{each, mirnsDiffer}

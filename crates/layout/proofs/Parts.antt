@@ -8,7 +8,7 @@ use native.Mathlib.Nat.{mul-suc, mul-le-mul-left}
 use lib.ListN.{length, take, drop, length-append, length-drop, take-append-drop}
 use lib.Seq.{length-take-le, take-append-le, take-take, drop-append-add, drop-drop}
 use lib.IntN.{ℤ}
-use Rattle.daybook.specs.Book.{Edition}
+use Rattle.daybook.specs.declared.Edition.{Edition}
 use Rattle.layout.specs.Layout.{tableLength, stride, placeOf, Fits, partOf}
 use Rattle.layout.specs.InnerWrites.{withPart}
 
@@ -21,7 +21,7 @@ next-place ed i j h = step (stride ed) (mul-le-mul-left (stride ed) h) (mul-suc 
 
 -- a part of a table that fits ends in the table
 pub part-ends : (ed : Edition) (i : ℕ) → Fits ed → i < ed .points → placeOf ed i + stride ed ≤ tableLength
-part-ends ed i f h = chain (placeOf ed i + stride ed) (placeOf ed (ed .points)) (next-place ed i (ed .points) h) f
+part-ends ed i f h = chain (placeOf ed i + stride ed) (placeOf ed (ed .points)) (next-place ed i (ed .points) h) (f .inTable)
   where
     chain : (a b : ℕ) → a ≤ b → b ≤ tableLength → a ≤ tableLength
     chain a b h k = omega arith

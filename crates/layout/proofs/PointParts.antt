@@ -8,7 +8,7 @@ use native.Mathlib.Nat.{mul-suc, mul-zero, mul-le-mul-left}
 use lib.ListN.{length, take, drop, length-append, take-append-drop}
 use lib.Seq.{take-at, drop-at}
 use lib.IntN.{ℤ, pos}
-use Rattle.daybook.specs.Book.{Edition}
+use Rattle.daybook.specs.declared.Edition.{Edition}
 use Rattle.lists.specs.Lists.{Lists, Register}
 use Rattle.lists.specs.InnerWell.{Points, nopoint, point}
 use Rattle.layout.specs.Layout.{tableLength, stride, placeOf, Fits, partOf, pad, pointNumbers, pointsNumbers, layout}
@@ -90,7 +90,7 @@ module _ (ed : Edition) (R : Register) where
   unfolding layout
   layout-length f h g =
       length-pad tableLength (upTo (length (R .points)) (R .points))
-      (room (length (upTo (length (R .points)) (R .points))) (length (R .points)) (ed .points) (stride ed) (up-to-length (length (R .points)) g) f (mul-le-mul-left (stride ed) h))
+      (room (length (upTo (length (R .points)) (R .points))) (length (R .points)) (ed .points) (stride ed) (up-to-length (length (R .points)) g) (f .inTable) (mul-le-mul-left (stride ed) h))
     where
       room : (x n m s : ℕ) → x ≡ 8 + s * n → 8 + s * m ≤ tableLength → s * n ≤ s * m → x ≤ tableLength
       room x n m s a b c = omega arith

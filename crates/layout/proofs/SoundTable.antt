@@ -12,7 +12,7 @@ use borrow.Author.Tests.{le-leb}
 use Rattle.numbers.specs.Rows.{all}
 use Rattle.numbers.proofs.Rows.{all-of}
 use Rattle.numbers.proofs.Bools.{join}
-use Rattle.daybook.specs.Book.{Edition}
+use Rattle.daybook.specs.declared.Edition.{Edition}
 use Rattle.lists.specs.Lists.{Lists, Register}
 use Rattle.lists.specs.InnerSteps.{findLists}
 use Rattle.lists.specs.InnerWell.{Well, Points, nopoint, point, WellFormed}

@@ -6,7 +6,7 @@ use mathlib.Core.List.{List, [], _∷_, _++_}
 use Prim.Native.Nat.{ℕ, zero, suc, _+_, _*_, _≤_, _<_}
 use native.Mathlib.Omega.{arith}
 use native.Mathlib.Nat.{mul-suc, mul-zero, mul-le-mul-left, add-mul}
-use lib.Dec.{leb, eqb, lit≤}
+use lib.Dec.{leb, eqb}
 use lib.ListN.{length, getD, take, drop, length-take, length-drop}
 use lib.Seq.{take-add}
 use lib.IntN.{ℤ, pos}
@@ -14,7 +14,7 @@ use borrow.Author.Tests.{leb-true, not-true}
 use Rattle.numbers.specs.Rows.{all}
 use Rattle.numbers.proofs.Bools.{both}
 use Rattle.numbers.proofs.Rows.{all-at}
-use Rattle.daybook.specs.Book.{Edition, standard}
+use Rattle.daybook.specs.declared.Edition.{Edition}
 use Rattle.daybook.specs.Notices.{isRange}
 use Rattle.lists.specs.Lists.{Lists}
 use Rattle.lists.specs.InnerSteps.{findLists}
@@ -122,10 +122,6 @@ three (x ∷ []) h = absurd (omega arith)
 three (x ∷ y ∷ []) h = absurd (omega arith)
 three (x ∷ y ∷ z ∷ t) h = refl
 
--- an edition that fits has fewer points than the table has numbers
-points-few : (ed : Edition) → Fits ed → ed .points ≤ tableLength
-points-few ed h = omega (arith, add-mul 48 (4 * ed .records) (ed .points))
-
 -- a sound table's lists are well formed, and its numbers are their layout
 pub sound-lays : (ed : Edition) → Fits ed → (t : List ℤ) → sound ed t ≡ true → WellFormed ed (registerOf ed t) × (layout ed (registerOf ed t) ≡ take tableLength t)
 unfolding registerOf layout
@@ -163,7 +159,7 @@ sound-lays ed fits t e = (well, whole)
 
     head : pos (length (pointsFrom ed n (drop 8 t))) ∷ getD t 1 (pos 0) ∷ getD t 2 (pos 0) ∷ [] ≡ take 3 t
     head =
-        ap₂ (λ x y. x ∷ y) (ap pos (length-points ed n (drop 8 t)) ∙ clean (getD t 0 (pos 0)) (omega (arith, s .few, points-few ed fits))) refl
+        ap₂ (λ x y. x ∷ y) (ap pos (length-points ed n (drop 8 t)) ∙ clean (getD t 0 (pos 0)) (omega (arith, s .few, fits .few))) refl
         ∙ three t (omega (arith, s .long))
 
     whole : pad tableLength (pad 8 (pos (length (pointsFrom ed n (drop 8 t))) ∷ getD t 1 (pos 0) ∷ getD t 2 (pos 0) ∷ []) ++ pointsNumbers (ed .records) (pointsFrom ed n (drop 8 t))) ≡ take tableLength t
@@ -172,9 +168,6 @@ sound-lays ed fits t e = (well, whole)
         ∙ ap (λ u. pad tableLength (u ++ take (stride ed * n) (drop 8 t))) (pad-take 8 3 t (omega arith) (omega (arith, s .long)) (λ i a b. zeros-at t 3 8 (s .spare) i a b))
         ∙ ap (pad tableLength) (sym (take-add 8 (stride ed * n) t))
         ∙ pad-take tableLength (placeOf ed n) t ends (s .long) (λ i a b. zeros-at t (placeOf ed n) tableLength (s .rest) i a b)
-
-pub standard-fits : Fits standard
-standard-fits = lit≤ tt
 
 -- one book, one table: sound tables of one edition with equal books hold the same numbers
 pub one-table : (ed : Edition) → Fits ed → (t u : List ℤ) → sound ed t ≡ true → sound ed u ≡ true → tableBook ed t ≡ tableBook ed u → take tableLength t ≡ take tableLength u

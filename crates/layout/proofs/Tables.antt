@@ -5,7 +5,7 @@ use Prim.Native.Nat.{ℕ}
 use lib.ListN.{length, take, drop}
 use lib.Seq.{take-at, drop-at}
 use lib.IntN.{ℤ}
-use Rattle.daybook.specs.Book.{Edition}
+use Rattle.daybook.specs.declared.Edition.{Edition}
 use Rattle.lists.specs.Lists.{Lists, Register, pointOf, bookOf}
 use Rattle.lists.specs.InnerWell.{Well, Points, nopoint, point, WellFormed}
 use Rattle.lists.proofs.Records.{records-is}

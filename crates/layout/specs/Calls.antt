@@ -5,21 +5,33 @@ use Prim.Native.Nat.{ℕ}
 use lib.IntN.{ℤ, pos}
 use lib.ListN.{replicate}
 use Rattle.numbers.specs.Answers.{refused}
-use Rattle.daybook.specs.Book.{Book, Edition}
+use Rattle.daybook.specs.declared.Edition.{Edition}
+use Rattle.daybook.specs.Book.{Book}
 use Rattle.daybook.specs.Notices.{Numbers}
-use Rattle.layout.specs.Layout.{tableBook, withBook}
+use Rattle.layout.specs.Layout.{editionOf, tableBook, withBook}
 use Rattle.layout.specs.Sound.{sound}
+
+-- ---- on a table of an edition
 
 -- The answer, and the table with the book after the call written over its register; a refusal leaves the table as found.
 abbrev pub answerAndTable : Edition → List ℤ → Numbers × Book → Numbers × List ℤ
 answerAndTable ed t w = let after : List ℤ = withBook ed t (w .1) in (w .0, cond (refused (w .0)) t after)
 
 -- A call with k fields gets 1 where the table is short or unsound; else it is the book's step on the table's book.
-unfoldable pub onTable : ℕ → (Book → Numbers × Book) → Edition → List ℤ → Numbers × List ℤ
-onTable k step ed t =
+unfoldable pub onEdition : ℕ → (Book → Numbers × Book) → Edition → List ℤ → Numbers × List ℤ
+onEdition k step ed t =
     let taken : Numbers × List ℤ = answerAndTable ed t (step (tableBook ed t)) in
     cond (sound ed t) taken (pos 1 ∷ replicate k (pos 0), t)
 
 -- A query is refused where the table is short or unsound; else the table's book answers it.
-unfoldable pub ofTable : {A : Type 0} → A → (Book → A) → Edition → List ℤ → A
-ofTable {A} refusal query ed t = let given : A = query (tableBook ed t) in cond (sound ed t) given refusal
+unfoldable pub ofEdition : {A : Type 0} → A → (Book → A) → Edition → List ℤ → A
+ofEdition {A} refusal query ed t = let given : A = query (tableBook ed t) in cond (sound ed t) given refusal
+
+-- ---- on a table, whose edition it is
+
+-- The step goes by the edition too: how many points and records there is room for.
+abbrev pub onTable : ℕ → (Edition → Book → Numbers × Book) → List ℤ → Numbers × List ℤ
+onTable k step t = onEdition k (step (editionOf t)) (editionOf t) t
+
+abbrev pub ofTable : {A : Type 0} → A → (Book → A) → List ℤ → A
+ofTable refusal query t = ofEdition refusal query (editionOf t) t

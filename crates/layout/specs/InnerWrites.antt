@@ -3,7 +3,8 @@ use mathlib.Core.List.{List, _++_}
 use Prim.Native.Nat.{ℕ, zero, suc, _+_, _-_, _*_}
 use lib.IntN.{ℤ, pos, negsuc}
 use lib.ListN.{set, take, drop}
-use Rattle.daybook.specs.Book.{Entry, Facts, Edition}
+use Rattle.daybook.specs.declared.Edition.{Edition}
+use Rattle.daybook.specs.Book.{Entry, Facts}
 use Rattle.layout.specs.Layout.{stride, placeOf, partOf}
 
 -- The table with p for the numbers of point i.

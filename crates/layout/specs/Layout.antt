@@ -5,7 +5,8 @@ use Prim.Native.Nat.{ℕ, zero, suc, _+_, _-_, _*_, _≤_, _^_}
 use lib.IntN.{ℤ, pos, negsuc}
 use lib.ListN.{length, getD, take, drop, replicate}
 use Rattle.numbers.specs.Naturals.{natOf}
-use Rattle.daybook.specs.Book.{Entry, Pending, Point, Book, Edition, records, registrations, spans}
+use Rattle.daybook.specs.declared.Edition.{Edition}
+use Rattle.daybook.specs.Book.{Entry, Pending, Point, Book, records, registrations, spans}
 use Rattle.lists.specs.Lists.{Lists, Register, bookOf}
 
 -- ---- editions and places
@@ -22,9 +23,19 @@ stride ed = 48 + 4 * ed .records
 abbrev pub placeOf : Edition → ℕ → ℕ
 placeOf ed i = 8 + stride ed * i
 
--- An edition whose points fit the table.
-abbrev pub Fits : Edition → Type 0
-Fits ed = placeOf ed (ed .points) ≤ tableLength
+-- An edition whose points fit the table, and their shares an answer table of 32 numbers.
+pub record Fits (ed : Edition) : Type 0 where
+  pub some : 1 ≤ ed .points
+  pub few : ed .points ≤ 32
+  pub inTable : placeOf ed (ed .points) ≤ tableLength
+
+-- Document 01's edition.
+abbrev pub standard : Edition
+standard = record { points = 32; records = 48 }
+
+-- The edition of a table, whatever its numbers.
+unfoldable pub editionOf : List ℤ → Edition
+editionOf t = standard
 
 -- The numbers of point i.
 unfoldable pub partOf : Edition → List ℤ → ℕ → List ℤ

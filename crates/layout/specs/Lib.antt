@@ -2,6 +2,7 @@
 -- leave in it.
 pub mod Layout
 pub mod Sound
+pub mod InnerParts
 pub mod InnerWrites
 pub mod Calls
 pub mod InnerMirns

@@ -9,7 +9,8 @@ use lib.ListN.{length, getD, drop}
 use Rattle.numbers.specs.Rows.{all}
 use Rattle.numbers.specs.Search.{maybe}
 use Rattle.calendar.specs.Calendar.{within}
-use Rattle.daybook.specs.Book.{Entry, Pending, Facts, Edition, lastOf, appendDay}
+use Rattle.daybook.specs.declared.Edition.{Edition}
+use Rattle.daybook.specs.Book.{Entry, Pending, Facts, lastOf, appendDay}
 use Rattle.daybook.specs.Notices.{fitsKind, isRange, offWithin}
 use Rattle.lists.specs.Lists.{Lists, pointOf}
 use Rattle.layout.specs.Layout.{tableLength, placeOf, partOf, numAt, pointFrom, pointsFrom}

@@ -15,7 +15,8 @@ use Rattle.numbers.proofs.Search.{some-is}
 use Rattle.numbers.proofs.Bools.{both}
 use Rattle.calendar.specs.Calendar.{within, isDay}
 use Rattle.daybook.specs.declared.EnergyNotice.{EnergyNotice}
-use Rattle.daybook.specs.Book.{Entry, Pending, Edition, days, fill, withEntries, withFro, withPending, records, latest, appendDay}
+use Rattle.daybook.specs.declared.Edition.{Edition}
+use Rattle.daybook.specs.Book.{Entry, Pending, days, fill, withEntries, withFro, withPending, records, latest, appendDay}
 use Rattle.daybook.specs.Notices.{least, isMirn, isFlag, Which, append, replacement, recut, whichNumber, which, entryOf, energyEarly, energyRows, energyRowsAt, fitsKind, kept, removed, Outcome, registers, lapses, stays, outcomeOf, outcomeNumbers, settled, entered, enter, energy}
 use Rattle.lists.specs.Lists.{Lists, Register, offOn, entryOn, userOn, pointOf, bookOf}
 use Rattle.lists.specs.InnerSteps.{latestOf, whichIn, appendDayOf, recsAfter, userFrom, regsAfter, pendingAfter, enteredLists, enterLists, energyListsRows, energyLists}

@@ -16,7 +16,8 @@ use Rattle.numbers.proofs.Bools.{both}
 use Rattle.calendar.specs.Calendar.{within}
 use Rattle.daybook.specs.declared.Ranges.{Ranges}
 use Rattle.daybook.specs.declared.Opening.{Opening}
-use Rattle.daybook.specs.Book.{Point, Book, Edition, fromOn}
+use Rattle.daybook.specs.declared.Edition.{Edition}
+use Rattle.daybook.specs.Book.{Point, Book, fromOn}
 use Rattle.daybook.specs.Notices.{least, Numbers, decide, isRange, find, freshRows, fresh, factsOf, opened, openingRows, opening}
 use Rattle.lists.specs.Lists.{Lists, Register, userOn, offOn, entryOn, pointOf, bookOf}
 use Rattle.lists.specs.InnerSteps.{findLists, freshLists, openedLists, openingLists}

@@ -12,7 +12,8 @@ use lib.IntN.{ℤ}
 use borrow.Author.Tests.{eqb-true}
 use Rattle.numbers.specs.Naturals.{natOf}
 use Rattle.numbers.specs.Search.{maybe}
-use Rattle.daybook.specs.Book.{Point, Book, Edition}
+use Rattle.daybook.specs.declared.Edition.{Edition}
+use Rattle.daybook.specs.Book.{Point, Book}
 use Rattle.daybook.specs.Notices.{Row, least, Numbers, decide, find, put, withPoint, onPoint}
 use Rattle.lists.specs.Lists.{Lists, Register, pointOf, bookOf}
 use Rattle.lists.specs.InnerSteps.{findLists, putLists, withLists, onLists}

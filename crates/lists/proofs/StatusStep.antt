@@ -9,7 +9,8 @@ use lib.ListN.{length}
 use Rattle.numbers.specs.Naturals.{natOf}
 use Rattle.numbers.proofs.Bools.{both}
 use Rattle.daybook.specs.declared.StatusNotice.{StatusNotice}
-use Rattle.daybook.specs.Book.{Point, Edition, withOff, spans, lastFilled}
+use Rattle.daybook.specs.declared.Edition.{Edition}
+use Rattle.daybook.specs.Book.{Point, withOff, spans, lastFilled}
 use Rattle.daybook.specs.Notices.{Row, least, Numbers, statusEarly, statusRows, switched, status}
 use Rattle.lists.specs.Lists.{Lists, Register, pointOf, bookOf}
 use Rattle.lists.specs.InnerSteps.{lastEnd, offsAfter, withOffs, statusLists}

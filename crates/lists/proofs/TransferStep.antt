@@ -16,7 +16,8 @@ use Rattle.calendar.specs.Calendar.{holidayList, allowablePeriod}
 use Rattle.calendar.proofs.Business.{period-bound}
 use Rattle.daybook.specs.declared.TransferRequest.{TransferRequest}
 use Rattle.daybook.specs.declared.Withdrawal.{Withdrawal}
-use Rattle.daybook.specs.Book.{Pending, Point, Edition, withPending, registrations, latest}
+use Rattle.daybook.specs.declared.Edition.{Edition}
+use Rattle.daybook.specs.Book.{Pending, Point, withPending, registrations, latest}
 use Rattle.daybook.specs.Notices.{Row, least, Numbers, requestEarly, requestRows, periodNumbers, pendingOf, request, withdrawEarly, withdrawRows, withdraw}
 use Rattle.lists.specs.Lists.{Lists, Register, pointOf, bookOf}
 use Rattle.lists.specs.InnerSteps.{latestOf, withPendingLists, requestLists, withdrawLists}

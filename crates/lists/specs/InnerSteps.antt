@@ -16,7 +16,8 @@ use Rattle.daybook.specs.declared.EnergyNotice.{EnergyNotice}
 use Rattle.daybook.specs.declared.StatusNotice.{StatusNotice}
 use Rattle.daybook.specs.declared.TransferRequest.{TransferRequest}
 use Rattle.daybook.specs.declared.Withdrawal.{Withdrawal}
-use Rattle.daybook.specs.Book.{Entry, Pending, Edition, lastOf}
+use Rattle.daybook.specs.declared.Edition.{Edition}
+use Rattle.daybook.specs.Book.{Entry, Pending, lastOf}
 use Rattle.daybook.specs.Notices.{Row, least, Numbers, decide, freshRows, factsOf, openingRows, Which, append, replacement, recut, whichNumber, whichOf, entryOf, energyEarly, energyRows, beyond, removed, Outcome, registers, lapses, stays, outcomeOf, outcomeNumbers, statusEarly, statusRows, requestEarly, requestRows, periodNumbers, pendingOf, withdrawEarly, withdrawRows}
 use Rattle.lists.specs.Lists.{Lists, Register}
 

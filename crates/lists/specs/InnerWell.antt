@@ -8,7 +8,8 @@ use lib.Dec.{eqb}
 use lib.ListN.{length}
 use lib.IntN.{pos, negsuc}
 use Rattle.calendar.specs.Calendar.{within}
-use Rattle.daybook.specs.Book.{Entry, Pending, Facts, Edition}
+use Rattle.daybook.specs.declared.Edition.{Edition}
+use Rattle.daybook.specs.Book.{Entry, Pending, Facts}
 use Rattle.daybook.specs.Notices.{fitsKind, isRange, append}
 use Rattle.lists.specs.Lists.{Lists, Register, offOn}
 use Rattle.lists.specs.InnerSteps.{latestOf, skip, findLists, whichIn, appendDayOf, someOverlap}

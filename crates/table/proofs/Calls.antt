@@ -11,7 +11,8 @@ use lib.IntN.{ℤ, pos}
 use Rattle.numbers.specs.Naturals.{natOf}
 use Rattle.numbers.specs.Search.{maybe}
 use Rattle.numbers.specs.Answers.{refused}
-use Rattle.daybook.specs.Book.{Book, Edition}
+use Rattle.daybook.specs.declared.Edition.{Edition}
+use Rattle.daybook.specs.Book.{Book}
 use Rattle.daybook.specs.Notices.{Row, least, Numbers, decide}
 use Rattle.lists.specs.Lists.{Lists, Register, bookOf}
 use Rattle.lists.specs.InnerSteps.{findLists, withLists, onLists}
@@ -20,24 +21,24 @@ use Rattle.lists.proofs.Rows.{decide-taken, decide-refused}
 use Rattle.layout.specs.Layout.{tableLength, partOf, pointNumbers, layout, pointFrom, registerOf, tableBook}
 use Rattle.layout.specs.InnerWrites.{withPart}
 use Rattle.layout.specs.Sound.{sound}
-use Rattle.layout.specs.Calls.{answerAndTable, onTable, ofTable}
+use Rattle.layout.specs.Calls.{answerAndTable, onEdition, ofEdition}
 use Rattle.layout.proofs.Numbers.{Few}
 use Rattle.layout.proofs.Tables.{written-is}
 use Rattle.table.proofs.Found.{Found}
 
 -- a short or unsound table gets 1 and is left as found
-pub call-unsound : (k : ℕ) (step : Book → Numbers × Book) (ed : Edition) (t : List ℤ) → sound ed t ≡ false → onTable k step ed t ≡ (pos 1 ∷ replicate k (pos 0), t)
-unfolding onTable
+pub call-unsound : (k : ℕ) (step : Book → Numbers × Book) (ed : Edition) (t : List ℤ) → sound ed t ≡ false → onEdition k step ed t ≡ (pos 1 ∷ replicate k (pos 0), t)
+unfolding onEdition
 call-unsound k step ed t e = rw e
 
 -- a query likewise, and else the table's book answers it
 module _ {A : Type 0} (refusal : A) (query : Book → A) (ed : Edition) (t : List ℤ) where
-  pub query-unsound : sound ed t ≡ false → ofTable refusal query ed t ≡ refusal
-  unfolding ofTable
+  pub query-unsound : sound ed t ≡ false → ofEdition refusal query ed t ≡ refusal
+  unfolding ofEdition
   query-unsound e = rw e
 
-  pub query-sound : sound ed t ≡ true → ofTable refusal query ed t ≡ query (tableBook ed t)
-  unfolding ofTable
+  pub query-sound : sound ed t ≡ true → ofEdition refusal query ed t ≡ query (tableBook ed t)
+  unfolding ofEdition
   query-sound e = rw e
 
 -- the equations of a call's contract: what it gives and leaves, and with them which case the answer is
@@ -90,17 +91,17 @@ module _ (k : ℕ) (m : ℤ) (early : List Row) (rows : Lists → List Row) (eff
   abbrev after : Numbers × Register
   after = onLists k m early rows effect (registerOf ed t)
 
-  whole : onTable k step ed t ≡ laidOver ed t after
-  unfolding onTable tableBook
+  whole : onEdition k step ed t ≡ laidOver ed t after
+  unfolding onEdition tableBook
   whole = rw s (ap (answerAndTable ed t) is ∙ leaves-is ed t after keeps)
 
-  pub call-refused : (n : ℕ) → row k m early rows effect (registerOf ed t) ≡ suc n → onTable k step ed t ≡ (pos (suc n) ∷ replicate k (pos 0), t)
+  pub call-refused : (n : ℕ) → row k m early rows effect (registerOf ed t) ≡ suc n → onEdition k step ed t ≡ (pos (suc n) ∷ replicate k (pos 0), t)
   call-refused n e =
       whole ∙ ap (laidOver ed t) (lists-refused k m early rows effect (registerOf ed t) n e)
       ∙ left-alone ed t n (replicate k (pos 0)) (registerOf ed t)
 
   pub call-entered : (i : ℕ) → Found ed t (natOf m) i → least (early ++ rows (pointFrom (partOf ed t i))) ≡ 0 → Few (ed .records) (effect (pointFrom (partOf ed t i)) .1)
-      → onTable k step ed t ≡ (pos 0 ∷ effect (pointFrom (partOf ed t i)) .0, withPart ed t i (pointNumbers (ed .records) (effect (pointFrom (partOf ed t i)) .1)))
+      → onEdition k step ed t ≡ (pos 0 ∷ effect (pointFrom (partOf ed t i)) .0, withPart ed t i (pointNumbers (ed .records) (effect (pointFrom (partOf ed t i)) .1)))
   call-entered i f e few =
       whole ∙ ap (laidOver ed t) (lists-entered k m early rows effect (registerOf ed t) (pointFrom (partOf ed t i)) (f .find) e)
       ∙ ap (λ u. (pos 0 ∷ effect (pointFrom (partOf ed t i)) .0, u)) (sym (f .put (effect (pointFrom (partOf ed t i)) .1) few))

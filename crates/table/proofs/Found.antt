@@ -12,7 +12,7 @@ use lib.IntN.{ℤ}
 use borrow.Author.Tests.{eqb-true, eqb-false, eq-eqb, ne-eqb}
 use Rattle.numbers.specs.Search.{isSome}
 use Rattle.numbers.proofs.Search.{First, found as found-at, first-tells, first-fails}
-use Rattle.daybook.specs.Book.{Edition}
+use Rattle.daybook.specs.declared.Edition.{Edition}
 use Rattle.lists.specs.Lists.{Lists, Register}
 use Rattle.lists.specs.InnerSteps.{findLists, putLists, withLists}
 use Rattle.lists.specs.InnerWell.{Well, Points, point, WellFormed}

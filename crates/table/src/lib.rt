@@ -1,25 +1,51 @@
-// The whole register table of the standard edition: is it sound, where does a point stand, and what are its numbers?
+// The whole register table, of any edition that fits: is it sound, where does a point stand, and what are its numbers?
+use daybook::Edition;
 ghost use mathlib.Core.Path.{_≡_};
-ghost use Prim.Native.Nat.{_+_, _-_, _*_, _<_, _≤_};
+ghost use Prim.Native.Nat.{_<_, _≤_};
 ghost use lib.ListN.{length, getD, drop};
 ghost use lib.IntN.{pos};
 ghost use Rattle.numbers.specs.Rows.{all};
 ghost use Rattle.numbers.specs.Search.{maybe};
 ghost use Rattle.daybook.specs.Notices.{isRange};
-ghost use Rattle.daybook.specs.Book.{standard};
-ghost use Rattle.layout.specs.Layout.{placeOf, partOf, numAt, pointsFrom};
+ghost use Rattle.layout.specs.Layout.{stride as strideOf, placeOf, Fits, editionOf, partOf, numAt, pointsFrom};
 ghost use Rattle.layout.specs.Sound.{partSound, mirnsDiffer, sound as tableSound};
 ghost use Rattle.layout.specs.InnerMirns.{laterDiffer};
 ghost use Rattle.table.specs.InnerTable.{bodySound};
 ghost use Rattle.table.specs.Lookup.{indexOf, lookUp};
 
-// The numbers of point i.
-pub fn part(t: &[i64], i: usize) -> &[i64]
-    requires { ⌜ placeOf standard i + 240 ≤ length (now t) ⌝ }
-    ensures { λ r. ⌜ (now r ≡ partOf standard (now (t .entry)) i) × (length (now r) ≡ 240) ⌝ }
+// The edition of a table.
+pub fn edition(t: &[i64]) -> Edition
+    ensures { λ r. ⌜ (r ≡ editionOf (now (t .entry))) × Fits r ⌝ }
 {
-    let a = 8 + 240 * i;
-    let b = a + 240;
+    Edition {
+        points: 32,
+        records: 48,
+    }
+}
+
+// How many numbers a point has.
+fn stride(ed: Edition) -> usize
+    requires { ⌜ Fits ed ⌝ }
+    ensures { λ r. ⌜ (r ≡ strideOf ed) × (r ≤ 7680) ⌝ }
+{
+    48 + 4 * ed.records
+}
+
+// Where point i starts.
+pub fn place(ed: Edition, i: usize) -> usize
+    requires { ⌜ Fits ed × (i ≤ ed .points) ⌝ }
+    ensures { λ r. ⌜ (r ≡ placeOf ed i) × (r ≤ 7688) ⌝ }
+{
+    8 + stride(ed) * i
+}
+
+// The numbers of point i.
+pub fn part(t: &[i64], ed: Edition, i: usize) -> &[i64]
+    requires { ⌜ Fits ed × (i < ed .points) × (7688 ≤ length (now t)) ⌝ }
+    ensures { λ r. ⌜ now r ≡ partOf ed (now (t .entry)) i ⌝ }
+{
+    let a = place(ed, i);
+    let b = place(ed, i + 1);
     &t[a..b]
 }
 
@@ -31,16 +57,24 @@ fn range_ok(t: &[i64], i: usize) -> bool
     (999999 <= u) & (u <= 2000000)
 }
 
-// Is the MIRN of point i that of no later point, of n?
-fn later_differ(t: &[i64], i: usize, n: usize) -> bool
-    requires { ⌜ (i < n) × (n ≤ 32) × (7688 ≤ length (now t)) ⌝ }
-    ensures { λ r. ⌜ r ≡ laterDiffer standard (now (t .entry)) n i ⌝ }
+// The MIRN of point i.
+fn mirn(t: &[i64], ed: Edition, i: usize) -> u64
+    requires { ⌜ Fits ed × (i < ed .points) × (7688 ≤ length (now t)) ⌝ }
+    ensures { λ r. ⌜ r ≡ numAt (now (t .entry)) (placeOf ed i) ⌝ }
 {
-    let mirn = numbers::get(t, 8 + 240 * i);
+    numbers::get(t, place(ed, i))
+}
+
+// Is the MIRN of point i that of no later point, of n?
+fn later_differ(t: &[i64], ed: Edition, i: usize, n: usize) -> bool
+    requires { ⌜ Fits ed × (i < n) × (n ≤ ed .points) × (7688 ≤ length (now t)) ⌝ }
+    ensures { λ r. ⌜ r ≡ laterDiffer ed (now (t .entry)) n i ⌝ }
+{
+    let own = mirn(t, ed, i);
     let m = n - (i + 1);
     let mut j: usize = 0;
     while j < m {
-        if numbers::get(t, 8 + 240 * (i + 1 + j)) == mirn {
+        if mirn(t, ed, i + 1 + j) == own {
             return false;
         }
         j += 1;
@@ -48,13 +82,13 @@ fn later_differ(t: &[i64], i: usize, n: usize) -> bool
     true
 }
 
-fn mirns_differ(t: &[i64], n: usize) -> bool
-    requires { ⌜ (n ≤ 32) × (7688 ≤ length (now t)) ⌝ }
-    ensures { λ r. ⌜ r ≡ mirnsDiffer (pointsFrom standard n (drop 8 (now (t .entry)))) ⌝ }
+fn mirns_differ(t: &[i64], ed: Edition, n: usize) -> bool
+    requires { ⌜ Fits ed × (n ≤ ed .points) × (7688 ≤ length (now t)) ⌝ }
+    ensures { λ r. ⌜ r ≡ mirnsDiffer (pointsFrom ed n (drop 8 (now (t .entry)))) ⌝ }
 {
     let mut i: usize = 0;
     while i < n {
-        if !later_differ(t, i, n) {
+        if !later_differ(t, ed, i, n) {
             return false;
         }
         i += 1;
@@ -62,13 +96,13 @@ fn mirns_differ(t: &[i64], n: usize) -> bool
     true
 }
 
-fn parts_sound(t: &[i64], n: usize) -> bool
-    requires { ⌜ (n ≤ 32) × (7688 ≤ length (now t)) ⌝ }
-    ensures { λ r. ⌜ r ≡ all (λ i. partSound (partOf standard (now (t .entry)) i)) n ⌝ }
+fn parts_sound(t: &[i64], ed: Edition, n: usize) -> bool
+    requires { ⌜ Fits ed × (n ≤ ed .points) × (7688 ≤ length (now t)) ⌝ }
+    ensures { λ r. ⌜ r ≡ all (λ i. partSound (partOf ed (now (t .entry)) i)) n ⌝ }
 {
     let mut i: usize = 0;
     while i < n {
-        if !point::part_sound(part(t, i)) {
+        if !point::part_sound(part(t, ed, i)) {
             return false;
         }
         i += 1;
@@ -77,61 +111,62 @@ fn parts_sound(t: &[i64], n: usize) -> bool
 }
 
 // The tests of a table that is long enough and says that it has n points.
-fn body_sound(t: &[i64], n: usize) -> bool
-    requires { ⌜ (n ≤ 32) × (7688 ≤ length (now t)) × (n ≡ numAt (now t) 0) ⌝ }
-    ensures { λ r. ⌜ r ≡ bodySound (now (t .entry)) ⌝ }
+fn body_sound(t: &[i64], ed: Edition, n: usize) -> bool
+    requires { ⌜ Fits ed × (n ≤ ed .points) × (7688 ≤ length (now t)) × (n ≡ numAt (now t) 0) ⌝ }
+    ensures { λ r. ⌜ r ≡ bodySound ed (now (t .entry)) ⌝ }
 {
-    let end = 8 + 240 * n;
+    let end = place(ed, n);
     range_ok(t, 1)
         & range_ok(t, 2)
         & point::zeros_in(t, 3, 8)
-        & parts_sound(t, n)
-        & mirns_differ(t, n)
+        & parts_sound(t, ed, n)
+        & mirns_differ(t, ed, n)
         & point::zeros_in(t, end, 7688)
 }
 
-// Is this a sound register? Any numbers, any length.
-pub fn sound(t: &[i64]) -> bool
-    ensures { λ r. ⌜ r ≡ tableSound standard (now (t .entry)) ⌝ }
+// Is this a sound register of that edition? Any numbers, any length.
+pub fn sound(t: &[i64], ed: Edition) -> bool
+    requires { ⌜ Fits ed ⌝ }
+    ensures { λ r. ⌜ r ≡ tableSound ed (now (t .entry)) ⌝ }
 {
     if t.len() < 7688 {
         return false;
     }
     let n = numbers::get(t, 0);
-    if 32 < n {
+    if (ed.points as u64) < n {
         return false;
     }
-    body_sound(t, n as usize)
+    body_sound(t, ed, n as usize)
 }
 
-// The point of a MIRN, 32 if there is none.
-pub fn index_of(t: &[i64], mirn: u64) -> usize
-    requires { ⌜ (7688 ≤ length (now t)) × (numAt (now t) 0 ≤ 32) ⌝ }
-    ensures { λ r. ⌜ (r ≡ maybe 32 (λ i. i) (indexOf standard (now (t .entry)) mirn)) × (r ≤ 32) ⌝ }
+// The point of a MIRN, as many as the edition has points if there is none.
+pub fn index_of(t: &[i64], ed: Edition, m: u64) -> usize
+    requires { ⌜ Fits ed × (7688 ≤ length (now t)) × (numAt (now t) 0 ≤ ed .points) ⌝ }
+    ensures { λ r. ⌜ (r ≡ maybe (ed .points) (λ i. i) (indexOf ed (now (t .entry)) m)) × (r ≤ ed .points) ⌝ }
 {
     let used = numbers::get(t, 0) as usize;
     let mut i: usize = 0;
     while i < used {
-        if numbers::get(t, 8 + 240 * i) == mirn {
+        if mirn(t, ed, i) == m {
             return i;
         }
         i += 1;
     }
-    32
+    ed.points
 }
 
 // The point of a MIRN: its part of the lent table itself, an empty part if the table is short or unsound or has no
 // such point.
-pub fn look_up(t: &[i64], mirn: i64) -> &[i64]
-    ensures { λ r. ⌜ now r ≡ lookUp standard (now (t .entry)) mirn ⌝ }
+pub fn look_up(t: &[i64], m: i64) -> &[i64]
+    ensures { λ r. ⌜ now r ≡ lookUp (now (t .entry)) m ⌝ }
 {
-    if !sound(t) {
+    let ed = edition(t);
+    if !sound(t, ed) {
         return &t[0..0];
     }
-    let m = numbers::natural(mirn);
-    let i = index_of(t, m);
-    if i == 32 {
+    let i = index_of(t, ed, numbers::natural(m));
+    if i == ed.points {
         return &t[0..0];
     }
-    part(t, i)
+    part(t, ed, i)
 }

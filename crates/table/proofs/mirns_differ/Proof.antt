@@ -5,17 +5,16 @@ use borrow.Author.Needs.{needs}
 use borrow.Author.Tests.{not-true, not-false}
 use Rattle.numbers.specs.Rows.{all}
 use Rattle.numbers.proofs.Rows.{all-none, all-more, all-fails, all-done}
-use Rattle.daybook.specs.Book.{standard}
 use Rattle.layout.specs.InnerMirns.{laterDiffer}
 use Rattle.layout.proofs.Mirns.{differ-is}
 use Rattle.table.proofs.mirns_differ.Statement.{statement}
 use Rattle.table.proofs.mirns_differ.Tie as tie
 
 abbrev Inv-loop : tie.InvT-loop
-Inv-loop t n i₀ i = (i ≤ n) × (all (laterDiffer standard t n) i ≡ true)
+Inv-loop t ed n i₀ i = (i ≤ n) × (all (laterDiffer ed t n) i ≡ true)
 
 abbrev μ-loop : tie.MeasureT-loop
-μ-loop t n i₀ i = n - i
+μ-loop t ed n i₀ i = n - i
 
 -- src/lib.rt:69:5
 loop-holds : tie.Need-loop-holds Inv-loop μ-loop
@@ -26,7 +25,7 @@ returns : tie.Need-returns Inv-loop μ-loop
 returns c =
     let s = c .before .before .before .before in
     sym (all-fails _ (c .before .before .before .loop .i) _ (search needs) (sym (c .before .later-differ .ensures) ∙ not-true _ (c .if1 .taken)))
-    ∙ sym (differ-is standard (s .args .t .now) (s .args .n))
+    ∙ sym (differ-is (s .args .ed) (s .args .t .now) (s .args .n))
 
 -- src/lib.rt:69:5
 loop-again : tie.Need-loop-again Inv-loop μ-loop
@@ -37,7 +36,7 @@ loop-again c =
 returns-2 : tie.Need-returns-2 Inv-loop μ-loop
 returns-2 c =
     let s = c .before .before in
-    all-done _ _ _ (c .before .loop .inv .1) (search needs) ∙ sym (differ-is standard (s .args .t .now) (s .args .n))
+    all-done _ _ _ (c .before .loop .inv .1) (search needs) ∙ sym (differ-is (s .args .ed) (s .args .t .now) (s .args .n))
 
 pub mirns-differ-spec : {M : Type 1} → statement M
 mirns-differ-spec =

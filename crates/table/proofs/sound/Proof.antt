@@ -7,19 +7,26 @@ use Rattle.table.proofs.sound.Tie as tie
 
 -- src/lib.rt:111:9
 returns : tie.Need-returns
-returns c = short-unsound (c .before .args .t .now) (c .if1 .taken)
+returns c = short-unsound (c .before .args .ed) (c .before .args .t .now) (c .if1 .taken)
 
 -- src/lib.rt:115:9
 returns-2 : tie.Need-returns-2
 returns-2 c =
     let s = c .before .before .before in
-    many-unsound (s .args .t .now) (c .before .before .if1 .left) (omega (arith, c .before .get .ensures .0))
+    many-unsound (s .args .ed) (s .args .t .now) (c .before .before .if1 .left) (omega (arith, c .before .get .ensures .0))
 
 -- src/lib.rt:107:1
 returns-3 : tie.Need-returns-3
 returns-3 c =
     let s = c .before .before .before .before in
-    c .body-sound .ensures ∙ body-sound (s .args .t .now) (c .before .before .before .if1 .left) (omega (arith, c .before .before .get .ensures .0))
+    c .body-sound .ensures ∙ body-sound (s .args .ed) (s .args .t .now) (c .before .before .before .if1 .left) (omega (arith, c .before .before .get .ensures .0))
 
 pub sound-spec : {M : Type 1} → statement M
-sound-spec = tie.close (tie.spec returns (λ c κs. search needs) returns-2 (λ c κs. search needs) returns-3)
+sound-spec =
+    tie.close
+    (tie.spec
+    returns
+    (λ c κs. search needs)
+    returns-2
+    (λ c κs. search needs)
+    returns-3)
