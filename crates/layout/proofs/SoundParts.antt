@@ -43,7 +43,7 @@ module _ {p : List ℤ} (s : SoundPart p) where
   pub part-long : length p ≡ 48 + 4 * roomOf p
   part-long = omega (arith, s .long, s .inFours)
 
-  lays : Well (roomOf p) (pointFrom p) × (pointNumbers (roomOf p) (pointFrom p) ≡ p)
+  pub lays : Well (roomOf p) (pointFrom p) × (pointNumbers (roomOf p) (pointFrom p) ≡ p)
   lays = part-lays p (roomOf p) part-long (s .isSound)
 
   pub part-well : Well (roomOf p) (pointFrom p)

@@ -13,9 +13,9 @@ use Rattle.numbers.specs.Answers.{refused}
 use Rattle.numbers.proofs.Bools.{both}
 use Rattle.calendar.specs.Calendar.{isDay}
 use Rattle.calendar.proofs.Dates.{within-natural, day-natural, up-to-natural}
+use Rattle.daybook.specs.declared.Edition.{Edition}
 use Rattle.daybook.specs.declared.StatusNotice.{StatusNotice}
 use Rattle.daybook.specs.Notices.{least, Numbers, isMirn, isFlag, statusEarly, statusRows, status}
-use Rattle.daybook.specs.Book.{standard}
 use Rattle.lists.specs.Lists.{Lists}
 use Rattle.lists.specs.InnerSteps.{lastEnd, statusLists}
 use Rattle.lists.specs.InnerWell.{WellFormed}
@@ -23,12 +23,14 @@ use Rattle.lists.proofs.Rows.{above, least-first, least-skip}
 use Rattle.lists.proofs.Bounds.{within-bounds}
 use Rattle.lists.proofs.StatusStep.{status-clear, status-step, status-keeps}
 use Rattle.lists.proofs.Switch.{offs-after-few}
-use Rattle.layout.specs.Layout.{partOf, pointNumbers, pointFrom, registerOf}
+use Rattle.layout.specs.Layout.{Fits, editionOf, partOf, pointNumbers, pointFrom, registerOf}
 use Rattle.layout.specs.InnerWrites.{withPart}
 use Rattle.layout.specs.Sound.{sound}
+use Rattle.layout.specs.InnerParts.{roomOf}
+use Rattle.layout.specs.Calls.{onEdition}
 use Rattle.layout.proofs.Numbers.{few}
 use Rattle.layout.proofs.PartBlocks.{few-offs}
-use Rattle.layout.proofs.TableSound.{sound-lays, standard-fits}
+use Rattle.layout.proofs.TableSound.{sound-lays}
 use Rattle.table.specs.Lookup.{indexOf}
 use Rattle.table.specs.InnerTable.{onPart}
 use Rattle.table.proofs.Calls.{call-unsound, gives}
@@ -67,7 +69,7 @@ statusPart day on p = onPart 0 (statusRowsOf day on) (effectOf day on) p
 
 -- the row that the code finds, and what it leaves of the part
 pub part-done : (day on : ℕ) (p : List ℤ) (r : ℕ) {u : List ℤ} {b : Bool} → r ≡ least (statusRowsOf day on (pointFrom p))
-    → u ≡ cond (eqb r 0) (pointNumbers 48 (switchedLists day on (pointFrom p))) p → b ≡ refused (pos r ∷ [])
+    → u ≡ cond (eqb r 0) (pointNumbers (roomOf p) (switchedLists day on (pointFrom p))) p → b ≡ refused (pos r ∷ [])
     → (pos r ∷ [] ≡ statusPart day on p .0) × (u ≡ statusPart day on p .1) × (b ≡ refused (pos r ∷ []))
 unfolding statusPart
 part-done day on p zero e f h =
@@ -78,10 +80,13 @@ part-done day on p (suc r) e f h =
 
 -- ---- the call
 
-module _ (t : List ℤ) (n : StatusNotice) where
-  pub status-unsound : sound standard t ≡ false → statusCall t n ≡ (pos 1 ∷ [], t)
+module _ (ed : Edition) (fits : Fits ed) (t : List ℤ) (g : ed ≡ editionOf t) (n : StatusNotice) where
+  here : statusCall t n ≡ onEdition 0 (status n) ed t
   unfolding statusCall
-  status-unsound e = call-unsound 0 (status n) standard t e
+  here = ap (λ ed. onEdition 0 (status n) ed t) (sym g)
+
+  pub status-unsound : sound ed t ≡ false → statusCall t n ≡ (pos 1 ∷ [], t)
+  status-unsound e = here ∙ call-unsound 0 (status n) ed t e
 
   abbrev day : ℕ
   day = natOf (n .day)
@@ -89,34 +94,33 @@ module _ (t : List ℤ) (n : StatusNotice) where
   abbrev on : ℕ
   on = natOf (n .on)
 
-  module _ (s : sound standard t ≡ true) where
-    call : CallOn (registerOf standard t) 0 (n .mirn) (statusEarly n) (statusRowsOf day on) (effectOf day on) (status n)
+  module _ (s : sound ed t ≡ true) where
+    call : CallOn ed (registerOf ed t) 0 (n .mirn) (statusEarly n) (statusRowsOf day on) (effectOf day on) (status n)
     unfolding statusLists statusEarly above
     call =
-        let ok : WellFormed standard (registerOf standard t) = sound-lays standard standard-fits t s .0 in
+        let ok : WellFormed ed (registerOf ed t) = sound-lays ed fits t s .0 in
         record {
           numbered = refl;
-          is = status-step n (registerOf standard t) ok;
+          is = status-step n (registerOf ed t) ok;
           keeps = status-keeps n ok;
           room = λ q w e. few-offs (few w) _ (offs-after-few day on 8 (q .offs) (w .offsFew) (status-clear n (q .facts .install) (lastEnd (q .recs)) (q .offs) e .room));
         }
 
     pub status-range : inRange n ≡ false → statusCall t n ≡ (pos 2 ∷ [], t)
-    unfolding statusCall statusEarly statusRows above
-    status-range e = on-early t s call 1 (omega arith) (least-first 2 _ [] refl (ap not e)) (λ q. refl)
+    unfolding statusEarly statusRows above
+    status-range e = here ∙ on-early ed fits t s call 1 (omega arith) (least-first 2 _ [] refl (ap not e)) (λ q. refl)
 
-    module _ (r : inRange n ≡ true) (i : ℕ) (e : i ≡ maybe 32 (λ k. k) (indexOf standard t (natOf (n .mirn)))) where
+    module _ (r : inRange n ≡ true) (i : ℕ) (e : i ≡ maybe (ed .points) (λ k. k) (indexOf ed t (natOf (n .mirn)))) where
       passed : least (statusEarly n) ≡ 0
       unfolding statusEarly least
       passed = least-skip 2 _ [] (ap not r)
 
-      pub status-missing : i ≡ 32 → statusCall t n ≡ (pos 4 ∷ [], t)
-      unfolding statusCall
-      status-missing = on-missing t s call passed i e
+      pub status-missing : i ≡ ed .points → statusCall t n ≡ (pos 4 ∷ [], t)
+      status-missing z = here ∙ on-missing ed fits t s call passed i e z
 
-      pub status-point : (d o : ℕ) → d ≡ day → o ≡ on → (i ≡ 32 → ⊥) → statusCall t n
-          ≡ (statusPart d o (partOf standard t i) .0, withPart standard t i (statusPart d o (partOf standard t i) .1))
-      unfolding statusCall statusPart
-      status-point d o ed eo z =
-          on-point t s call passed i e z
-          ∙ ap₂ (λ d o. (statusPart d o (partOf standard t i) .0, withPart standard t i (statusPart d o (partOf standard t i) .1))) (sym ed) (sym eo)
+      pub status-point : (d o : ℕ) → d ≡ day → o ≡ on → (i ≡ ed .points → ⊥) → statusCall t n
+          ≡ (statusPart d o (partOf ed t i) .0, withPart ed t i (statusPart d o (partOf ed t i) .1))
+      unfolding statusPart
+      status-point d o ed′ eo z =
+          here ∙ on-point ed fits t s call passed i e z
+          ∙ ap₂ (λ d o. (statusPart d o (partOf ed t i) .0, withPart ed t i (statusPart d o (partOf ed t i) .1))) (sym ed′) (sym eo)

@@ -117,14 +117,6 @@ module _ {room : ℕ} {q : Lists} (w : Well room q) {p : List ℤ} (e : pointNum
       ∙ close-span room q (few w) (take (n - 1) (q .offs)) (x .0) (x .1) day (split-last noOff (q .offs) (n - 1) m)
       ∙ rw (ne-eqb on 0 (λ (z : on ≡ 0). omega arith)) (ap (λ l. pointNumbers room (withOffs l q)) (sym (closed-last day (q .offs) (n - 1) m)))
 
-  -- ---- the counts
-
-  pub spans-few : numAt p 5 ≤ 8
-  spans-few = omega (arith, place-offs w e, w .offsFew)
-
-  pub recs-few : numAt p 6 ≤ room
-  recs-few = omega (arith, place-recs w e, w .recsFew)
-
 -- ---- the rows
 
 module _ (day on : ℕ) (q : Lists) (b : Bool) (fourteen : b ≡ cannotSwitch day on q) where

@@ -3,8 +3,7 @@ use mathlib.Core.List.{List}
 use lib.IntN.{ℤ}
 use Rattle.daybook.specs.declared.StatusNotice.{StatusNotice}
 use Rattle.daybook.specs.Notices.{Numbers, status}
-use Rattle.daybook.specs.Book.{standard}
 use Rattle.layout.specs.Calls.{onTable}
 
 unfoldable pub statusCall : List ℤ → StatusNotice → Numbers × List ℤ
-statusCall t n = onTable 0 (status n) standard t
+statusCall t n = onTable 0 (λ ed. status n) t

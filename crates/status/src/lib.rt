@@ -3,17 +3,16 @@
 use daybook::NoticeAnswer;
 use daybook::StatusNotice;
 ghost use mathlib.Core.Path.{_≡_};
-ghost use mathlib.Core.Bool.{true, _&&_, cond};
+ghost use mathlib.Core.Bool.{_&&_, cond};
 ghost use Prim.Native.Nat.{_≤_};
 ghost use lib.Dec.{eqb};
-ghost use lib.ListN.{length};
 ghost use Rattle.numbers.specs.Answers.{refused};
 ghost use Rattle.calendar.specs.Calendar.{isDay};
 ghost use Rattle.daybook.specs.Book.{lastOf};
 ghost use Rattle.daybook.specs.Notices.{least, isMirn, isFlag, cannotOff, cannotOn};
 ghost use Rattle.daybook.specs.Calls.{noticeNumbers, noticeRefused};
 ghost use Rattle.layout.specs.Layout.{pointNumbers, pointFrom};
-ghost use Rattle.layout.specs.Sound.{partSound};
+ghost use Rattle.layout.specs.InnerParts.{roomOf, SoundPart};
 ghost use Rattle.status.specs.InnerParts.{filledFrom, cannotSwitch, statusRowsOf, switchedLists};
 ghost use Rattle.status.specs.Status.{statusCall};
 
@@ -30,7 +29,7 @@ fn in_range(n: StatusNotice) -> bool
 
 // By the last span: off while off, or at or before the last on day.
 fn cannot_off(p: &[i64], day: u64) -> bool
-    requires { ⌜ (partSound (now p) ≡ true) × (length (now p) ≡ 240) × (day ≤ 39999) ⌝ }
+    requires { ⌜ SoundPart (now p) × (day ≤ 39999) ⌝ }
     ensures { λ r. ⌜ r ≡ cannotOff day (lastOf (pointFrom (now (p .entry)) .offs)) ⌝ }
 {
     let n = numbers::get(p, 5) as usize;
@@ -42,7 +41,7 @@ fn cannot_off(p: &[i64], day: u64) -> bool
 
 // By the last span: on while on, or not after the off day. An on day that is not there yet reads as 40,001.
 fn cannot_on(p: &[i64], day: u64) -> bool
-    requires { ⌜ (partSound (now p) ≡ true) × (length (now p) ≡ 240) ⌝ }
+    requires { ⌜ SoundPart (now p) ⌝ }
     ensures { λ r. ⌜ r ≡ cannotOn day (lastOf (pointFrom (now (p .entry)) .offs)) ⌝ }
 {
     let n = numbers::get(p, 5) as usize;
@@ -55,7 +54,7 @@ fn cannot_on(p: &[i64], day: u64) -> bool
 
 // Is this day or a later one filled?
 fn filled_from(p: &[i64], day: u64) -> bool
-    requires { ⌜ (partSound (now p) ≡ true) × (length (now p) ≡ 240) ⌝ }
+    requires { ⌜ SoundPart (now p) ⌝ }
     ensures { λ r. ⌜ r ≡ filledFrom day (pointFrom (now (p .entry))) ⌝ }
 {
     let n = numbers::get(p, 6) as usize;
@@ -67,7 +66,7 @@ fn filled_from(p: &[i64], day: u64) -> bool
 
 // Row 14.
 fn cannot_switch(p: &[i64], day: u64, on: u64) -> bool
-    requires { ⌜ (partSound (now p) ≡ true) × (length (now p) ≡ 240) × (day ≤ 39999) ⌝ }
+    requires { ⌜ SoundPart (now p) × (day ≤ 39999) ⌝ }
     ensures { λ r. ⌜ r ≡ cannotSwitch day on (pointFrom (now (p .entry))) ⌝ }
 {
     if on == 1 {
@@ -78,7 +77,7 @@ fn cannot_switch(p: &[i64], day: u64, on: u64) -> bool
 
 // The row that sends the notice back, 0 if none does.
 fn refusal(p: &[i64], day: u64, on: u64) -> u64
-    requires { ⌜ (partSound (now p) ≡ true) × (length (now p) ≡ 240) × (day ≤ 39999) ⌝ }
+    requires { ⌜ SoundPart (now p) × (day ≤ 39999) ⌝ }
     ensures { λ r. ⌜ r ≡ least (statusRowsOf day on (pointFrom (now (p .entry)))) ⌝ }
 {
     if cannot_switch(p, day, on) {
@@ -92,8 +91,8 @@ fn refusal(p: &[i64], day: u64, on: u64) -> u64
 
 // One more span, or the on day of the last.
 fn switch(p: &mut [i64], day: u64, on: u64)
-    requires { ⌜ (partSound (now p) ≡ true) × (length (now p) ≡ 240) × (day ≤ 39999) × (on ≤ 1) × (least (statusRowsOf day on (pointFrom (now p))) ≡ 0) ⌝ }
-    ensures { λ _. ⌜ now (p .exit) ≡ pointNumbers 48 (switchedLists day on (pointFrom (now (p .entry)))) ⌝ }
+    requires { ⌜ SoundPart (now p) × (day ≤ 39999) × (on ≤ 1) × (least (statusRowsOf day on (pointFrom (now p))) ≡ 0) ⌝ }
+    ensures { λ _. ⌜ now (p .exit) ≡ pointNumbers (roomOf (now (p .entry))) (switchedLists day on (pointFrom (now (p .entry)))) ⌝ }
 {
     let n = numbers::get(p, 5) as usize;
     if on == 0 {
@@ -105,8 +104,8 @@ fn switch(p: &mut [i64], day: u64, on: u64)
 
 // A notice on its point's part, which a refusal leaves as found.
 fn enter(p: &mut [i64], day: u64, on: u64) -> u64
-    requires { ⌜ (partSound (now p) ≡ true) × (length (now p) ≡ 240) × (day ≤ 39999) × (on ≤ 1) ⌝ }
-    ensures { λ r. ⌜ (r ≡ least (statusRowsOf day on (pointFrom (now (p .entry))))) × (now (p .exit) ≡ cond (eqb r 0) (pointNumbers 48 (switchedLists day on (pointFrom (now (p .entry))))) (now (p .entry))) ⌝ }
+    requires { ⌜ SoundPart (now p) × (day ≤ 39999) × (on ≤ 1) ⌝ }
+    ensures { λ r. ⌜ (r ≡ least (statusRowsOf day on (pointFrom (now (p .entry))))) × (now (p .exit) ≡ cond (eqb r 0) (pointNumbers (roomOf (now (p .entry))) (switchedLists day on (pointFrom (now (p .entry))))) (now (p .entry))) ⌝ }
 {
     let row = refusal(p, day, on);
     if row == 0 {
@@ -119,7 +118,8 @@ fn enter(p: &mut [i64], day: u64, on: u64) -> u64
 pub fn status(t: &mut [i64], n: StatusNotice) -> NoticeAnswer
     ensures { λ r. ⌜ (noticeNumbers r ≡ statusCall (now (t .entry)) n .0) × (now (t .exit) ≡ statusCall (now (t .entry)) n .1) × (noticeRefused r ≡ refused (noticeNumbers r)) ⌝ }
 {
-    if !table::sound(t) {
+    let ed = table::edition(t);
+    if !table::sound(t, ed) {
         return NoticeAnswer::Refused(1);
     }
     if !in_range(n) {
@@ -128,12 +128,12 @@ pub fn status(t: &mut [i64], n: StatusNotice) -> NoticeAnswer
     let mirn = n.mirn;
     let day = n.day;
     let on = n.on;
-    let i = table::index_of(t, numbers::natural(mirn));
-    if i == 32 {
+    let i = table::index_of(t, ed, numbers::natural(mirn));
+    if i == ed.points {
         return NoticeAnswer::Refused(4);
     }
-    let a = 8 + 240 * i;
-    let b = a + 240;
+    let a = table::place(ed, i);
+    let b = table::place(ed, i + 1);
     let refused = enter(&mut t[a..b], numbers::natural(day), numbers::natural(on));
     if refused == 0 {
         return NoticeAnswer::Entered;

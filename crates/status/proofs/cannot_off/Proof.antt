@@ -1,5 +1,5 @@
-use Rattle.layout.proofs.PartLays.{part-lays}
-use Rattle.status.proofs.Part.{off-unswitched, off-switched, spans-few}
+use Rattle.layout.proofs.SoundParts.{lays}
+use Rattle.status.proofs.Part.{off-unswitched, off-switched}
 use borrow.Author.Needs.{needs}
 use Rattle.status.proofs.cannot_off.Statement.{statement}
 use Rattle.status.proofs.cannot_off.Tie as tie
@@ -7,35 +7,14 @@ use Rattle.status.proofs.cannot_off.Tie as tie
 returns : tie.Need-returns
 returns c =
     let s = c .before .before in
-    let l = part-lays (s .args .p .now) 48 (s .pre .1) (s .pre .0) in
+    let l = lays (s .pre .0) in
     off-unswitched (l .0) (l .1) (s .args .day) _ (c .before .get .ensures .0) (c .if1 .taken)
-
-add-get-until : tie.Need-add-get-until
-add-get-until c =
-    let s = c .before .before in
-    let l = part-lays (s .args .p .now) 48 (s .pre .1) (s .pre .0) in
-    let h = spans-few (l .0) (l .1) in
-    search needs
-
-add-get-until-2 : tie.Need-add-get-until-2
-add-get-until-2 c =
-    let s = c .before .before in
-    let l = part-lays (s .args .p .now) 48 (s .pre .1) (s .pre .0) in
-    let h = spans-few (l .0) (l .1) in
-    search needs
-
-get-until-requires : tie.Need-get-until-requires
-get-until-requires c κs =
-    let s = c .before .before in
-    let l = part-lays (s .args .p .now) 48 (s .pre .1) (s .pre .0) in
-    let h = spans-few (l .0) (l .1) in
-    search needs
 
 returns-2 : tie.Need-returns-2
 returns-2 c =
     let s = c .before .before .before in
-    let l = part-lays (s .args .p .now) 48 (s .pre .1) (s .pre .0) in
-    off-switched (l .0) (l .1) (s .args .day) _ (c .before .before .get .ensures .0) (c .before .if1 .left) _ (c .get-until .ensures .0) (s .pre .2)
+    let l = lays (s .pre .0) in
+    off-switched (l .0) (l .1) (s .args .day) _ (c .before .before .get .ensures .0) (c .before .if1 .left) _ (c .get-until .ensures .0) (s .pre .1)
 
 pub cannot-off-spec : {M : Type 1} → statement M
 cannot-off-spec =
@@ -43,8 +22,5 @@ cannot-off-spec =
     (tie.spec
     (λ c κs. search needs)
     returns
-    (λ c. search needs) (λ c. search needs)
-    add-get-until
-    add-get-until-2
-    get-until-requires
+    (λ c. search needs) (λ c. search needs) (λ c. search needs) (λ c. search needs) (λ c κs. search needs)
     returns-2)

@@ -1,7 +1,7 @@
 use mathlib.Core.Path.{_∙_}
 use borrow.Author.Tests.{eq-eqb, ne-eqb}
 use Rattle.layout.proofs.Cells.{place-install}
-use Rattle.layout.proofs.PartLays.{part-lays}
+use Rattle.layout.proofs.SoundParts.{lays}
 use borrow.Author.Needs.{needs}
 use Rattle.status.proofs.cannot_switch.Statement.{statement}
 use Rattle.status.proofs.cannot_switch.Tie as tie
@@ -12,7 +12,7 @@ returns c = rw (eq-eqb _ 1 (c .before .if1 .taken)) (c .cannot-on .ensures)
 returns-2 : tie.Need-returns-2
 returns-2 c =
     let s = c .before .before .before .before in
-    let l = part-lays (s .args .p .now) 48 (s .pre .1) (s .pre .0) in
+    let l = lays (s .pre .0) in
     rw (ne-eqb _ 1 (c .before .before .before .if1 .left), c .before .before .cannot-off .ensures, c .before .filled-from .ensures, c .get .ensures .0 ∙ place-install (l .0) (l .1))
 
 pub cannot-switch-spec : {M : Type 1} → statement M

@@ -3,7 +3,7 @@ use mathlib.Core.Bool.{_&&_}
 use lib.Dec.{leb, eqb}
 use Rattle.layout.specs.Layout.{pointFrom}
 use Rattle.layout.proofs.Cells.{place-offs}
-use Rattle.layout.proofs.PartLays.{part-lays}
+use Rattle.layout.proofs.SoundParts.{lays}
 use Rattle.status.proofs.Part.{row-fourteen, row-sixteen, row-none}
 use borrow.Author.Needs.{needs}
 use Rattle.status.proofs.refusal.Statement.{statement}
@@ -17,13 +17,13 @@ returns c =
 returns-2 : tie.Need-returns-2
 returns-2 c =
     let s = c .before .before .before .before in
-    let l = part-lays (s .args .p .now) 48 (s .pre .1) (s .pre .0) in
+    let l = lays (s .pre .0) in
     row-sixteen _ _ (pointFrom (s .args .p .now)) _ (c .before .before .before .cannot-switch .ensures) (c .before .before .if1 .left) (ap (λ n. eqb (s .args .on) 0 && leb 8 n) (sym (c .before .get .ensures .0 ∙ place-offs (l .0) (l .1))) ∙ c .if2 .taken)
 
 returns-3 : tie.Need-returns-3
 returns-3 c =
     let s = c .before .before .before .before in
-    let l = part-lays (s .args .p .now) 48 (s .pre .1) (s .pre .0) in
+    let l = lays (s .pre .0) in
     row-none _ _ (pointFrom (s .args .p .now)) _ (c .before .before .before .cannot-switch .ensures) (c .before .before .if1 .left) (ap (λ n. eqb (s .args .on) 0 && leb 8 n) (sym (c .before .get .ensures .0 ∙ place-offs (l .0) (l .1))) ∙ c .if2 .left)
 
 pub refusal-spec : {M : Type 1} → statement M
