@@ -15,14 +15,13 @@ use Rattle.daybook.specs.Notices.{least, requestRows, withdrawRows}
 use Rattle.lists.specs.Lists.{Lists}
 use Rattle.lists.specs.InnerSteps.{latestOf, withPendingLists}
 use Rattle.lists.specs.InnerWell.{Well}
-use Rattle.lists.proofs.Registrations.{some-reg}
 use Rattle.lists.proofs.Rows.{above, least-first, least-skip}
 use Rattle.layout.specs.Layout.{numAt, pendingFrom, pointFrom, pointNumbers}
-use Rattle.layout.specs.Sound.{partSound}
+use Rattle.layout.specs.InnerParts.{roomOf, SoundPart}
 use Rattle.layout.specs.InnerWrites.{setPending, clearPending}
 use Rattle.layout.proofs.PartBlocks.{few-pending}
 use Rattle.layout.proofs.Numbers.{Few, few}
-use Rattle.layout.proofs.PartLays.{part-lays}
+use Rattle.layout.proofs.SoundParts.{part-well, part-laid}
 use Rattle.layout.proofs.RowWrites.{set-pending, clear-pending}
 use Rattle.point.specs.InnerTests.{regRow}
 use Rattle.point.proofs.Rows.{regs-read, length-rows}
@@ -31,7 +30,7 @@ use Rattle.table.proofs.OnPart.{part-entered, part-refused}
 use Rattle.transfer.specs.InnerParts.{requestRowsOf, requestEffect, requestPart, withdrawRowsOf, withdrawEffect, withdrawPart}
 
 -- another pending request fits the part
-pub pending-room : (o : Option Pending) (q : Lists) → Well 48 q → Few 48 (withPendingLists o q)
+pub pending-room : {room : ℕ} (o : Option Pending) (q : Lists) → Well room q → Few room (withPendingLists o q)
 pending-room o q w = few-pending (few w) o
 
 -- ---- withdraw
@@ -48,13 +47,12 @@ module _ (p : List ℤ) (user : ℕ) (low : 1 ≤ user) where
       part-refused 0 (withdrawRowsOf user) withdrawEffect p 10
       (least-first 11 _ [] refl (ap not (own (numAt p 7) (numAt p 8) (numAt p 9) user low ∙ ne-eqb (numAt p 7) user n)))
 
-  pub withdraw-own : partSound p ≡ true → length p ≡ 240 → numAt p 7 ≡ user → withdrawPart user p ≡ (pos 0 ∷ [], clearPending p)
+  pub withdraw-own : SoundPart p → numAt p 7 ≡ user → withdrawPart user p ≡ (pos 0 ∷ [], clearPending p)
   unfolding withdrawPart withdrawRows pointFrom least
-  withdraw-own s len e =
-      let l : Well 48 (pointFrom p) × (pointNumbers 48 (pointFrom p) ≡ p) = part-lays p 48 len s in
+  withdraw-own s e =
       part-entered 0 (withdrawRowsOf user) withdrawEffect p
       (least-skip 11 _ [] (ap not (own (numAt p 7) (numAt p 8) (numAt p 9) user low ∙ eq-eqb (numAt p 7) user e)))
-      ∙ ap (λ u. (pos 0 ∷ [], u)) (sym (ap clearPending (sym (l .1)) ∙ clear-pending 48 (pointFrom p) (few (l .0))))
+      ∙ ap (λ u. (pos 0 ∷ [], u)) (sym (ap clearPending (sym (part-laid s)) ∙ clear-pending (roomOf p) (pointFrom p) (few (part-well s))))
 
 -- ---- request: the places that it reads
 
@@ -70,18 +68,13 @@ count-is : (p : List ℤ) → length (pointFrom p .regs) ≡ numAt p 4
 unfolding pointFrom
 count-is p = ap length (regs-read p (numAt p 4) 0) ∙ length-rows (regRow p) 0 (numAt p 4)
 
-pub registrations-count : (p : List ℤ) → partSound p ≡ true → length p ≡ 240 → (1 ≤ numAt p 4) × (numAt p 4 ≤ 8)
-registrations-count p s len =
-    let w : Well 48 (pointFrom p) = part-lays p 48 len s .0 in
-    (omega (arith, count-is p, some-reg (w .regsStart)), omega (arith, count-is p, w .regsFew))
-
 latest-is : (p : List ℤ) → 1 ≤ numAt p 4 → latestOf (pointFrom p .regs) .1 ≡ numAt p (15 + 2 * numAt p 4)
 unfolding pointFrom
 latest-is p h = ap (λ l. latestOf l .1) (regs-read p (numAt p 4) 0) ∙ latest-user p (numAt p 4) h
 
 -- ---- request: its rows in order, each after those before it
 
-module _ (p : List ℤ) (s : partSound p ≡ true) (len : length p ≡ 240) (user : ℕ) (period : Option (ℕ × ℕ)) where
+module _ {p : List ℤ} (s : SoundPart p) (user : ℕ) (period : Option (ℕ × ℕ)) where
   abbrev regs : List (ℕ × ℕ)
   regs = pointFrom p .regs
 
@@ -99,7 +92,7 @@ module _ (p : List ℤ) (s : partSound p ≡ true) (len : length p ≡ 240) (use
     past-10 = least-skip 10 _ _ (waiting-is p ∙ ap not (eq-eqb (numAt p 7) 0 idle))
 
     latest : latestOf regs .1 ≡ numAt p (15 + 2 * numAt p 4)
-    latest = latest-is p (registrations-count p s len .0)
+    latest = latest-is p (s .someRegs)
 
     pub request-same : numAt p (15 + 2 * numAt p 4) ≡ user → requestPart user period p ≡ (pos 12 ∷ pos 0 ∷ pos 0 ∷ [], p)
     unfolding above
@@ -124,9 +117,8 @@ module _ (p : List ℤ) (s : partSound p ≡ true) (len : length p ≡ 240) (use
         pub request-entered : numAt p 4 < 8 → requestPart user period p ≡ (pos 0 ∷ pos first ∷ pos last ∷ [], setPending p user first last)
         unfolding requestPart least
         request-entered h =
-            let l : Well 48 (pointFrom p) × (pointNumbers 48 (pointFrom p) ≡ p) = part-lays p 48 len s in
             part-entered 2 (requestRowsOf user period) (requestEffect user period) p
             (past-13 ∙ least-skip 16 _ [] (lt-leb 8 (length regs) (omega (arith, count-is p))))
-            ∙ ap (λ (o : Option (ℕ × ℕ)). (pos 0 ∷ requestEffect user o (pointFrom p) .0, pointNumbers 48 (requestEffect user o (pointFrom p) .1))) known
+            ∙ ap (λ (o : Option (ℕ × ℕ)). (pos 0 ∷ requestEffect user o (pointFrom p) .0, pointNumbers (roomOf p) (requestEffect user o (pointFrom p) .1))) known
             ∙ ap (λ u. (pos 0 ∷ pos first ∷ pos last ∷ [], u))
-            (sym (ap (λ u. setPending u user first last) (sym (l .1)) ∙ set-pending 48 (pointFrom p) (few (l .0)) (record { user = user; first = first; last = last })))
+            (sym (ap (λ u. setPending u user first last) (sym (part-laid s)) ∙ set-pending (roomOf p) (pointFrom p) (few (part-well s)) (record { user = user; first = first; last = last })))

@@ -1,5 +1,5 @@
 -- The withdraw call, test by test. Assumes nothing.
-use mathlib.Core.Path.{_≡_, refl, ap}
+use mathlib.Core.Path.{_≡_, refl, sym, _∙_, ap}
 use mathlib.Core.Bool.{Bool, true, false, not, _&&_}
 use mathlib.Core.Option.{none}
 use mathlib.Core.List.{List, [], _∷_}
@@ -11,16 +11,17 @@ use Rattle.numbers.specs.Naturals.{natOf}
 use Rattle.numbers.specs.Search.{maybe}
 use Rattle.numbers.proofs.Bools.{both}
 use Rattle.calendar.proofs.Dates.{within-natural}
+use Rattle.daybook.specs.declared.Edition.{Edition}
 use Rattle.daybook.specs.declared.Withdrawal.{Withdrawal}
 use Rattle.daybook.specs.Notices.{isMirn, isUser, least, withdrawEarly, withdrawRows, withdraw}
-use Rattle.daybook.specs.Book.{standard}
 use Rattle.lists.specs.InnerSteps.{withdrawLists}
 use Rattle.lists.proofs.Rows.{above, least-first, least-skip}
 use Rattle.lists.proofs.Bounds.{within-bounds}
 use Rattle.lists.proofs.TransferStep.{withdraw-step, withdraw-keeps}
-use Rattle.layout.specs.Layout.{partOf}
+use Rattle.layout.specs.Layout.{Fits, editionOf, partOf}
 use Rattle.layout.specs.InnerWrites.{withPart}
 use Rattle.layout.specs.Sound.{sound}
+use Rattle.layout.specs.Calls.{onEdition}
 use Rattle.table.specs.Lookup.{indexOf}
 use Rattle.table.proofs.Calls.{call-unsound}
 use Rattle.table.proofs.OnPart.{PointCall, call-early, call-missing, call-at}
@@ -44,30 +45,32 @@ withdrawal-user n r = within-bounds 1 16 (n .user) (both (isMirn (n .mirn)) (isU
 
 -- ---- the call
 
-on-point : (n : Withdrawal) → PointCall 0 (n .mirn) (withdrawEarly n) (withdrawRowsOf (natOf (n .user))) withdrawEffect (withdraw n)
+on-point : (ed : Edition) (n : Withdrawal) → PointCall ed 0 (n .mirn) (withdrawEarly n) (withdrawRowsOf (natOf (n .user))) withdrawEffect (withdraw n)
 unfolding withdrawLists withdrawEarly above
-on-point n = record { numbered = refl; is = withdraw-step n; keeps = λ R ok. withdraw-keeps n ok; room = pending-room none }
+on-point ed n = record { numbered = refl; is = withdraw-step n; keeps = λ R ok. withdraw-keeps n ok; room = pending-room none }
 
-module _ (t : List ℤ) (n : Withdrawal) where
-  pub withdraw-unsound : sound standard t ≡ false → withdrawCall t n ≡ (pos 1 ∷ [], t)
+module _ (ed : Edition) (fits : Fits ed) (t : List ℤ) (g : ed ≡ editionOf t) (n : Withdrawal) where
+  here : withdrawCall t n ≡ onEdition 0 (withdraw n) ed t
   unfolding withdrawCall
-  withdraw-unsound e = call-unsound 0 (withdraw n) standard t e
+  here = ap (λ ed. onEdition 0 (withdraw n) ed t) (sym g)
 
-  module _ (s : sound standard t ≡ true) where
+  pub withdraw-unsound : sound ed t ≡ false → withdrawCall t n ≡ (pos 1 ∷ [], t)
+  withdraw-unsound e = here ∙ call-unsound 0 (withdraw n) ed t e
+
+  module _ (s : sound ed t ≡ true) where
     pub withdraw-range : inRange n ≡ false → withdrawCall t n ≡ (pos 2 ∷ [], t)
-    unfolding withdrawCall withdrawEarly withdrawRows above
-    withdraw-range e = call-early (on-point n) t s 1 (omega arith) (least-first 2 _ [] refl (ap not e)) (λ q. refl)
+    unfolding withdrawEarly withdrawRows above
+    withdraw-range e = here ∙ call-early ed fits (on-point ed n) t s 1 (omega arith) (least-first 2 _ [] refl (ap not e)) (λ q. refl)
 
-    module _ (r : inRange n ≡ true) (i : ℕ) (e : i ≡ maybe 32 (λ k. k) (indexOf standard t (natOf (n .mirn)))) where
+    module _ (r : inRange n ≡ true) (i : ℕ) (e : i ≡ maybe (ed .points) (λ k. k) (indexOf ed t (natOf (n .mirn)))) where
       passed : least (withdrawEarly n) ≡ 0
       unfolding withdrawEarly least
       passed = least-skip 2 _ [] (ap not r)
 
-      pub withdraw-missing : i ≡ 32 → withdrawCall t n ≡ (pos 4 ∷ [], t)
-      unfolding withdrawCall
-      withdraw-missing = call-missing (on-point n) t s passed i e
+      pub withdraw-missing : i ≡ ed .points → withdrawCall t n ≡ (pos 4 ∷ [], t)
+      withdraw-missing z = here ∙ call-missing ed fits (on-point ed n) t s passed i e z
 
-      pub withdraw-point : (i ≡ 32 → ⊥) → withdrawCall t n
-          ≡ (withdrawPart (natOf (n .user)) (partOf standard t i) .0, withPart standard t i (withdrawPart (natOf (n .user)) (partOf standard t i) .1))
-      unfolding withdrawCall withdrawPart
-      withdraw-point = call-at (on-point n) t s passed i e
+      pub withdraw-point : (i ≡ ed .points → ⊥) → withdrawCall t n
+          ≡ (withdrawPart (natOf (n .user)) (partOf ed t i) .0, withPart ed t i (withdrawPart (natOf (n .user)) (partOf ed t i) .1))
+      unfolding withdrawPart
+      withdraw-point z = here ∙ call-at ed fits (on-point ed n) t s passed i e z

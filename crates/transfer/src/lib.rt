@@ -7,14 +7,13 @@ use daybook::RequestAnswer;
 use daybook::TransferRequest;
 use daybook::Withdrawal;
 ghost use mathlib.Core.Path.{_≡_};
-ghost use mathlib.Core.Bool.{true, _&&_};
+ghost use mathlib.Core.Bool.{_&&_};
 ghost use Prim.Native.Nat.{_≤_};
-ghost use lib.ListN.{length};
 ghost use Rattle.numbers.specs.Answers.{refused};
 ghost use Rattle.calendar.specs.Calendar.{isDay, allowablePeriod};
 ghost use Rattle.daybook.specs.Notices.{isMirn, isUser, isFlag};
 ghost use Rattle.daybook.specs.Calls.{noticeNumbers, noticeRefused, requestNumbers, requestRefused};
-ghost use Rattle.layout.specs.Sound.{partSound};
+ghost use Rattle.layout.specs.InnerParts.{SoundPart};
 ghost use Rattle.transfer.specs.Transfer.{requestCall, withdrawCall};
 ghost use Rattle.transfer.specs.InnerParts.{requestPart, withdrawPart};
 
@@ -30,7 +29,7 @@ fn withdrawal_in_range(n: Withdrawal) -> bool
 
 // A request is withdrawn by its own User only.
 fn withdraw_at(p: &mut [i64], user: u64) -> NoticeAnswer
-    requires { ⌜ (partSound (now p) ≡ true) × (length (now p) ≡ 240) × (1 ≤ user) ⌝ }
+    requires { ⌜ SoundPart (now p) × (1 ≤ user) ⌝ }
     ensures { λ r. ⌜ (noticeNumbers r ≡ withdrawPart user (now (p .entry)) .0) × (now (p .exit) ≡ withdrawPart user (now (p .entry)) .1) × (noticeRefused r ≡ refused (noticeNumbers r)) ⌝ }
 {
     if numbers::get(p, 7) != user {
@@ -44,7 +43,8 @@ fn withdraw_at(p: &mut [i64], user: u64) -> NoticeAnswer
 pub fn withdraw(t: &mut [i64], n: Withdrawal) -> NoticeAnswer
     ensures { λ r. ⌜ (noticeNumbers r ≡ withdrawCall (now (t .entry)) n .0) × (now (t .exit) ≡ withdrawCall (now (t .entry)) n .1) × (noticeRefused r ≡ refused (noticeNumbers r)) ⌝ }
 {
-    if !table::sound(t) {
+    let ed = table::edition(t);
+    if !table::sound(t, ed) {
         return NoticeAnswer::Refused(1);
     }
     if !withdrawal_in_range(n) {
@@ -53,13 +53,13 @@ pub fn withdraw(t: &mut [i64], n: Withdrawal) -> NoticeAnswer
     let mirn = n.mirn;
     let user = n.user;
     let m = numbers::natural(mirn);
-    let i = table::index_of(t, m);
-    if i == 32 {
+    let i = table::index_of(t, ed, m);
+    if i == ed.points {
         return NoticeAnswer::Refused(4);
     }
     let u = numbers::natural(user);
-    let a = 8 + 240 * i;
-    let b = a + 240;
+    let a = table::place(ed, i);
+    let b = table::place(ed, i + 1);
     withdraw_at(&mut t[a..b], u)
 }
 
@@ -85,7 +85,7 @@ fn request_at(
     nochange: u64,
     holidays: &[i64],
 ) -> RequestAnswer
-    requires { ⌜ (partSound (now p) ≡ true) × (length (now p) ≡ 240) × (user ≤ 16) × (proposed .0 ≤ 39999) ⌝ }
+    requires { ⌜ SoundPart (now p) × (user ≤ 16) × (proposed .0 ≤ 39999) ⌝ }
     ensures { λ r. ⌜ (requestNumbers r ≡ requestPart user (allowablePeriod (now (holidays .entry)) (proposed .0) nochange) (now (p .entry)) .0) × (now (p .exit) ≡ requestPart user (allowablePeriod (now (holidays .entry)) (proposed .0) nochange) (now (p .entry)) .1) × (requestRefused r ≡ refused (requestNumbers r)) ⌝ }
 {
     if numbers::get(p, 7) != 0 {
@@ -110,7 +110,8 @@ fn request_at(
 pub fn request(t: &mut [i64], n: TransferRequest, holidays: &[i64]) -> RequestAnswer
     ensures { λ r. ⌜ (requestNumbers r ≡ requestCall (now (t .entry)) n (now (holidays .entry)) .0) × (now (t .exit) ≡ requestCall (now (t .entry)) n (now (holidays .entry)) .1) × (requestRefused r ≡ refused (requestNumbers r)) ⌝ }
 {
-    if !table::sound(t) {
+    let ed = table::edition(t);
+    if !table::sound(t, ed) {
         return RequestAnswer::Refused(1);
     }
     if !request_in_range(n) {
@@ -121,8 +122,8 @@ pub fn request(t: &mut [i64], n: TransferRequest, holidays: &[i64]) -> RequestAn
     }
     let mirn = n.mirn;
     let m = numbers::natural(mirn);
-    let i = table::index_of(t, m);
-    if i == 32 {
+    let i = table::index_of(t, ed, m);
+    if i == ed.points {
         return RequestAnswer::Refused(4);
     }
     let user = n.user;
@@ -131,7 +132,7 @@ pub fn request(t: &mut [i64], n: TransferRequest, holidays: &[i64]) -> RequestAn
     let u = numbers::natural(user);
     let day = Day(numbers::natural(proposed));
     let flag = numbers::natural(nochange);
-    let a = 8 + 240 * i;
-    let b = a + 240;
+    let a = table::place(ed, i);
+    let b = table::place(ed, i + 1);
     request_at(&mut t[a..b], u, day, flag, holidays)
 }

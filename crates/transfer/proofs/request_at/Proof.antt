@@ -6,7 +6,7 @@ use Rattle.calendar.specs.Calendar.{allowablePeriod, periodDays}
 use Rattle.calendar.proofs.Business.{period-bound}
 use Rattle.layout.specs.Layout.{numAt}
 use Rattle.table.proofs.Calls.{gives, tells}
-use Rattle.transfer.proofs.Points.{registrations-count, request-waiting, request-same, request-outside, request-full, request-entered}
+use Rattle.transfer.proofs.Points.{request-waiting, request-same, request-outside, request-full, request-entered}
 use Rattle.transfer.proofs.request_at.Statement.{statement}
 use Rattle.transfer.proofs.request_at.Tie as tie
 
@@ -32,22 +32,7 @@ returns c =
     let s = c .before .before .before in
     let p = s .args .p .now in
     let d = allowablePeriod (s .args .holidays .now) (s .args .proposed .0) (s .args .nochange) in
-    tells (request-waiting p (s .pre .0) (s .pre .1) (s .args .user) d (λ e. c .if1 .taken (c .before .get .ensures .0 ∙ e))) refl
-
-mul-get : tie.Need-mul-get
-mul-get c =
-    let s = start (c .before) in
-    omega (arith, count-is (c .before), registrations-count (s .args .p .now) (s .pre .0) (s .pre .1) .1)
-
-add-get : tie.Need-add-get
-add-get c =
-    let s = start (c .before) in
-    omega (arith, count-is (c .before), registrations-count (s .args .p .now) (s .pre .0) (s .pre .1) .1)
-
-get-requires-3 : tie.Need-get-requires-3
-get-requires-3 c κs =
-    let s = start (c .before) in
-    omega (arith, count-is (c .before), registrations-count (s .args .p .now) (s .pre .0) (s .pre .1) .1)
+    tells (request-waiting (s .pre .0) (s .args .user) d (λ e. c .if1 .taken (c .before .get .ensures .0 ∙ e))) refl
 
 returns-2 : tie.Need-returns-2
 returns-2 c =
@@ -55,7 +40,7 @@ returns-2 c =
     let s = e .before .before .before in
     let p = s .args .p .now in
     let d = allowablePeriod (s .args .holidays .now) (s .args .proposed .0) (s .args .nochange) in
-    tells (request-same p (s .pre .0) (s .pre .1) (s .args .user) d (idle-is e) (sym (latest-is (c .before)) ∙ c .if2 .taken)) refl
+    tells (request-same (s .pre .0) (s .args .user) d (idle-is e) (sym (latest-is (c .before)) ∙ c .if2 .taken)) refl
 
 returns-3 : tie.Need-returns-3
 returns-3 c =
@@ -65,7 +50,7 @@ returns-3 c =
     let s = e .before .before .before in
     let p = s .args .p .now in
     let d = allowablePeriod (s .args .holidays .now) (s .args .proposed .0) (s .args .nochange) in
-    tells (request-outside p (s .pre .0) (s .pre .1) (s .args .user) d (idle-is e) (λ h. a .before .if2 .left (latest-is g ∙ h))
+    tells (request-outside (s .pre .0) (s .args .user) d (idle-is e) (λ h. a .before .if2 .left (latest-is g ∙ h))
     (sym (a .allowable-period .ensures) ∙ ap periodDays (c .enum-told .given .1))) refl
 
 returns-4 : tie.Need-returns-4
@@ -77,7 +62,7 @@ returns-4 c =
     let s = e .before .before .before in
     let p = s .args .p .now in
     let d = allowablePeriod (s .args .holidays .now) (s .args .proposed .0) (s .args .nochange) in
-    tells (request-full p (s .pre .0) (s .pre .1) (s .args .user) d (idle-is e) (λ h. a .before .if2 .left (latest-is g ∙ h)) _ _
+    tells (request-full (s .pre .0) (s .args .user) d (idle-is e) (λ h. a .before .if2 .left (latest-is g ∙ h)) _ _
     (sym (a .allowable-period .ensures) ∙ ap periodDays (f .period .given .1)) (omega (arith, count-is (g .before .before), c .if3 .taken))) refl
 
 set-pending-requires : tie.Need-set-pending-requires
@@ -85,7 +70,7 @@ set-pending-requires c κs =
     let f = c .before .before .before in
     let a = f .before .before in
     let s = start (a .before .before .before .before) in
-    let b = period-bound (s .args .holidays .now) (s .args .proposed .0) (s .args .nochange) _ _ (sym (a .allowable-period .ensures) ∙ ap periodDays (f .period .given .1)) (s .pre .3) in
+    let b = period-bound (s .args .holidays .now) (s .args .proposed .0) (s .args .nochange) _ _ (sym (a .allowable-period .ensures) ∙ ap periodDays (f .period .given .1)) (s .pre .2) in
     (omega arith, omega arith, omega arith, omega arith)
 
 returns-5 : tie.Need-returns-5
@@ -98,7 +83,7 @@ returns-5 c =
     let s = e .before .before .before in
     let p = s .args .p .now in
     let d = allowablePeriod (s .args .holidays .now) (s .args .proposed .0) (s .args .nochange) in
-    let w = gives (request-entered p (s .pre .0) (s .pre .1) (s .args .user) d (idle-is e) (λ h. a .before .if2 .left (latest-is g ∙ h)) _ _
+    let w = gives (request-entered (s .pre .0) (s .args .user) d (idle-is e) (λ h. a .before .if2 .left (latest-is g ∙ h)) _ _
     (sym (a .allowable-period .ensures) ∙ ap periodDays (f .period .given .1)) (omega (arith, count-is (g .before .before), k .if3 .left))) in
     (w .0, c .before .set-pending .ensures ∙ w .1, refl)
 
@@ -108,11 +93,7 @@ request-at-spec =
     (tie.spec
     (λ c κs. search needs) (λ c. search needs)
     returns
-    (λ c κs. search needs)
-    mul-get
-    add-get
-    get-requires-3
-    (λ c. search needs)
+    (λ c κs. search needs) (λ c. search needs) (λ c. search needs) (λ c κs. search needs) (λ c. search needs)
     returns-2
     (λ c κs. search needs) (λ c. search needs) (λ c. search needs) (λ c. search needs)
     returns-3

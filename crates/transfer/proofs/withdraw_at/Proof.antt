@@ -11,7 +11,7 @@ returns c =
     let s = c .before .before .before in
     let p = s .args .p .now in
     let u = s .args .user in
-    tells (withdraw-other p u (s .pre .2) (λ e. omega (arith, c .before .get .ensures .0))) refl
+    tells (withdraw-other p u (s .pre .1) (λ e. omega (arith, c .before .get .ensures .0))) refl
 
 returns-2 : tie.Need-returns-2
 returns-2 c =
@@ -20,10 +20,14 @@ returns-2 c =
     let g = else1 in
     let p = s .args .p .now in
     let u = s .args .user in
-    let w = gives (withdraw-own p u (s .pre .2) (s .pre .0) (s .pre .1) (sym (g .before .get .ensures .0) ∙ g .if1 .left)) in
+    let w = gives (withdraw-own p u (s .pre .1) (s .pre .0) (sym (g .before .get .ensures .0) ∙ g .if1 .left)) in
     (w .0, c .before .clear-pending .ensures ∙ w .1, refl)
 
 pub withdraw-at-spec : {M : Type 1} → statement M
 withdraw-at-spec =
     tie.close
-    (tie.spec (λ c κs. search needs) (λ c. search needs) returns (λ c κs. search needs) (λ c. search needs) returns-2)
+    (tie.spec
+    (λ c κs. search needs) (λ c. search needs)
+    returns
+    (λ c κs. search needs) (λ c. search needs)
+    returns-2)
