@@ -18,9 +18,10 @@ use Rattle.numbers.proofs.Naturals.{rd, bias-is, natural-read}
 use Rattle.numbers.proofs.Bools.{both}
 use Rattle.calendar.specs.Calendar.{within, isDay}
 use Rattle.calendar.proofs.Dates.{within-natural, day-natural, up-to-natural}
+use Rattle.daybook.specs.declared.Edition.{Edition}
 use Rattle.daybook.specs.declared.Opening.{Opening}
 use Rattle.daybook.specs.Notices.{isMirn, isFlag, isUser, factsOf}
-use Rattle.daybook.specs.Book.{standard}
+use Rattle.layout.specs.Layout.{placeOf, Fits}
 use Rattle.layout.specs.InnerWrites.{withPart, openPoint, appendPoint}
 use Rattle.table.proofs.Laws.{part-is, part-put, within-raised, lent, backIn}
 
@@ -65,11 +66,13 @@ module _ (n : Opening) (f : SFits w64 (n .base)) where
 
 -- ---- the new point's part, lent and put back, and the count
 
-pub append-is : (t : List ℤ) (i : ℕ) (n : Opening) {p : List ℤ} {mirn kind user install base : ℕ} → mirn ≡ natOf (n .mirn) → kind ≡ natOf (n .kind) → user ≡ natOf (n .user) → install ≡ natOf (n .install) → base ≡ factsOf n .base
-    → p ≡ openPoint (lent t i) (record { mirn = mirn; kind = kind; install = install; base = base }) user
-    → set (backIn t i p) 0 (pos (i + 1)) ≡ appendPoint standard t i (factsOf n) (natOf (n .user))
+pub append-is : (ed : Edition) → Fits ed → (t : List ℤ) (i a b : ℕ) → a ≡ placeOf ed i → b ≡ placeOf ed (i + 1) → (n : Opening)
+    → {p : List ℤ} {mirn kind user install base : ℕ} → mirn ≡ natOf (n .mirn) → kind ≡ natOf (n .kind) → user ≡ natOf (n .user) → install ≡ natOf (n .install) → base ≡ factsOf n .base
+    → p ≡ openPoint (lent t a b) (record { mirn = mirn; kind = kind; install = install; base = base }) user
+    → set (backIn t a b p) 0 (pos (i + 1)) ≡ appendPoint ed t i (factsOf n) (natOf (n .user))
 unfolding appendPoint factsOf
-append-is t i n {p} {mirn} {kind} {user} {install} {base} m k u d b e =
+append-is ed fits t i a b f g n {p} {mirn} {kind} {user} {install} {base} m k u d x e =
     ap (λ l. set l 0 (pos (i + 1)))
-    (part-put t i p
-    ∙ ap (withPart standard t i) (e ∙ ap (λ l. openPoint l (record { mirn = mirn; kind = kind; install = install; base = base }) user) (part-is t i) ∙ rw (m, k, u, d, b)))
+    (part-put ed fits t i a b f g p
+    ∙ ap (withPart ed t i)
+    (e ∙ ap (λ l. openPoint l (record { mirn = mirn; kind = kind; install = install; base = base }) user) (part-is ed fits t i a b f g) ∙ rw (m, k, u, d, x)))

@@ -11,20 +11,20 @@ use borrow.Author.Tests.{le-leb, lt-leb}
 use Rattle.numbers.specs.Naturals.{natOf}
 use Rattle.numbers.specs.Search.{maybe, isSome}
 use Rattle.calendar.specs.Calendar.{within, isDay}
+use Rattle.daybook.specs.declared.Edition.{Edition}
 use Rattle.daybook.specs.declared.Opening.{Opening}
 use Rattle.daybook.specs.Notices.{least, Numbers, decide, isMirn, isFlag, isUser, factsOf, openingRows, opening}
-use Rattle.daybook.specs.Book.{standard}
 use Rattle.lists.specs.Lists.{Register}
 use Rattle.lists.specs.InnerSteps.{findLists, openedLists, openingLists}
 use Rattle.lists.specs.InnerWell.{WellFormed}
 use Rattle.lists.proofs.Rows.{above, least-first, least-skip, decide-taken, decide-refused}
 use Rattle.lists.proofs.OpenStep.{OpenClear, open-clear, open-step, open-keeps}
-use Rattle.layout.specs.Layout.{tableLength, layout, numAt, registerOf, tableBook}
+use Rattle.layout.specs.Layout.{tableLength, Fits, editionOf, layout, numAt, registerOf, tableBook}
 use Rattle.layout.specs.Sound.{sound}
 use Rattle.layout.specs.InnerWrites.{appendPoint}
-use Rattle.layout.specs.Calls.{answerAndTable, onTable}
+use Rattle.layout.specs.Calls.{answerAndTable, onEdition}
 use Rattle.layout.proofs.PointParts.{all-few-of, withPoints, table-split}
-use Rattle.layout.proofs.TableSound.{sound-lays, standard-fits, points-count}
+use Rattle.layout.proofs.TableSound.{sound-lays, points-count}
 use Rattle.layout.proofs.NewPoint.{freshPoint, append-point}
 use Rattle.table.specs.Lookup.{indexOf}
 use Rattle.table.proofs.Laws.{index-none}
@@ -37,60 +37,64 @@ use Rattle.opening.specs.Opening.{openCall}
 abbrev pub ranged : Opening → Bool
 ranged n = isMirn (n .mirn) && isFlag (n .kind) && isUser (n .user) && isDay (n .install) && within (negsuc 0) (pos 10000) (n .base)
 
-pub open-unsound : (t : List ℤ) (n : Opening) → sound standard t ≡ false → openCall t n ≡ (pos 1 ∷ [], t)
-unfolding openCall
-open-unsound t n e = call-unsound 0 (opening standard n) standard t e
+module _ (ed : Edition) (t : List ℤ) (g : ed ≡ editionOf t) (n : Opening) where
+  here : openCall t n ≡ onEdition 0 (opening ed n) ed t
+  unfolding openCall
+  here = ap (λ ed. onEdition 0 (opening ed n) ed t) (sym g)
 
-module _ (t : List ℤ) (n : Opening) (s : sound standard t ≡ true) where
+  pub open-unsound : sound ed t ≡ false → openCall t n ≡ (pos 1 ∷ [], t)
+  open-unsound e = here ∙ call-unsound 0 (opening ed n) ed t e
+
+module _ (ed : Edition) (fits : Fits ed) (t : List ℤ) (g : ed ≡ editionOf t) (n : Opening) (s : sound ed t ≡ true) where
   abbrev R : Register
-  R = registerOf standard t
+  R = registerOf ed t
 
   abbrev known : Bool
   known = isSome (findLists (natOf (n .mirn)) (R .points))
 
   abbrev row : ℕ
-  row = least (openingRows standard n known (length (R .points)))
+  row = least (openingRows ed n known (length (R .points)))
 
-  well : WellFormed standard R
-  well = sound-lays standard standard-fits t s .0
+  well : WellFormed ed R
+  well = sound-lays ed fits t s .0
 
   -- what the lists' step gives where row r sends the call back, 0 for none
   abbrev after : ℕ → Numbers × Register
   after r =
       decide r 0 R ([], record { nondaily = R .nondaily; daily = R .daily; points = R .points ++ (openedLists n ∷ []) })
 
-  whole : openCall t n ≡ laidOver standard t (after row)
-  unfolding openCall onTable tableBook openingLists
+  whole : openCall t n ≡ laidOver ed t (after row)
+  unfolding onEdition tableBook openingLists
   whole =
-      rw s
-      (ap (answerAndTable standard t) (open-step standard n R)
-      ∙ leaves-is standard t (openingLists standard n R) (open-keeps standard n well))
+      here ed t g n ∙ rw s
+      (ap (answerAndTable ed t) (open-step ed n R)
+      ∙ leaves-is ed t (openingLists ed n R) (open-keeps ed n well))
 
   sent-back : (r : ℕ) → row ≡ suc r → openCall t n ≡ (pos (suc r) ∷ [], t)
-  sent-back r e = whole ∙ ap (λ k. laidOver standard t (after k)) e ∙ ap (laidOver standard t) (decide-refused 0 R _ r) ∙ left-alone standard t r [] R
+  sent-back r e = whole ∙ ap (λ k. laidOver ed t (after k)) e ∙ ap (laidOver ed t) (decide-refused 0 R _ r) ∙ left-alone ed t r [] R
 
   opened-is : openedLists n ≡ freshPoint (factsOf n) (natOf (n .user))
   unfolding openedLists freshPoint factsOf
   opened-is = refl
 
-  taken : row ≡ 0 → length (R .points) < 32 → openCall t n ≡ (pos 0 ∷ [], appendPoint standard t (numAt t 0) (factsOf n) (natOf (n .user)))
+  taken : row ≡ 0 → length (R .points) < ed .points → openCall t n ≡ (pos 0 ∷ [], appendPoint ed t (numAt t 0) (factsOf n) (natOf (n .user)))
   unfolding withPoints
   taken e h =
       let rest : List ℤ = drop tableLength t in
-      whole ∙ ap (λ k. laidOver standard t (after k)) e ∙ ap (laidOver standard t) (decide-taken 0 R _)
-      ∙ ap (λ q. (pos 0 ∷ [], layout standard (withPoints (R .points ++ (q ∷ [])) R) ++ rest)) opened-is
+      whole ∙ ap (λ k. laidOver ed t (after k)) e ∙ ap (laidOver ed t) (decide-taken 0 R _)
+      ∙ ap (λ q. (pos 0 ∷ [], layout ed (withPoints (R .points ++ (q ∷ [])) R) ++ rest)) opened-is
       ∙ ap (λ u. (pos 0 ∷ [], u))
-      (sym (ap₂ (λ u k. appendPoint standard u k (factsOf n) (natOf (n .user))) (table-split standard R t (sym (sound-lays standard standard-fits t s .1))) (sym (points-count standard t))
-      ∙ append-point standard R rest (all-few-of (well .pointsOk)) standard-fits h (factsOf n) (natOf (n .user))))
+      (sym (ap₂ (λ u k. appendPoint ed u k (factsOf n) (natOf (n .user))) (table-split ed R t (sym (sound-lays ed fits t s .1))) (sym (points-count ed t))
+      ∙ append-point ed R rest (all-few-of (well .pointsOk)) fits h (factsOf n) (natOf (n .user))))
 
   -- ---- what the search by MIRN says of row 5
 
-  module _ (i : ℕ) (e : i ≡ maybe 32 (λ k. k) (indexOf standard t (natOf (n .mirn)))) where
-    index-known : (i ≡ 32 → ⊥) → known ≡ true
-    index-known d = ap isSome (point-found t s (natOf (n .mirn)) i e d .find)
+  module _ (i : ℕ) (e : i ≡ maybe (ed .points) (λ k. k) (indexOf ed t (natOf (n .mirn)))) where
+    index-known : (i ≡ ed .points → ⊥) → known ≡ true
+    index-known d = ap isSome (point-found ed fits t s (natOf (n .mirn)) i e d .find)
 
-    index-new : i ≡ 32 → known ≡ false
-    index-new d = ap isSome (missing standard standard-fits t s (natOf (n .mirn)) (index-none t s (natOf (n .mirn)) i e d))
+    index-new : i ≡ ed .points → known ≡ false
+    index-new d = ap isSome (missing ed fits t s (natOf (n .mirn)) (index-none ed t s (natOf (n .mirn)) i e d))
 
   -- ---- the rows in order
 
@@ -99,28 +103,28 @@ module _ (t : List ℤ) (n : Opening) (s : sound standard t ≡ true) where
   open-out e = sent-back 1 (least-first 2 (not (ranged n)) _ refl (ap not e))
 
   -- past row 2, with i what the search found
-  module _ (r : ranged n ≡ true) (i : ℕ) (is : i ≡ maybe 32 (λ k. k) (indexOf standard t (natOf (n .mirn)))) where
-    pub open-known : (i ≡ 32 → ⊥) → openCall t n ≡ (pos 5 ∷ [], t)
+  module _ (r : ranged n ≡ true) (i : ℕ) (is : i ≡ maybe (ed .points) (λ k. k) (indexOf ed t (natOf (n .mirn)))) where
+    pub open-known : (i ≡ ed .points → ⊥) → openCall t n ≡ (pos 5 ∷ [], t)
     unfolding openingRows above
     open-known d =
         sent-back 4 (least-skip 2 (not (ranged n)) _ (ap not r) ∙ least-first 5 known _ refl (index-known i is d))
 
-    after-two : i ≡ 32 → row ≡ least ((16, leb 32 (length (R .points))) ∷ [])
+    after-two : i ≡ ed .points → row ≡ least ((16, leb (ed .points) (length (R .points))) ∷ [])
     unfolding openingRows
     after-two d = least-skip 2 (not (ranged n)) _ (ap not r) ∙ least-skip 5 known _ (index-new i is d)
 
-    pub open-full : i ≡ 32 → 32 ≤ numAt t 0 → openCall t n ≡ (pos 16 ∷ [], t)
+    pub open-full : i ≡ ed .points → ed .points ≤ numAt t 0 → openCall t n ≡ (pos 16 ∷ [], t)
     unfolding above
     open-full d h =
-        sent-back 15 (after-two d ∙ least-first 16 _ [] refl (le-leb 32 (length (R .points)) (omega (arith, points-count standard t))))
+        sent-back 15 (after-two d ∙ least-first 16 _ [] refl (le-leb (ed .points) (length (R .points)) (omega (arith, points-count ed t))))
 
-    nothing : i ≡ 32 → numAt t 0 < 32 → row ≡ 0
+    nothing : i ≡ ed .points → numAt t 0 < ed .points → row ≡ 0
     unfolding least
-    nothing d h = after-two d ∙ least-skip 16 _ [] (lt-leb 32 (length (R .points)) (omega (arith, points-count standard t)))
+    nothing d h = after-two d ∙ least-skip 16 _ [] (lt-leb (ed .points) (length (R .points)) (omega (arith, points-count ed t)))
 
-    pub open-entered : i ≡ 32 → numAt t 0 < 32 → openCall t n ≡ (pos 0 ∷ [], appendPoint standard t (numAt t 0) (factsOf n) (natOf (n .user)))
-    open-entered d h = taken (nothing d h) (omega (arith, points-count standard t))
+    pub open-entered : i ≡ ed .points → numAt t 0 < ed .points → openCall t n ≡ (pos 0 ∷ [], appendPoint ed t (numAt t 0) (factsOf n) (natOf (n .user)))
+    open-entered d h = taken (nothing d h) (omega (arith, points-count ed t))
 
     -- what the writing needs
-    pub clear : i ≡ 32 → numAt t 0 < 32 → OpenClear standard n known (length (R .points))
-    clear d h = open-clear standard n known (length (R .points)) (nothing d h)
+    pub clear : i ≡ ed .points → numAt t 0 < ed .points → OpenClear ed n known (length (R .points))
+    clear d h = open-clear ed n known (length (R .points)) (nothing d h)

@@ -11,9 +11,10 @@ ghost use Rattle.numbers.specs.Answers.{refused};
 ghost use Rattle.calendar.specs.Calendar.{within, isDay};
 ghost use Rattle.daybook.specs.Notices.{isMirn, isFlag, isUser, factsOf};
 ghost use Rattle.daybook.specs.Calls.{noticeNumbers, noticeRefused};
-ghost use Rattle.daybook.specs.Book.{standard};
+ghost use Rattle.layout.specs.Layout.{Fits};
 ghost use Rattle.layout.specs.InnerWrites.{cleared, appendPoint};
 ghost use Rattle.opening.specs.Opening.{freshCall, openCall};
+use daybook::Edition;
 use daybook::NoticeAnswer;
 use daybook::Opening;
 use daybook::Ranges;
@@ -86,9 +87,9 @@ fn base_load(n: Opening) -> u64
 }
 
 // Point i, behind the others, and i + 1 points.
-fn append_point(t: &mut [i64], i: usize, n: Opening)
-    requires { ⌜ (i < 32) × (7688 ≤ length (now t)) × (natOf (n .mirn) < 2 ^ 63) × (natOf (n .kind) < 2 ^ 63) × (natOf (n .user) < 2 ^ 63) × (natOf (n .install) < 2 ^ 63) × (factsOf n .base < 2 ^ 63) ⌝ }
-    ensures { λ _. ⌜ now (t .exit) ≡ appendPoint standard (now (t .entry)) i (factsOf n) (natOf (n .user)) ⌝ }
+fn append_point(t: &mut [i64], ed: Edition, i: usize, n: Opening)
+    requires { ⌜ Fits ed × (i < ed .points) × (7688 ≤ length (now t)) × (natOf (n .mirn) < 2 ^ 63) × (natOf (n .kind) < 2 ^ 63) × (natOf (n .user) < 2 ^ 63) × (natOf (n .install) < 2 ^ 63) × (factsOf n .base < 2 ^ 63) ⌝ }
+    ensures { λ _. ⌜ now (t .exit) ≡ appendPoint ed (now (t .entry)) i (factsOf n) (natOf (n .user)) ⌝ }
 {
     let m = n.mirn;
     let k = n.kind;
@@ -99,17 +100,18 @@ fn append_point(t: &mut [i64], i: usize, n: Opening)
     let user = numbers::natural(u);
     let install = numbers::natural(d);
     let base = base_load(n);
-    let a = 8 + 240 * i;
-    let b = a + 240;
+    let a = table::place(ed, i);
+    let b = table::place(ed, i + 1);
     rows::open_point(&mut t[a..b], mirn, kind, install, base, user);
     numbers::put(t, 0, i as u64 + 1);
 }
 
-// A new point: 5 for a MIRN that the register has, 16 where all 32 points are taken.
+// A new point: 5 for a MIRN that the register has, 16 where all points are taken.
 pub fn open(t: &mut [i64], n: Opening) -> NoticeAnswer
     ensures { λ r. ⌜ (noticeNumbers r ≡ openCall (now (t .entry)) n .0) × (now (t .exit) ≡ openCall (now (t .entry)) n .1) × (noticeRefused r ≡ refused (noticeNumbers r)) ⌝ }
 {
-    if !table::sound(t) {
+    let ed = table::edition(t);
+    if !table::sound(t, ed) {
         return NoticeAnswer::Refused(1);
     }
     if !in_range(n) {
@@ -117,13 +119,13 @@ pub fn open(t: &mut [i64], n: Opening) -> NoticeAnswer
     }
     let m = n.mirn;
     let mirn = numbers::natural(m);
-    if table::index_of(t, mirn) != 32 {
+    if table::index_of(t, ed, mirn) != ed.points {
         return NoticeAnswer::Refused(5);
     }
     let count = numbers::get(t, 0) as usize;
-    if 32 <= count {
+    if ed.points <= count {
         return NoticeAnswer::Refused(16);
     }
-    append_point(t, count, n);
+    append_point(t, ed, count, n);
     NoticeAnswer::Entered
 }

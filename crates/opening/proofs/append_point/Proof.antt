@@ -1,9 +1,11 @@
-use mathlib.Core.Path.{_≡_, _∙_}
+use mathlib.Core.Path.{_≡_, _∙_, ap}
 use native.Mathlib.Omega.{arith}
+use lib.ListN.{length}
 use borrow.Author.Needs.{needs, sfits-of}
 use Rattle.numbers.specs.Naturals.{natOf}
 use Rattle.numbers.proofs.Naturals.{natural-read}
-use Rattle.table.proofs.Laws.{part-long}
+use Rattle.layout.proofs.SoundParts.{part-length}
+use Rattle.table.proofs.Laws.{part-is}
 use Rattle.opening.proofs.CallNumbers.{append-is}
 use Rattle.opening.proofs.append_point.Statement.{statement}
 use Rattle.opening.proofs.append_point.Tie as tie
@@ -35,26 +37,31 @@ install-is c =
 
 open-point-requires : tie.Need-open-point-requires
 open-point-requires c κs =
-    let r = c .before .before in
+    let b = c .before in
+    let r = b .before .before .before in
     let s = start (r .before .before .before) in
-    (omega (arith, part-long (s .args .t .now) (s .args .i) (omega arith)), omega (arith, mirn-is (r .before .before .before)), omega (arith, kind-is (r .before .before)), omega (arith, install-is r), omega (arith, c .before .base-load .ensures), omega (arith, user-is (r .before)))
+    let l = ap length (part-is (s .args .ed) (s .pre .0) (s .args .t .now) (s .args .i) _ _ (b .before .place .ensures .0) (b .place2 .ensures .0))
+    ∙ part-length (s .args .ed) (s .pre .0) (s .args .t .now) (s .args .i) (s .pre .1) (s .pre .2) in
+    (omega arith, omega (arith, mirn-is (r .before .before .before)), omega (arith, kind-is (r .before .before)), omega (arith, install-is r), omega (arith, b .before .before .base-load .ensures), omega (arith, user-is (r .before)))
 
 returns : tie.Need-returns
 returns c =
-    let r = c .before .before .before .before in
-    let after-natural4 = r .before .before .before in
+    let o = c .before .before .before .before in
+    let b = o .before .before in
+    let after-natural4 = b .before .before .before in
     let m = after-natural4 .before .before .before in
     let s = start m .args in
     c .before .put .ensures
-    ∙ append-is (s .t .now) (s .i) (s .n) (mirn-is m) (kind-is (after-natural4 .before .before)) (user-is (after-natural4 .before)) (install-is after-natural4) (r .before .before .base-load .ensures) (r .open-point .ensures)
+    ∙ append-is (s .ed) (start m .pre .0) (s .t .now) (s .i) _ _ (b .before .place .ensures .0) (b .place2 .ensures .0) (s .n)
+    (mirn-is m) (kind-is (after-natural4 .before .before)) (user-is (after-natural4 .before)) (install-is after-natural4) (b .before .before .base-load .ensures) (o .open-point .ensures)
 
 pub append-point-spec : {M : Type 1} → statement M
 append-point-spec =
     tie.close
     (tie.spec
-    (λ c κs. search needs) (λ c κs. search needs) (λ c κs. search needs) (λ c κs. search needs) (λ c κs. search needs)
-    (λ c. search needs) (λ c. search needs) (λ c. search needs) (λ c. search needs) (λ c. search needs)
-    (λ c. search needs) (λ c. search needs)
+    (λ c κs. search needs) (λ c κs. search needs) (λ c κs. search needs) (λ c κs. search needs)
+    (λ c κs. search needs) (λ c κs. search needs) (λ c. search needs) (λ c κs. search needs) (λ c. search needs)
+    (λ c. search needs) (λ c. search needs) (λ c. search needs)
     open-point-requires
     (λ c. search needs) (λ c κs. search needs) (λ c. search needs)
     returns)

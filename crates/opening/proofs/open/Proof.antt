@@ -7,7 +7,6 @@ use Rattle.numbers.specs.Naturals.{natOf}
 use Rattle.numbers.specs.Search.{maybe}
 use Rattle.numbers.proofs.Naturals.{natural-read}
 use Rattle.daybook.specs.Notices.{factsOf}
-use Rattle.daybook.specs.Book.{standard}
 use Rattle.lists.proofs.OpenStep.{facts-ok}
 use Rattle.layout.specs.Sound.{sound}
 use Rattle.layout.specs.InnerWrites.{appendPoint}
@@ -20,86 +19,110 @@ use Rattle.opening.proofs.open.Tie as tie
 
 -- ---- the places on the way
 
-abbrev else1 : tie.After-natural → tie.Else1
-else1 c = c .before .before .before .before
+abbrev edition : tie.Else1 → tie.After-edition
+edition c = c .before .before .before
 
-returns : tie.Need-returns
-returns c =
-    let s = c .before .before .before .args in
-    tells (open-unsound (s .t .now) (s .n) (sym (c .before .sound .ensures) ∙ not-true _ (c .if1 .taken))) refl
+abbrev entry : tie.Else1 → tie.Start
+entry c = edition c .before .before
+
+abbrev tests : tie.After-index-of → tie.Else2
+tests c = c .before .before .before .before
+
+abbrev finds : tie.After-get → tie.After-index-of
+finds c = c .before .before .before .before
 
 -- ---- what is known after each test
 
-is-sound : (c : tie.After-in-range) → sound standard (c .before .before .before .before .args .t .now) ≡ true
-is-sound c = sym (c .before .before .sound .ensures) ∙ not-false _ (c .before .if1 .left)
+is-sound : (c : tie.Else1) → sound (edition c .edition .result) (entry c .args .t .now) ≡ true
+is-sound c = sym (c .before .sound .ensures) ∙ not-false _ (c .if1 .left)
+
+is-ranged : (c : tie.Else2) → ranged (entry (c .before .before) .args .n) ≡ true
+is-ranged c = sym (c .before .in-range .ensures) ∙ not-false _ (c .if2 .left)
+
+index-is : (c : tie.After-index-of)
+    → let e = tests c .before .before in
+    c .index-of .result
+    ≡ maybe (edition e .edition .result .points) (λ k. k) (indexOf (edition e .edition .result) (entry e .args .t .now) (natOf (entry e .args .n .mirn)))
+index-is c =
+    let e = tests c .before .before in
+    let s = entry e .args in
+    let m = c .before .before in
+    c .index-of .ensures .0
+    ∙ ap (λ k. maybe (edition e .edition .result .points) (λ i. i) (indexOf (edition e .edition .result) (s .t .now) k))
+    (m .natural .ensures .0 ∙ natural-read (s .n .mirn) (sfits-of (m .before .struct-told .given .0 .1)))
+
+-- ---- the needs
+
+returns : tie.Need-returns
+returns c =
+    let d = c .before .before .before in
+    let s = d .before .before .args in
+    tells (open-unsound _ (s .t .now) (d .edition .ensures .0) (s .n) (sym (c .before .sound .ensures) ∙ not-true _ (c .if1 .taken))) refl
 
 returns-2 : tie.Need-returns-2
 returns-2 c =
-    let s = c .before .before .before .before .before .args in
-    tells (open-out (s .t .now) (s .n) (is-sound (c .before)) (sym (c .before .in-range .ensures) ∙ not-true _ (c .if2 .taken))) refl
-
-is-ranged : (c : tie.After-natural) → ranged (else1 c .before .before .before .args .n) ≡ true
-is-ranged c = sym (c .before .before .before .in-range .ensures) ∙ not-false _ (c .before .before .if2 .left)
+    let e = c .before .before in
+    let d = edition e .edition in
+    let s = entry e .args in
+    tells (open-out _ (d .ensures .1) (s .t .now) (d .ensures .0) (s .n) (is-sound e) (sym (c .before .in-range .ensures) ∙ not-true _ (c .if2 .taken))) refl
 
 index-of-requires : tie.Need-index-of-requires
 index-of-requires c κs =
-    let r = c .before .before .before .before in
-    sound-long (r .before .before .before .before .args .t .now) (is-sound r)
-
-index-is : (c : tie.After-index-of) → c .index-of .result
-    ≡ maybe 32 (λ k. k) (indexOf standard (else1 (c .before .before) .before .before .before .args .t .now) (natOf (else1 (c .before .before) .before .before .before .args .n .mirn)))
-index-is c =
-    let m = c .before .before in
-    let s = else1 m .before .before .before .args in
-    c .index-of .ensures .0
-    ∙ ap (λ k. maybe 32 (λ i. i) (indexOf standard (s .t .now) k)) (m .natural .ensures .0 ∙ natural-read (s .n .mirn) (sfits-of (m .before .struct-told .given .0 .1)))
+    let e = c .before .before .before .before .before in
+    let l = sound-long _ (entry e .args .t .now) (is-sound e) in
+    (edition e .edition .ensures .1, l .0, l .1)
 
 returns-3 : tie.Need-returns-3
 returns-3 c =
-    let m = c .before .before .before in
-    let r = m .before .before .before in
-    let s = r .before .before .before .before .args in
-    tells (open-known (s .t .now) (s .n) (is-sound r) (is-ranged m) _ (index-is (c .before)) (c .if3 .taken)) refl
+    let i = c .before .before in
+    let r = tests i in
+    let e = r .before .before in
+    let d = edition e .edition in
+    let s = entry e .args in
+    tells (open-known _ (d .ensures .1) (s .t .now) (d .ensures .0) (s .n) (is-sound e) (is-ranged r) _ (index-is i) (c .if3 .taken)) refl
 
 get-requires : tie.Need-get-requires
 get-requires c κs =
-    let after-natural = c .before .before .before .before in
-    let r = after-natural .before .before .before in
-    omega (arith, sound-long (r .before .before .before .before .args .t .now) (is-sound r))
+    let e = tests (c .before .before .before) .before .before in
+    omega (arith, sound-long _ (entry e .args .t .now) (is-sound e))
 
 returns-4 : tie.Need-returns-4
 returns-4 c =
-    let i = c .before .before .before .before in
-    let m = i .before .before in
-    let r = m .before .before .before in
-    let s = r .before .before .before .before .args in
-    tells (open-full (s .t .now) (s .n) (is-sound r) (is-ranged m) _ (index-is i) (c .before .before .before .if3 .left) (omega (arith, c .before .get .ensures .0))) refl
+    let g = c .before .before in
+    let i = finds g in
+    let r = tests i in
+    let e = r .before .before in
+    let d = edition e .edition in
+    let s = entry e .args in
+    tells (open-full _ (d .ensures .1) (s .t .now) (d .ensures .0) (s .n) (is-sound e) (is-ranged r) _ (index-is i) (g .before .before .if3 .left) (omega (arith, g .get .ensures .0))) refl
 
 append-point-requires : tie.Need-append-point-requires
 append-point-requires c κs =
-    let g = c .before .before in
-    let i = g .before .before .before in
-    let m = i .before .before in
-    let r = m .before .before .before in
-    let s = r .before .before .before .before .args in
-    let k = clear (s .t .now) (s .n) (is-sound r) (is-ranged m) _ (index-is i) (g .before .before .if3 .left) (omega (arith, g .get .ensures .0)) in
-    (omega arith, sound-long (s .t .now) (is-sound r) .0, omega (arith, k .mirnHigh), omega (arith, k .kindOk), omega (arith, k .userHigh), omega (arith, k .installOk), omega (arith, facts-ok k .baseOk))
+    let g = c .before .before .before in
+    let i = finds g in
+    let r = tests i in
+    let e = r .before .before in
+    let d = edition e .edition in
+    let s = entry e .args in
+    let k = clear _ (d .ensures .1) (s .t .now) (d .ensures .0) (s .n) (is-sound e) (is-ranged r) _ (index-is i) (g .before .before .if3 .left) (omega (arith, g .get .ensures .0)) in
+    (d .ensures .1, omega arith, sound-long _ (s .t .now) (is-sound e) .0, omega (arith, k .mirnHigh), omega (arith, k .kindOk), omega (arith, k .userHigh), omega (arith, k .installOk), omega (arith, facts-ok k .baseOk))
 
 returns-5 : tie.Need-returns-5
 returns-5 c =
-    let g = c .before .before .before .before in
-    let i = g .before .before .before in
-    let m = i .before .before in
-    let r = m .before .before .before in
-    let s = r .before .before .before .before .args in
-    let e = gives (open-entered (s .t .now) (s .n) (is-sound r) (is-ranged m) _ (index-is i) (g .before .before .if3 .left) (omega (arith, g .get .ensures .0))) in
-    (e .0, c .before .append-point .ensures ∙ ap (λ k. appendPoint standard (s .t .now) k (factsOf (s .n)) (natOf (s .n .user))) (g .get .ensures .0) ∙ e .1, refl)
+    let g = c .before .before .before .before .before in
+    let i = finds g in
+    let r = tests i in
+    let e = r .before .before in
+    let d = edition e .edition in
+    let s = entry e .args in
+    let w = gives (open-entered _ (d .ensures .1) (s .t .now) (d .ensures .0) (s .n) (is-sound e) (is-ranged r) _ (index-is i) (g .before .before .if3 .left) (omega (arith, g .get .ensures .0))) in
+    (w .0, c .before .append-point .ensures ∙ ap (λ k. appendPoint (d .result) (s .t .now) k (factsOf (s .n)) (natOf (s .n .user))) (g .get .ensures .0) ∙ w .1, refl)
 
 pub open-spec : {M : Type 1} → statement M
 open-spec =
     tie.close
     (tie.spec
-    (λ c κs. search needs) (λ c. search needs)
+    (λ c κs. search needs) (λ c κs. search needs) (λ c. search needs)
     returns
     (λ c κs. search needs) (λ c. search needs)
     returns-2
