@@ -13,103 +13,104 @@ use Rattle.numbers.specs.InnerEnergies.{biasOf}
 use Rattle.numbers.specs.Search.{maybe}
 use Rattle.numbers.proofs.Bools.{both}
 use Rattle.numbers.proofs.Naturals.{bias-is}
+use Rattle.daybook.specs.declared.Edition.{Edition}
 use Rattle.daybook.specs.declared.EnergyNotice.{EnergyNotice}
 use Rattle.daybook.specs.Notices.{least, isRange, entryOf, energyEarly, energyRows, energy}
-use Rattle.daybook.specs.Book.{standard}
 use Rattle.lists.specs.Lists.{Register}
 use Rattle.lists.specs.InnerSteps.{enterLists, energyListsRows, energyLists}
 use Rattle.lists.specs.InnerWell.{WellFormed}
 use Rattle.lists.proofs.Rows.{above}
 use Rattle.lists.proofs.EnergyStep.{energy-step, energy-keeps, energy-clear, enter-keeps}
-use Rattle.layout.specs.Layout.{partOf, registerOf}
+use Rattle.layout.specs.Layout.{Fits, editionOf, partOf, registerOf}
 use Rattle.layout.specs.InnerWrites.{withPart}
 use Rattle.layout.specs.Sound.{sound}
+use Rattle.layout.specs.InnerParts.{roomOf}
+use Rattle.layout.specs.Calls.{onEdition}
 use Rattle.layout.proofs.Numbers.{few}
-use Rattle.layout.proofs.TableSound.{sound-lays, standard-fits}
+use Rattle.layout.proofs.TableSound.{sound-lays}
 use Rattle.table.specs.Lookup.{indexOf}
 use Rattle.table.specs.InnerTable.{onPart}
-use Rattle.table.proofs.Laws.{part-is, range-is, lent}
-use Rattle.table.proofs.Found.{Found}
+use Rattle.table.proofs.Laws.{range-is}
 use Rattle.table.proofs.Calls.{call-unsound}
-use Rattle.table.proofs.OnPart.{CallOn, point-found, on-early, on-missing, on-point}
+use Rattle.table.proofs.OnPart.{CallOn, room-found, on-early, on-missing, on-point}
 use Rattle.energy.specs.declared.RaisedNotice.{RaisedNotice}
 use Rattle.energy.specs.Energy.{energyCall}
-use Rattle.energy.specs.InnerParts.{raisedNotice, noticeOf, inRange, InRange, Laid, energyRowsOf, energyPart}
+use Rattle.energy.specs.InnerParts.{raisedNotice, noticeOf, inRange, InRange, editionWith, energyRowsOf, energyPart}
 use Rattle.energy.proofs.Raised.{in-range-tells, in-range-is, notice-back}
-use Rattle.energy.proofs.Laying.{laid}
 
-pub energy-unsound : (t : List ℤ) (n : EnergyNotice) → sound standard t ≡ false → energyCall t n ≡ (pos 1 ∷ replicate 4 (pos 0), t)
-unfolding energyCall
-energy-unsound t n e = call-unsound 4 (energy standard n) standard t e
+module _ (ed : Edition) (fits : Fits ed) (t : List ℤ) (g : ed ≡ editionOf t) (n : EnergyNotice) where
+  here : energyCall t n ≡ onEdition 4 (energy ed n) ed t
+  unfolding energyCall
+  here = ap (λ ed. onEdition 4 (energy ed n) ed t) (sym g)
 
-module _ (t : List ℤ) (n : EnergyNotice) (s : sound standard t ≡ true) where
-  abbrev R : Register
-  R = registerOf standard t
+  pub energy-unsound : sound ed t ≡ false → energyCall t n ≡ (pos 1 ∷ replicate 4 (pos 0), t)
+  energy-unsound e = here ∙ call-unsound 4 (energy ed n) ed t e
 
-  ok : WellFormed standard R
-  ok = sound-lays standard standard-fits t s .0
+  module _ (s : sound ed t ≡ true) where
+    abbrev R : Register
+    R = registerOf ed t
 
-  call : CallOn R 4 (n .mirn) (energyEarly n) (energyListsRows standard n R) (enterLists (entryOf n)) (energy standard n)
-  unfolding energyLists energyEarly above
-  call =
-      record {
-        numbered = refl;
-        is = energy-step standard n R ok;
-        keeps = energy-keeps standard n ok;
-        room = λ q w e. few (enter-keeps w (entryOf n) (energy-clear standard n R q e));
-      }
+    ok : WellFormed ed R
+    ok = sound-lays ed fits t s .0
 
-  -- the ranges that the call reads
-  small : (z : ℤ) → isRange z ≡ true → biasOf z ≤ 2000000
-  small z e = leb-true _ _ (both (leb 999999 (biasOf z)) (leb (biasOf z) 2000000) (range-is z (biasOf z) refl ∙ e) .1)
+    call : CallOn ed R 4 (n .mirn) (energyEarly n) (energyListsRows ed n R) (enterLists (entryOf n)) (energy ed n)
+    unfolding energyLists energyEarly above
+    call =
+        record {
+          numbered = refl;
+          is = energy-step ed n R ok;
+          keeps = energy-keeps ed n ok;
+          room = λ q w e. few (enter-keeps w (entryOf n) (energy-clear ed n R q e));
+        }
 
-  pub ranges-small : (a b : ℕ) → a ≡ biasOf (getD t 1 (pos 0)) → b ≡ biasOf (getD t 2 (pos 0)) → (a ≤ 2000000) × (b ≤ 2000000)
-  unfolding registerOf
-  ranges-small a b ea eb =
-      (omega (arith, small (getD t 1 (pos 0)) (ok .nondailyOk)), omega (arith, small (getD t 2 (pos 0)) (ok .dailyOk)))
+    -- the ranges that the call reads
+    small : (z : ℤ) → isRange z ≡ true → biasOf z ≤ 2000000
+    small z e = leb-true _ _ (both (leb 999999 (biasOf z)) (leb (biasOf z) 2000000) (range-is z (biasOf z) refl ∙ e) .1)
 
-  module _ (x : RaisedNotice) (ex : x ≡ raisedNotice n) where
-    pub energy-range : inRange x ≡ false → energyCall t n ≡ (pos 2 ∷ replicate 4 (pos 0), t)
-    unfolding energyCall energyListsRows energyRows above
-    energy-range e =
-        on-early t s call 1 (omega arith) (in-range-is n ∙ ap (λ b. cond b 0 2) (ap inRange (sym ex) ∙ e)) (λ q. refl)
+    pub ranges-small : (a b : ℕ) → a ≡ biasOf (getD t 1 (pos 0)) → b ≡ biasOf (getD t 2 (pos 0)) → (a ≤ 2000000) × (b ≤ 2000000)
+    unfolding registerOf
+    ranges-small a b ea eb =
+        (omega (arith, small (getD t 1 (pos 0)) (ok .nondailyOk)), omega (arith, small (getD t 2 (pos 0)) (ok .dailyOk)))
 
-    module _ (r : inRange x ≡ true) (i : ℕ) (e : i ≡ maybe 32 (λ k. k) (indexOf standard t (x .mirn))) where
-      inside : InRange (raisedNotice n)
-      inside = in-range-tells (raisedNotice n) (ap inRange (sym ex) ∙ r)
+    module _ (x : RaisedNotice) (ex : x ≡ raisedNotice n) where
+      pub energy-range : inRange x ≡ false → energyCall t n ≡ (pos 2 ∷ replicate 4 (pos 0), t)
+      unfolding energyListsRows energyRows above
+      energy-range e =
+          here
+          ∙ on-early ed fits t s call 1 (omega arith) (in-range-is n ∙ ap (λ b. cond b 0 2) (ap inRange (sym ex) ∙ e)) (λ q. refl)
 
-      passed : least (energyEarly n) ≡ 0
-      passed = in-range-is n ∙ ap (λ b. cond b 0 2) (ap inRange (sym ex) ∙ r)
+      module _ (r : inRange x ≡ true) (i : ℕ) (e : i ≡ maybe (ed .points) (λ k. k) (indexOf ed t (x .mirn))) where
+        inside : InRange (raisedNotice n)
+        inside = in-range-tells (raisedNotice n) (ap inRange (sym ex) ∙ r)
 
-      index : i ≡ maybe 32 (λ k. k) (indexOf standard t (natOf (n .mirn)))
-      index = e ∙ ap (λ x. maybe 32 (λ k. k) (indexOf standard t (x .mirn))) ex
+        passed : least (energyEarly n) ≡ 0
+        passed = in-range-is n ∙ ap (λ b. cond b 0 2) (ap inRange (sym ex) ∙ r)
 
-      pub energy-missing : i ≡ 32 → energyCall t n ≡ (pos 4 ∷ replicate 4 (pos 0), t)
-      unfolding energyCall
-      energy-missing = on-missing t s call passed i index
+        index : i ≡ maybe (ed .points) (λ k. k) (indexOf ed t (natOf (n .mirn)))
+        index = e ∙ ap (λ x. maybe (ed .points) (λ k. k) (indexOf ed t (x .mirn))) ex
 
-      pub lent-laid : (i ≡ 32 → ⊥) → Laid (lent t i)
-      lent-laid z =
-          let f : Found standard t (natOf (n .mirn)) i = point-found t s (natOf (n .mirn)) i index z in
-          laid (f .well) (part-is t i ∙ sym (f .laid))
+        pub energy-missing : i ≡ ed .points → energyCall t n ≡ (pos 4 ∷ replicate 4 (pos 0), t)
+        energy-missing z = here ∙ on-missing ed fits t s call passed i index z
 
-      module _ (a b : ℕ) (ea : a ≡ biasOf (getD t 1 (pos 0))) (eb : b ≡ biasOf (getD t 2 (pos 0))) where
-        -- the notice's rows and effect, from the numbers that the code hands on
-        part-same : (p : List ℤ) → onPart 4 (energyListsRows standard n R) (enterLists (entryOf n)) p ≡ energyPart (raisedNotice n) (biasOf (R .nondaily)) (biasOf (R .daily)) p
-        unfolding energyPart energyRowsOf energyListsRows entryOf
-        part-same p =
-            let back : n ≡ noticeOf (raisedNotice n) = sym (notice-back n inside) in
-            let nondaily = sym (bias-is (R .nondaily) (small (R .nondaily) (ok .nondailyOk))) in
-            let daily = sym (bias-is (R .daily) (small (R .daily) (ok .dailyOk))) in
-            λ i. onPart 4 (energyListsRows standard (back i) (record { nondaily = nondaily i; daily = daily i; points = [] })) (enterLists (entryOf (back i))) p
+        module _ (a b : ℕ) (ea : a ≡ biasOf (getD t 1 (pos 0))) (eb : b ≡ biasOf (getD t 2 (pos 0))) (z : i ≡ ed .points → ⊥) where
+          abbrev p : List ℤ
+          p = partOf ed t i
 
-        given : (p : List ℤ) → energyPart (raisedNotice n) (biasOf (R .nondaily)) (biasOf (R .daily)) p ≡ energyPart x a b p
-        unfolding registerOf
-        given p = rw (ex, ea, eb)
+          -- the notice's rows and effect, from the numbers that the code hands on
+          part-same : onPart 4 (energyListsRows ed n R) (enterLists (entryOf n)) p
+              ≡ energyPart (raisedNotice n) (biasOf (R .nondaily)) (biasOf (R .daily)) p
+          unfolding energyPart energyRowsOf energyListsRows energyRows entryOf
+          part-same =
+              let back : n ≡ noticeOf (raisedNotice n) = sym (notice-back n inside) in
+              let nondaily = sym (bias-is (R .nondaily) (small (R .nondaily) (ok .nondailyOk))) in
+              let daily = sym (bias-is (R .daily) (small (R .daily) (ok .dailyOk))) in
+              let room : ed .records ≡ roomOf p = sym (room-found ed fits t s (natOf (n .mirn)) i index z) in
+              λ i. onPart 4 (energyListsRows (editionWith (room i)) (back i) (record { nondaily = nondaily i; daily = daily i; points = [] })) (enterLists (entryOf (back i))) p
 
-        pub energy-point : (i ≡ 32 → ⊥)
-            → energyCall t n ≡ (energyPart x a b (partOf standard t i) .0, withPart standard t i (energyPart x a b (partOf standard t i) .1))
-        unfolding energyCall
-        energy-point z =
-            on-point t s call passed i index z
-            ∙ ap (λ w. (w .0, withPart standard t i (w .1))) (part-same (partOf standard t i) ∙ given (partOf standard t i))
+          given : energyPart (raisedNotice n) (biasOf (R .nondaily)) (biasOf (R .daily)) p ≡ energyPart x a b p
+          unfolding registerOf
+          given = rw (ex, ea, eb)
+
+          pub energy-point : energyCall t n ≡ (energyPart x a b (partOf ed t i) .0, withPart ed t i (energyPart x a b (partOf ed t i) .1))
+          energy-point =
+              here ∙ on-point ed fits t s call passed i index z ∙ ap (λ w. (w .0, withPart ed t i (w .1))) (part-same ∙ given)

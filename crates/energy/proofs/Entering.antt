@@ -17,39 +17,41 @@ use Rattle.lists.specs.InnerWell.{MayEnter}
 use Rattle.lists.proofs.Apart.{recs-apart}
 use Rattle.layout.specs.Layout.{numAt, pointNumbers, pointFrom}
 use Rattle.layout.specs.Sound.{withRecs}
+use Rattle.layout.specs.InnerParts.{roomOf, SoundPart}
 use Rattle.layout.specs.InnerWrites.{putRecord, appendRecord, cutRecords}
 use Rattle.layout.proofs.Numbers.{Few, few}
 use Rattle.layout.proofs.Cells.{noRec, place-recs}
 use Rattle.layout.proofs.PartBlocks.{few-recs}
 use Rattle.layout.proofs.RowWrites.{put-record, append-record, cut-records}
+use Rattle.layout.proofs.SoundParts.{part-well, part-laid}
 use Rattle.energy.specs.declared.RaisedNotice.{RaisedNotice}
-use Rattle.energy.specs.InnerParts.{entryFrom, Laid, rowIn, Recorded}
+use Rattle.energy.specs.InnerParts.{entryFrom, rowIn, Recorded}
 use Rattle.energy.proofs.Laying.{end-at}
 use Rattle.energy.proofs.Located.{Located, located, located-none, row-few}
 
-module _ {p : List ℤ} (ok : Laid p) (x : RaisedNotice) where
+module _ {p : List ℤ} (ok : SoundPart p) (x : RaisedNotice) where
   abbrev q : Lists
   q = pointFrom p
 
   abbrev e : Entry
   e = entryFrom x
 
-  fits : Few 48 q
-  fits = few (ok .well)
+  fits : Few (roomOf p) q
+  fits = few (part-well ok)
 
   -- by which of the three it is, with the records after it
   recorded-as : (w : Which) (l : List Entry) {k : ℕ} {p′ : List ℤ} → whichIn q e ≡ w → recsAfter w e (q .recs) ≡ l → k ≡ removed w (x .start) (q .recs)
-      → p′ ≡ pointNumbers 48 (withRecs l q) → Recorded p x (record { which = whichNumber w; removed = k }) p′
+      → p′ ≡ pointNumbers (roomOf p) (withRecs l q) → Recorded p x (record { which = whichNumber w; removed = k }) p′
   recorded-as w l ew el ek ep =
       record {
         whichIs = ap whichNumber (sym ew);
         removedIs = ek ∙ ap (λ w. removed w (x .start) (q .recs)) (sym ew);
-        partIs = ep ∙ ap (λ l. pointNumbers 48 (withRecs l q)) (sym el) ∙ ap (λ w. pointNumbers 48 (withRecs (recsAfter w e (q .recs)) q)) (sym ew);
+        partIs = ep ∙ ap (λ l. pointNumbers (roomOf p) (withRecs l q)) (sym el) ∙ ap (λ w. pointNumbers (roomOf p) (withRecs (recsAfter w e (q .recs)) q)) (sym ew);
       }
 
   module _ (n j : ℕ) (en : n ≡ numAt p 6) (ej : j ≡ rowIn (q .recs) (x .start)) where
     many : n ≡ length (q .recs)
-    many = en ∙ place-recs (ok .well) (ok .is)
+    many = en ∙ place-recs (part-well ok) (part-laid ok)
 
     -- ---- no record starts on the day
 
@@ -58,13 +60,13 @@ module _ {p : List ℤ} (ok : Laid p) (x : RaisedNotice) where
     append-which h = ap (whichOf (x .end)) (located-none (q .recs) (x .start) (sym ej ∙ h ∙ many))
 
     -- an append has a free row
-    pub free-row : MayEnter 48 e q → j ≡ n → n < 48
+    pub free-row : MayEnter (roomOf p) e q → j ≡ n → n < roomOf p
     free-row may h = omega (arith, may .more (append-which h), many)
 
-    pub appended : MayEnter 48 e q → {p′ : List ℤ} → j ≡ n → p′ ≡ appendRecord p n e → Recorded p x (record { which = 1; removed = 0 }) p′
+    pub appended : MayEnter (roomOf p) e q → {p′ : List ℤ} → j ≡ n → p′ ≡ appendRecord p n e → Recorded p x (record { which = 1; removed = 0 }) p′
     appended may h ep =
         recorded-as append (q .recs ++ (e ∷ [])) (append-which h) refl refl
-        (ep ∙ ap₂ (λ t k. appendRecord t k e) (sym (ok .is)) many ∙ append-record 48 q fits e (may .more (append-which h)))
+        (ep ∙ ap₂ (λ t k. appendRecord t k e) (sym (part-laid ok)) many ∙ append-record (roomOf p) q fits e (may .more (append-which h)))
 
     -- ---- record j does
 
@@ -73,7 +75,7 @@ module _ {p : List ℤ} (ok : Laid p) (x : RaisedNotice) where
       found =
           let h : rowIn (q .recs) (x .start) ≤ length (q .recs) = row-few (q .recs) (x .start) in
           let k : rowIn (q .recs) (x .start) < length (q .recs) = omega (arith, many) in
-          subst (Located (x .start) (q .recs)) (sym ej) (located (recs-apart (ok .well .recsOk)) (x .start) k)
+          subst (Located (x .start) (q .recs)) (sym ej) (located (recs-apart (part-well ok .recsOk)) (x .start) k)
 
       pub found-few : j < n
       found-few = omega (arith, many, row-few (q .recs) (x .start))
@@ -91,9 +93,9 @@ module _ {p : List ℤ} (ok : Laid p) (x : RaisedNotice) where
           recorded-as replacement (found .before ++ e ∷ found .after)
           (found-which ∙ ap (λ b. cond b replacement recut) (eq-eqb (found .here .end) (x .end) (same-end d ed ∙ ee)))
           (found .put e refl) refl
-          (ep ∙ ap₂ (λ t k. putRecord t k e) (sym (ok .is)) (sym (found .at)) ∙ put-record 48 q fits (found .before) (found .here) e (found .after) (found .is))
+          (ep ∙ ap₂ (λ t k. putRecord t k e) (sym (part-laid ok)) (sym (found .at)) ∙ put-record (roomOf p) q fits (found .before) (found .here) e (found .after) (found .is))
 
-      before-few : length (found .before) < 48
+      before-few : length (found .before) < roomOf p
       before-few = omega (arith, found .at, found-few, many, fits .recs)
 
       pub recut-in : {p″ p′ : List ℤ} (d : ℕ) → d ≡ numAt p (48 + 4 * j + 1) → (d ≡ x .end → ⊥) → p″ ≡ cutRecords p j n → p′ ≡ appendRecord p″ j e
@@ -103,15 +105,15 @@ module _ {p : List ℤ} (ok : Laid p) (x : RaisedNotice) where
           recorded-as recut (found .before ++ (e ∷ []))
           (found-which ∙ ap (λ b. cond b replacement recut) (ne-eqb (found .here .end) (x .end) (λ z. ee (sym (same-end d ed) ∙ z))))
           (ap (λ l. l ++ (e ∷ [])) (found .front)) behind
-          (ep ∙ ap₂ (λ t k. appendRecord t k e) front (sym (found .at)) ∙ append-record 48 (withRecs (found .before) q) (few-recs fits (found .before) (omega (arith, before-few))) e before-few)
+          (ep ∙ ap₂ (λ t k. appendRecord t k e) front (sym (found .at)) ∙ append-record (roomOf p) (withRecs (found .before) q) (few-recs fits (found .before) (omega (arith, before-few))) e before-few)
         where
-          front : p″ ≡ pointNumbers 48 (withRecs (found .before) q)
+          front : p″ ≡ pointNumbers (roomOf p) (withRecs (found .before) q)
           front = ec ∙ cut
             where
-              cut : cutRecords p j n ≡ pointNumbers 48 (withRecs (found .before) q)
+              cut : cutRecords p j n ≡ pointNumbers (roomOf p) (withRecs (found .before) q)
               cut =
-                  ap (λ t. cutRecords t j n) (sym (ok .is)) ∙ ap₂ (λ k m. cutRecords (pointNumbers 48 q) k m) (sym (found .at)) many
-                  ∙ cut-records 48 q fits (found .before) (found .here ∷ found .after) (found .is)
+                  ap (λ t. cutRecords t j n) (sym (part-laid ok)) ∙ ap₂ (λ k m. cutRecords (pointNumbers (roomOf p) q) k m) (sym (found .at)) many
+                  ∙ cut-records (roomOf p) q fits (found .before) (found .here ∷ found .after) (found .is)
 
           behind : n - j - 1 ≡ removed recut (x .start) (q .recs)
           behind =

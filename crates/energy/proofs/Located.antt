@@ -17,8 +17,10 @@ use Rattle.daybook.specs.Notices.{laterStarts}
 use Rattle.lists.specs.InnerSteps.{startingOn, earlier, replaced}
 use Rattle.lists.proofs.Apart.{Apart, noentry, apart}
 use Rattle.layout.specs.Layout.{numAt, pointFrom}
+use Rattle.layout.specs.InnerParts.{SoundPart}
 use Rattle.layout.proofs.Cells.{noRec, place-recs}
-use Rattle.energy.specs.InnerParts.{Laid, rowIn}
+use Rattle.layout.proofs.SoundParts.{part-well, part-laid}
+use Rattle.energy.specs.InnerParts.{rowIn}
 use Rattle.energy.proofs.Laying.{start-at}
 
 -- ---- what the index tells
@@ -121,26 +123,26 @@ row-step : (l : List Entry) (d j : ℕ) → j < length l
 unfolding rowIn
 row-step l d j h = ap (λ m. rowIn m d) (drop-cons l j noRec h)
 
-module _ {p : List ℤ} (ok : Laid p) (j d r : ℕ) where
+module _ {p : List ℤ} (ok : SoundPart p) (j d r : ℕ) where
   abbrev recs : List Entry
   recs = pointFrom p .recs
 
   pub row-hit : j < numAt p 6 → numAt p (48 + 4 * j) ≡ d → j + rowIn (drop j recs) d ≡ r → j ≡ r
   row-hit h e k =
-      let s = row-step recs d j (omega (arith, place-recs (ok .well) (ok .is))) in
+      let s = row-step recs d j (omega (arith, place-recs (part-well ok) (part-laid ok))) in
       let z : rowIn (drop j recs) d ≡ 0 = s ∙ rw (eq-eqb (getD recs j noRec .start) d (sym (start-at ok j) ∙ e)) in
       omega arith
 
   pub row-miss : j < numAt p 6 → (numAt p (48 + 4 * j) ≡ d → ⊥) → j + rowIn (drop j recs) d ≡ r → j + 1 + rowIn (drop (j + 1) recs) d ≡ r
   row-miss h e k =
-      let s = row-step recs d j (omega (arith, place-recs (ok .well) (ok .is))) in
+      let s = row-step recs d j (omega (arith, place-recs (part-well ok) (part-laid ok))) in
       let z : rowIn (drop j recs) d ≡ suc (rowIn (drop (suc j) recs) d) = s ∙ rw (ne-eqb (getD recs j noRec .start) d (λ q. e (start-at ok j ∙ q))) in
       rw (add-one j) (omega arith)
 
   pub row-end : numAt p 6 ≤ j → j + rowIn (drop j recs) d ≡ r → j ≡ r
   unfolding rowIn
   row-end h k =
-      let past : length recs ≤ j = omega (arith, place-recs (ok .well) (ok .is)) in
+      let past : length recs ≤ j = omega (arith, place-recs (part-well ok) (part-laid ok)) in
       let z : drop j recs ≡ [] = drop-of-length-le recs past in
       let s : rowIn (drop j recs) d ≡ 0 = ap (λ m. rowIn m d) z in
       omega arith

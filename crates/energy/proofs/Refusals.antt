@@ -12,17 +12,19 @@ use borrow.Author.Tests.{le-leb, lt-leb, ltb-true, ltb-false, lt-ltb, le-ltb, eq
 use Rattle.numbers.specs.InnerEnergies.{energyOf}
 use Rattle.numbers.specs.Search.{maybe, isSome}
 use Rattle.daybook.specs.Book.{Entry}
-use Rattle.daybook.specs.Notices.{least, replacement, recut, whichNumber, whichOf, entryOf, fitsKind, beyond, energyRows}
+use Rattle.daybook.specs.Notices.{Row, least, replacement, recut, whichNumber, whichOf, entryOf, fitsKind, beyond, energyRows}
 use Rattle.lists.specs.Lists.{Lists}
 use Rattle.lists.specs.InnerSteps.{startingOn, whichIn, appendDayOf, someOverlap, energyListsRows}
 use Rattle.lists.proofs.Rows.{above, least-first, least-skip}
 use Rattle.lists.proofs.Apart.{fits-le}
 use Rattle.layout.specs.Layout.{numAt, pointFrom}
+use Rattle.layout.specs.InnerParts.{roomOf, SoundPart}
 use Rattle.layout.proofs.Cells.{place-kind, place-offs, place-recs}
+use Rattle.layout.proofs.SoundParts.{part-well, part-laid}
 use Rattle.point.specs.InnerTests.{noOff, dayIf}
 use Rattle.point.proofs.Readers.{no-off-is}
 use Rattle.energy.specs.declared.RaisedNotice.{RaisedNotice}
-use Rattle.energy.specs.InnerParts.{noticeOf, Laid, energyRowsOf}
+use Rattle.energy.specs.InnerParts.{noticeOf, energyRowsOf}
 
 -- ---- row 9, of raised numbers
 
@@ -60,55 +62,60 @@ beyond-second a b k z e = rw (ne-eqb k 0 e)
 abbrev entry : RaisedNotice → Entry
 entry x = entryOf (noticeOf x)
 
-abbrev row6 : RaisedNotice → Lists → Bool
-row6 x q = not (fitsKind (q .facts .kind) (x .start) (x .end))
+abbrev pub row6 : RaisedNotice → List ℤ → Bool
+row6 x p = not (fitsKind (pointFrom p .facts .kind) (x .start) (x .end))
 
-abbrev row7 : RaisedNotice → Lists → Bool
-row7 x q = eqb (whichNumber (whichIn q (entry x))) 1 && not (maybe false (eqb (x .start)) (appendDayOf q))
+abbrev pub row7 : RaisedNotice → List ℤ → Bool
+row7 x p =
+    eqb (whichNumber (whichIn (pointFrom p) (entry x))) 1 && not (maybe false (eqb (x .start)) (appendDayOf (pointFrom p)))
 
-abbrev row8 : RaisedNotice → Lists → Bool
-row8 x q = leb (x .start) (x .end) && someOverlap (x .start) (x .end) (q .offs)
+abbrev pub row8 : RaisedNotice → List ℤ → Bool
+row8 x p = leb (x .start) (x .end) && someOverlap (x .start) (x .end) (pointFrom p .offs)
 
-abbrev row16 : RaisedNotice → Lists → Bool
-row16 x q = eqb (whichNumber (whichIn q (entry x))) 1 && leb 48 (length (q .recs))
+abbrev pub row9 : RaisedNotice → ℕ → ℕ → List ℤ → Bool
+row9 x a b p =
+    beyond (energyOf a) (energyOf b) (pointFrom p .facts .kind) (energyOf (x .energy)) && eqb (x .confirmed) 0
 
-abbrev row9 : RaisedNotice → ℕ → ℕ → Lists → Bool
-row9 x a b q = beyond (energyOf a) (energyOf b) (q .facts .kind) (energyOf (x .energy)) && eqb (x .confirmed) 0
+abbrev row16 : RaisedNotice → List ℤ → Bool
+row16 x p = eqb (whichNumber (whichIn (pointFrom p) (entry x))) 1 && leb (roomOf p) (length (pointFrom p .recs))
 
-module _ (x : RaisedNotice) (a b : ℕ) (q : Lists) where
-  rows-are : energyRowsOf x a b q ≡ (6, row6 x q) ∷ (7, row7 x q) ∷ (8, row8 x q) ∷ (9, row9 x a b q) ∷ (16, row16 x q) ∷ []
+module _ (x : RaisedNotice) (a b : ℕ) (p : List ℤ) where
+  abbrev rows : List Row
+  rows = energyRowsOf x a b (roomOf p) (pointFrom p)
+
+  rows-are : rows ≡ (6, row6 x p) ∷ (7, row7 x p) ∷ (8, row8 x p) ∷ (9, row9 x a b p) ∷ (16, row16 x p) ∷ []
   unfolding energyRowsOf energyListsRows energyRows entryOf
   rows-are = refl
 
-  pub sent-6 : row6 x q ≡ true → 6 ≡ least (energyRowsOf x a b q)
+  pub sent-6 : row6 x p ≡ true → 6 ≡ least rows
   unfolding above
-  sent-6 e = sym (ap least rows-are ∙ least-first 6 (row6 x q) _ refl e)
+  sent-6 e = sym (ap least rows-are ∙ least-first 6 (row6 x p) _ refl e)
 
-  module _ (e6 : row6 x q ≡ false) where
-    pub sent-7 : row7 x q ≡ true → 7 ≡ least (energyRowsOf x a b q)
+  module _ (e6 : row6 x p ≡ false) where
+    pub sent-7 : row7 x p ≡ true → 7 ≡ least rows
     unfolding above
-    sent-7 e = sym (ap least rows-are ∙ least-skip 6 (row6 x q) _ e6 ∙ least-first 7 (row7 x q) _ refl e)
+    sent-7 e = sym (ap least rows-are ∙ least-skip 6 (row6 x p) _ e6 ∙ least-first 7 (row7 x p) _ refl e)
 
-    module _ (e7 : row7 x q ≡ false) where
-      pub sent-8 : row8 x q ≡ true → 8 ≡ least (energyRowsOf x a b q)
+    module _ (e7 : row7 x p ≡ false) where
+      pub sent-8 : row8 x p ≡ true → 8 ≡ least rows
       unfolding above
-      sent-8 e = sym (ap least rows-are ∙ least-skip 6 (row6 x q) _ e6 ∙ least-skip 7 (row7 x q) _ e7 ∙ least-first 8 (row8 x q) _ refl e)
+      sent-8 e = sym (ap least rows-are ∙ least-skip 6 (row6 x p) _ e6 ∙ least-skip 7 (row7 x p) _ e7 ∙ least-first 8 (row8 x p) _ refl e)
 
-      module _ (e8 : row8 x q ≡ false) where
-        past-8 : least (energyRowsOf x a b q) ≡ least ((9, row9 x a b q) ∷ (16, row16 x q) ∷ [])
-        past-8 = ap least rows-are ∙ least-skip 6 (row6 x q) _ e6 ∙ least-skip 7 (row7 x q) _ e7 ∙ least-skip 8 (row8 x q) _ e8
+      module _ (e8 : row8 x p ≡ false) where
+        past-8 : least rows ≡ least ((9, row9 x a b p) ∷ (16, row16 x p) ∷ [])
+        past-8 = ap least rows-are ∙ least-skip 6 (row6 x p) _ e6 ∙ least-skip 7 (row7 x p) _ e7 ∙ least-skip 8 (row8 x p) _ e8
 
-        pub sent-9 : row9 x a b q ≡ true → 9 ≡ least (energyRowsOf x a b q)
+        pub sent-9 : row9 x a b p ≡ true → 9 ≡ least rows
         unfolding above
-        sent-9 e = sym (past-8 ∙ least-first 9 (row9 x a b q) _ refl e)
+        sent-9 e = sym (past-8 ∙ least-first 9 (row9 x a b p) _ refl e)
 
-        pub sent-16 : row9 x a b q ≡ false → row16 x q ≡ true → 16 ≡ least (energyRowsOf x a b q)
+        pub sent-16 : row9 x a b p ≡ false → row16 x p ≡ true → 16 ≡ least rows
         unfolding above
-        sent-16 e9 e = sym (past-8 ∙ least-skip 9 (row9 x a b q) _ e9 ∙ least-first 16 (row16 x q) _ refl e)
+        sent-16 e9 e = sym (past-8 ∙ least-skip 9 (row9 x a b p) _ e9 ∙ least-first 16 (row16 x p) _ refl e)
 
-        pub sent-not : row9 x a b q ≡ false → row16 x q ≡ false → 0 ≡ least (energyRowsOf x a b q)
+        pub sent-not : row9 x a b p ≡ false → row16 x p ≡ false → 0 ≡ least rows
         unfolding least
-        sent-not e9 e = sym (past-8 ∙ least-skip 9 (row9 x a b q) ((16, row16 x q) ∷ []) e9 ∙ least-skip 16 (row16 x q) [] e)
+        sent-not e9 e = sym (past-8 ∙ least-skip 9 (row9 x a b p) ((16, row16 x p) ∷ []) e9 ∙ least-skip 16 (row16 x p) [] e)
 
 -- ---- what the code tests is what the rows say
 
@@ -137,31 +144,31 @@ day-test d r h = ap not (go (ltb r 40001) refl)
     go true e = flip (eqb r d) refl
     go false e = ne-eqb r d (λ (q : r ≡ d). absurd (omega (arith, ltb-false r 40001 e)))
 
-module _ {p : List ℤ} (ok : Laid p) (x : RaisedNotice) where
+module _ {p : List ℤ} (ok : SoundPart p) (x : RaisedNotice) where
   abbrev q : Lists
   q = pointFrom p
 
-  pub row6-is : {f : Bool} (k : ℕ) → k ≡ numAt p 1 → f ≡ fitsKind k (x .start) (x .end) → not f ≡ row6 x q
-  row6-is k ek ef = ap not (ef ∙ ap (λ k. fitsKind k (x .start) (x .end)) (ek ∙ place-kind (ok .well) (ok .is)))
+  pub row6-is : {f : Bool} (k : ℕ) → k ≡ numAt p 1 → f ≡ fitsKind k (x .start) (x .end) → not f ≡ row6 x p
+  row6-is k ek ef = ap not (ef ∙ ap (λ k. fitsKind k (x .start) (x .end)) (ek ∙ place-kind (part-well ok) (part-laid ok)))
 
   module _ {new : Bool} (is : new ≡ not (isSome (startingOn (q .recs) (x .start)))) where
     new-here : new ≡ eqb (whichNumber (whichIn q (entry x))) 1
     unfolding entryOf
     new-here = is ∙ new-is q (entry x)
 
-    pub row7-is : (r : ℕ) → x .start ≤ 39999 → dayIf r ≡ appendDayOf q → (new && not (eqb r (x .start))) ≡ row7 x q
+    pub row7-is : (r : ℕ) → x .start ≤ 39999 → dayIf r ≡ appendDayOf q → (new && not (eqb r (x .start))) ≡ row7 x p
     row7-is r h e = ap₂ _&&_ new-here (day-test (x .start) r h ∙ ap (λ o. not (maybe false (eqb (x .start)) o)) e)
 
-    pub row16-is : (n : ℕ) → n ≡ numAt p 6 → (new && leb 48 n) ≡ row16 x q
-    row16-is n e = ap₂ _&&_ new-here (ap (leb 48) (e ∙ place-recs (ok .well) (ok .is)))
+    pub row16-is : (n : ℕ) → n ≡ numAt p 6 → (new && leb (roomOf p) n) ≡ row16 x p
+    row16-is n e = ap₂ _&&_ new-here (ap (leb (roomOf p)) (e ∙ place-recs (part-well ok) (part-laid ok)))
 
   -- where row 6 doesn't apply, the start is no later than the end
-  pub row8-is : {c : Bool} (m : ℕ) → row6 x q ≡ false → x .start ≤ 39999 → m ≡ numAt p 5 → c ≡ noOff p m (x .start) (x .end) → not c ≡ row8 x q
+  pub row8-is : {c : Bool} (m : ℕ) → row6 x p ≡ false → x .start ≤ 39999 → m ≡ numAt p 5 → c ≡ noOff p m (x .start) (x .end) → not c ≡ row8 x p
   row8-is {c} m e6 h em ec =
       let l : x .start ≤ x .end = fits-le (q .facts .kind) (x .start) (x .end) (not-false _ e6) in
       let clear : c ≡ not (someOverlap (x .start) (x .end) (q .offs)) =
-      ec ∙ ap₂ (λ t k. noOff t k (x .start) (x .end)) (sym (ok .is)) (em ∙ place-offs (ok .well) (ok .is)) ∙ no-off-is (ok .well) (x .start) (x .end) (omega arith) in
+      ec ∙ ap₂ (λ t k. noOff t k (x .start) (x .end)) (sym (part-laid ok)) (em ∙ place-offs (part-well ok) (part-laid ok)) ∙ no-off-is (part-well ok) (x .start) (x .end) (omega arith) in
       ap not clear ∙ Bool·not-not (someOverlap (x .start) (x .end) (q .offs)) ∙ ap (λ t. t && someOverlap (x .start) (x .end) (q .offs)) (sym (le-leb _ _ l))
 
-  pub row9-is : (a b k : ℕ) {u : Bool} → k ≡ numAt p 1 → u ≡ beyond (energyOf a) (energyOf b) k (energyOf (x .energy)) → (u && eqb (x .confirmed) 0) ≡ row9 x a b q
-  row9-is a b k ek eu = ap (λ t. t && eqb (x .confirmed) 0) (eu ∙ ap (λ k. beyond (energyOf a) (energyOf b) k (energyOf (x .energy))) (ek ∙ place-kind (ok .well) (ok .is)))
+  pub row9-is : (a b k : ℕ) {u : Bool} → k ≡ numAt p 1 → u ≡ beyond (energyOf a) (energyOf b) k (energyOf (x .energy)) → (u && eqb (x .confirmed) 0) ≡ row9 x a b p
+  row9-is a b k ek eu = ap (λ t. t && eqb (x .confirmed) 0) (eu ∙ ap (λ k. beyond (energyOf a) (energyOf b) k (energyOf (x .energy))) (ek ∙ place-kind (part-well ok) (part-laid ok)))

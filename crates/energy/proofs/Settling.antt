@@ -21,12 +21,14 @@ use Rattle.lists.proofs.Last.{last-at}
 use Rattle.lists.proofs.Registrations.{user-from-append}
 use Rattle.layout.specs.Layout.{pendingOrZeros, numAt, pointNumbers, pointFrom}
 use Rattle.layout.specs.InnerWrites.{appendRegistration, clearPending}
+use Rattle.layout.specs.InnerParts.{roomOf, SoundPart}
 use Rattle.layout.proofs.Numbers.{Few, few}
 use Rattle.layout.proofs.Cells.{noReg, cell-reg-start, place-regs, place-user, place-first, place-last}
 use Rattle.layout.proofs.PartBlocks.{withRegs, few-regs, snoc-length}
 use Rattle.layout.proofs.RowWrites.{append-registration, clear-pending}
+use Rattle.layout.proofs.SoundParts.{part-well, part-laid}
 use Rattle.energy.specs.declared.RaisedNotice.{RaisedNotice}
-use Rattle.energy.specs.InnerParts.{entryFrom, Laid, outcomeAt, settledLists, SettledTo}
+use Rattle.energy.specs.InnerParts.{entryFrom, outcomeAt, settledLists, SettledTo}
 
 -- ---- the latest registration, by its index
 
@@ -64,30 +66,30 @@ registers-room (pending {q = r} a b c d e f) latest end t = record { room = f; s
 
 -- ---- on the part
 
-module _ {p : List ℤ} (ok : Laid p) (x : RaisedNotice) (n user first last latest : ℕ) (en : n ≡ numAt p 4) (eu : user ≡ numAt p 7) (ef : first ≡ numAt p 8) (el : last ≡ numAt p 9) (es : latest ≡ numAt p (14 + 2 * n)) where
+module _ {p : List ℤ} (ok : SoundPart p) (x : RaisedNotice) (n user first last latest : ℕ) (en : n ≡ numAt p 4) (eu : user ≡ numAt p 7) (ef : first ≡ numAt p 8) (el : last ≡ numAt p 9) (es : latest ≡ numAt p (14 + 2 * n)) where
   abbrev q : Lists
   q = pointFrom p
 
-  fits : Few 48 q
-  fits = few (ok .well)
+  fits : Few (roomOf p) q
+  fits = few (part-well ok)
 
   many : n ≡ length (q .regs)
-  many = en ∙ place-regs (ok .well) (ok .is)
+  many = en ∙ place-regs (part-well ok) (part-laid ok)
 
   user-is : user ≡ pendingOrZeros (q .pending) .user
-  user-is = eu ∙ place-user (ok .well) (ok .is)
+  user-is = eu ∙ place-user (part-well ok) (part-laid ok)
 
   first-is : first ≡ pendingOrZeros (q .pending) .first
-  first-is = ef ∙ place-first (ok .well) (ok .is)
+  first-is = ef ∙ place-first (part-well ok) (part-laid ok)
 
   last-is : last ≡ pendingOrZeros (q .pending) .last
-  last-is = el ∙ place-last (ok .well) (ok .is)
+  last-is = el ∙ place-last (part-well ok) (part-laid ok)
 
   latest-is : latest ≡ latestOf (q .regs) .0
   latest-is =
       let some : 1 ≤ numAt p 4 = ok .someRegs in
       let at : 14 + 2 * n ≡ 16 + 2 * (n - 1) = omega (arith, en) in
-      es ∙ ap₂ numAt (sym (ok .is)) at ∙ cell-reg-start fits (n - 1) (omega (arith, en, ok .fewRegs))
+      es ∙ ap₂ numAt (sym (part-laid ok)) at ∙ cell-reg-start fits (n - 1) (omega (arith, en, ok .fewRegs))
       ∙ ap (λ (r : ℕ × ℕ). r .0) (sym (latest-at (q .regs) (n - 1) (omega (arith, many, en))))
 
   abbrev first? : Bool
@@ -98,20 +100,20 @@ module _ {p : List ℤ} (ok : Laid p) (x : RaisedNotice) (n user first last late
 
   outcome-is : outcomeAt x q ≡ cond first? (registers user) (cond second? lapses stays)
   outcome-is =
-      ap (λ s. outcomeOf append (entryFrom x) s (q .pending)) (sym latest-is) ∙ outcome-by (ok .well .pendingOk) (entryFrom x) latest
+      ap (λ s. outcomeOf append (entryFrom x) s (q .pending)) (sym latest-is) ∙ outcome-by (part-well ok .pendingOk) (entryFrom x) latest
       ∙ sym (rw (user-is, first-is, last-is))
 
   -- by what it comes to
-  settled-as : (o : Outcome) (u l : ℕ) {p′ : List ℤ} → outcomeAt x q ≡ o → u ∷ l ∷ [] ≡ outcomeNumbers o → p′ ≡ pointNumbers 48 (settledLists o (x .end) q)
+  settled-as : (o : Outcome) (u l : ℕ) {p′ : List ℤ} → outcomeAt x q ≡ o → u ∷ l ∷ [] ≡ outcomeNumbers o → p′ ≡ pointNumbers (roomOf p) (settledLists o (x .end) q)
       → SettledTo p x (record { user = u; lapsed = l }) p′
   settled-as o u l eo en ep =
-      record { numbersAre = en ∙ ap outcomeNumbers (sym eo); partIs = ep ∙ ap (λ o. pointNumbers 48 (settledLists o (x .end) q)) (sym eo) }
+      record { numbersAre = en ∙ ap outcomeNumbers (sym eo); partIs = ep ∙ ap (λ o. pointNumbers (roomOf p) (settledLists o (x .end) q)) (sym eo) }
 
   module _ (t : first? ≡ true) where
     may : Registers (q .regs) user latest (x .end)
     may =
         subst (λ u. Registers (q .regs) u latest (x .end)) (sym user-is)
-        (registers-room (ok .well .pendingOk) latest (x .end) (rw (user-is, first-is, last-is) at t))
+        (registers-room (part-well ok .pendingOk) latest (x .end) (rw (user-is, first-is, last-is) at t))
 
     pub reg-room : (n < 8) × (user ≤ 16)
     reg-room = (omega (arith, may .room, many), may .small)
@@ -119,26 +121,26 @@ module _ {p : List ℤ} (ok : Laid p) (x : RaisedNotice) (n user first last late
     regs-are : q .regs ++ ((x .end + 1, user) ∷ []) ≡ userFrom (suc (x .end)) user (q .regs)
     regs-are =
         ap (λ d. q .regs ++ ((d, user) ∷ [])) (add-one (x .end))
-        ∙ sym (user-from-append (ok .well .regsOk) (suc (x .end)) user (omega (arith, may .after, latest-is)) (may .differs))
+        ∙ sym (user-from-append (part-well ok .regsOk) (suc (x .end)) user (omega (arith, may .after, latest-is)) (may .differs))
 
     pub registered : {p″ p′ : List ℤ} → p″ ≡ appendRegistration p n (x .end + 1) user → p′ ≡ clearPending p″ → SettledTo p x (record { user = user; lapsed = 0 }) p′
     unfolding withRegs withPendingLists
     registered {p″} ea ec =
         settled-as (registers user) user 0 (outcome-is ∙ rw t) refl
-        (ec ∙ ap clearPending rows ∙ clear-pending 48 (withRegs (userFrom (suc (x .end)) user (q .regs)) q) next)
+        (ec ∙ ap clearPending rows ∙ clear-pending (roomOf p) (withRegs (userFrom (suc (x .end)) user (q .regs)) q) next)
       where
-        next : Few 48 (withRegs (userFrom (suc (x .end)) user (q .regs)) q)
+        next : Few (roomOf p) (withRegs (userFrom (suc (x .end)) user (q .regs)) q)
         next = few-regs fits _ (omega (arith, ap length regs-are, snoc-length (q .regs) (x .end + 1, user), may .room))
 
-        rows : p″ ≡ pointNumbers 48 (withRegs (userFrom (suc (x .end)) user (q .regs)) q)
+        rows : p″ ≡ pointNumbers (roomOf p) (withRegs (userFrom (suc (x .end)) user (q .regs)) q)
         rows =
-            ea ∙ ap₂ (λ t k. appendRegistration t k (x .end + 1) user) (sym (ok .is)) many
-            ∙ append-registration 48 q fits (x .end + 1) user (omega (arith, may .room)) ∙ ap (λ l. pointNumbers 48 (withRegs l q)) regs-are
+            ea ∙ ap₂ (λ t k. appendRegistration t k (x .end + 1) user) (sym (part-laid ok)) many
+            ∙ append-registration (roomOf p) q fits (x .end + 1) user (omega (arith, may .room)) ∙ ap (λ l. pointNumbers (roomOf p) (withRegs l q)) regs-are
 
   pub lapsed : first? ≡ false → second? ≡ true → {p′ : List ℤ} → p′ ≡ clearPending p → SettledTo p x (record { user = 0; lapsed = 1 }) p′
   unfolding withPendingLists
   lapsed f s ec =
-      settled-as lapses 0 1 (outcome-is ∙ rw (f, s)) refl (ec ∙ ap clearPending (sym (ok .is)) ∙ clear-pending 48 q fits)
+      settled-as lapses 0 1 (outcome-is ∙ rw (f, s)) refl (ec ∙ ap clearPending (sym (part-laid ok)) ∙ clear-pending (roomOf p) q fits)
 
   pub stayed : first? ≡ false → second? ≡ false → SettledTo p x (record { user = 0; lapsed = 0 }) p
-  stayed f s = settled-as stays 0 0 (outcome-is ∙ rw (f, s)) refl (sym (ok .is))
+  stayed f s = settled-as stays 0 0 (outcome-is ∙ rw (f, s)) refl (sym (part-laid ok))

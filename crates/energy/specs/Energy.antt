@@ -3,9 +3,8 @@ use mathlib.Core.List.{List}
 use lib.IntN.{ℤ}
 use Rattle.daybook.specs.declared.EnergyNotice.{EnergyNotice}
 use Rattle.daybook.specs.Notices.{Numbers, energy}
-use Rattle.daybook.specs.Book.{standard}
 use Rattle.layout.specs.Calls.{onTable}
 
 -- Four fields: which of the three it is, how many records it removes, the User it registers, whether the request lapses.
 unfoldable pub energyCall : List ℤ → EnergyNotice → Numbers × List ℤ
-energyCall t n = onTable 4 (energy standard n) standard t
+energyCall t n = onTable 4 (λ ed. energy ed n) t

@@ -5,17 +5,17 @@ use mathlib.Core.List.{List, [], _∷_}
 use Prim.Native.Nat.{ℕ, suc, _≤_}
 use lib.Dec.{leb, eqb}
 use lib.IntN.{ℤ, pos}
-use lib.ListN.{length}
 use Rattle.numbers.specs.Naturals.{natOf}
 use Rattle.numbers.specs.InnerEnergies.{biasOf, energyOf}
+use Rattle.daybook.specs.declared.Edition.{Edition}
 use Rattle.daybook.specs.declared.EnergyNotice.{EnergyNotice}
-use Rattle.daybook.specs.Book.{Entry, standard}
+use Rattle.daybook.specs.Book.{Entry}
 use Rattle.daybook.specs.Notices.{Row, Numbers, append, whichNumber, removed, Outcome, outcomeOf, outcomeNumbers}
 use Rattle.lists.specs.Lists.{Lists, Register}
 use Rattle.lists.specs.InnerSteps.{latestOf, whichIn, recsAfter, regsAfter, pendingAfter, enterLists, energyListsRows}
-use Rattle.lists.specs.InnerWell.{Well}
-use Rattle.layout.specs.Layout.{pointNumbers, pointFrom, numAt}
+use Rattle.layout.specs.Layout.{pointNumbers, pointFrom}
 use Rattle.layout.specs.Sound.{withRecs}
+use Rattle.layout.specs.InnerParts.{roomOf}
 use Rattle.rows.specs.InnerRows.{recordOf}
 use Rattle.table.specs.InnerTable.{onPart}
 use Rattle.energy.specs.declared.RaisedNotice.{RaisedNotice}
@@ -71,16 +71,6 @@ pub record InRange (x : RaisedNotice) : Type 0 where
 
 -- ---- the part of a point
 
--- The part of the standard edition that is the layout of its own lists, which are well-formed; counts, for arithmetic.
-pub record Laid (p : List ℤ) : Type 0 where
-  pub well : Well 48 (pointFrom p)
-  pub is : pointNumbers 48 (pointFrom p) ≡ p
-  pub long : length p ≡ 240
-  pub someRegs : 1 ≤ numAt p 4
-  pub fewRegs : numAt p 4 ≤ 8
-  pub fewOffs : numAt p 5 ≤ 8
-  pub fewRecs : numAt p 6 ≤ 48
-
 -- The index of the record that starts on day d, how many there are if none does.
 unfoldable pub rowIn : List Entry → ℕ → ℕ
 rowIn [] d = 0
@@ -90,9 +80,14 @@ rowIn (x ∷ l) d = cond (eqb (x .start) d) 0 (suc (rowIn l d))
 abbrev pub registerWith : ℕ → ℕ → Register
 registerWith nondaily daily = record { nondaily = energyOf nondaily; daily = energyOf daily; points = [] }
 
--- The rows that the point decides.
-unfoldable pub energyRowsOf : RaisedNotice → ℕ → ℕ → Lists → List Row
-energyRowsOf x nondaily daily q = energyListsRows standard (noticeOf x) (registerWith nondaily daily) q
+-- An edition with room for so many records at a point.
+abbrev pub editionWith : ℕ → Edition
+editionWith room = record { points = 0; records = room }
+
+-- The rows that the point decides: of the edition they ask for the room alone, of the register for its ranges.
+unfoldable pub energyRowsOf : RaisedNotice → ℕ → ℕ → ℕ → Lists → List Row
+energyRowsOf x nondaily daily room q =
+    energyListsRows (editionWith room) (noticeOf x) (registerWith nondaily daily) q
 
 -- ---- the part after the notice
 
@@ -103,7 +98,7 @@ recorded x q = withRecs (recsAfter (whichIn q x) x (q .recs)) q
 pub record Recorded (p : List ℤ) (x : RaisedNotice) (k : Kept) (p′ : List ℤ) : Type 0 where
   pub whichIs : k .which ≡ whichNumber (whichIn (pointFrom p) (entryFrom x))
   pub removedIs : k .removed ≡ removed (whichIn (pointFrom p) (entryFrom x)) (x .start) (pointFrom p .recs)
-  pub partIs : p′ ≡ pointNumbers 48 (recorded (entryFrom x) (pointFrom p))
+  pub partIs : p′ ≡ pointNumbers (roomOf p) (recorded (entryFrom x) (pointFrom p))
 
 -- What the pending request comes to by an append.
 abbrev pub outcomeAt : RaisedNotice → Lists → Outcome
@@ -121,8 +116,8 @@ settledLists o end q =
 
 pub record SettledTo (p : List ℤ) (x : RaisedNotice) (s : Settled) (p′ : List ℤ) : Type 0 where
   pub numbersAre : s .user ∷ s .lapsed ∷ [] ≡ outcomeNumbers (outcomeAt x (pointFrom p))
-  pub partIs : p′ ≡ pointNumbers 48 (settledLists (outcomeAt x (pointFrom p)) (x .end) (pointFrom p))
+  pub partIs : p′ ≡ pointNumbers (roomOf p) (settledLists (outcomeAt x (pointFrom p)) (x .end) (pointFrom p))
 
 -- The whole notice, on its point's part: its four fields and what it leaves.
 unfoldable pub energyPart : RaisedNotice → ℕ → ℕ → List ℤ → Numbers × List ℤ
-energyPart x nondaily daily p = onPart 4 (energyRowsOf x nondaily daily) (enterLists (entryFrom x)) p
+energyPart x nondaily daily p = onPart 4 (energyRowsOf x nondaily daily (roomOf p)) (enterLists (entryFrom x)) p

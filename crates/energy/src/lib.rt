@@ -14,9 +14,10 @@ ghost use Rattle.daybook.specs.Calls.{energyNumbers, energyRefused};
 ghost use Rattle.lists.specs.InnerSteps.{startingOn, appendDayOf};
 ghost use Rattle.lists.specs.InnerWell.{MayEnter};
 ghost use Rattle.layout.specs.Layout.{pointFrom, numAt};
+ghost use Rattle.layout.specs.InnerParts.{roomOf, SoundPart};
 ghost use Rattle.point.specs.InnerTests.{dayIf};
 ghost use Rattle.energy.specs.Energy.{energyCall};
-ghost use Rattle.energy.specs.InnerParts.{raisedNotice, entryFrom, inRange, InRange, Laid, rowIn, energyRowsOf, Recorded, SettledTo, energyPart};
+ghost use Rattle.energy.specs.InnerParts.{raisedNotice, entryFrom, inRange, InRange, rowIn, energyRowsOf, Recorded, SettledTo, energyPart};
 
 // A notice's numbers as naturals, its energy raised by 1,000,000; a number that is none as the marker 2^63.
 struct RaisedNotice {
@@ -74,7 +75,7 @@ fn in_range(x: RaisedNotice) -> bool
 
 // The record that starts on a day, by its index; the number of records if none does.
 fn row_of(p: &[i64], start: u64) -> usize
-    requires { ⌜ Laid (now p) ⌝ }
+    requires { ⌜ SoundPart (now p) ⌝ }
     ensures { λ r. ⌜ (r ≡ rowIn (pointFrom (now (p .entry)) .recs) start) × (r ≤ numAt (now (p .entry)) 6) ⌝ }
 {
     let n = numbers::get(p, 6) as usize;
@@ -90,7 +91,7 @@ fn row_of(p: &[i64], start: u64) -> usize
 
 // Does no record start on the day?
 fn appends(p: &[i64], start: u64) -> bool
-    requires { ⌜ Laid (now p) ⌝ }
+    requires { ⌜ SoundPart (now p) ⌝ }
     ensures { λ r. ⌜ r ≡ not (isSome (startingOn (pointFrom (now (p .entry)) .recs) start)) ⌝ }
 {
     row_of(p, start) as u64 == numbers::get(p, 6)
@@ -98,7 +99,7 @@ fn appends(p: &[i64], start: u64) -> bool
 
 // The first day that is not off, of those after the last record or, with no record, from install on; 40,001 if all are off.
 fn append_day(p: &[i64]) -> u64
-    requires { ⌜ Laid (now p) ⌝ }
+    requires { ⌜ SoundPart (now p) ⌝ }
     ensures { λ r. ⌜ dayIf r ≡ appendDayOf (pointFrom (now (p .entry))) ⌝ }
 {
     let spans = numbers::get(p, 5) as usize;
@@ -132,8 +133,8 @@ fn unusual(kind: u64, nondaily: u64, daily: u64, energy: u64) -> bool
 
 // The row that sends a notice back, of those that its point decides; 0 if none does.
 fn check(p: &[i64], x: RaisedNotice, nondaily: u64, daily: u64) -> u64
-    requires { ⌜ Laid (now p) × InRange x × (nondaily ≤ 2000000) × (daily ≤ 2000000) ⌝ }
-    ensures { λ r. ⌜ r ≡ least (energyRowsOf x nondaily daily (pointFrom (now (p .entry)))) ⌝ }
+    requires { ⌜ SoundPart (now p) × InRange x × (nondaily ≤ 2000000) × (daily ≤ 2000000) ⌝ }
+    ensures { λ r. ⌜ r ≡ least (energyRowsOf x nondaily daily (roomOf (now (p .entry))) (pointFrom (now (p .entry)))) ⌝ }
 {
     let kind = numbers::get(p, 1);
     if !point::fits_kind(kind, x.start, x.end) {
@@ -150,7 +151,8 @@ fn check(p: &[i64], x: RaisedNotice, nondaily: u64, daily: u64) -> u64
     if unusual(kind, nondaily, daily, x.energy) & (x.confirmed == 0) {
         return 9;
     }
-    if append & (48 <= numbers::get(p, 6)) {
+    let room = (p.len() - 48) / 4;
+    if append & (room as u64 <= numbers::get(p, 6)) {
         return 16;
     }
     0
@@ -159,7 +161,7 @@ fn check(p: &[i64], x: RaisedNotice, nondaily: u64, daily: u64) -> u64
 // The record in its place: an append behind the others, a replacement in the place of its predecessor, a recut in the
 // place of its predecessor and of all later records.
 fn enter_record(p: &mut [i64], x: RaisedNotice) -> Kept
-    requires { ⌜ Laid (now p) × InRange x × MayEnter 48 (entryFrom x) (pointFrom (now p)) ⌝ }
+    requires { ⌜ SoundPart (now p) × InRange x × MayEnter (roomOf (now p)) (entryFrom x) (pointFrom (now p)) ⌝ }
     ensures { λ r. ⌜ Recorded (now (p .entry)) x r (now (p .exit)) ⌝ }
 {
     let n = numbers::get(p, 6) as usize;
@@ -190,7 +192,7 @@ fn enter_record(p: &mut [i64], x: RaisedNotice) -> Kept
 // The pending request, once an append stands: by its end the User is registered from the next day on, or the request
 // lapses, or it stays.
 fn settle_request(p: &mut [i64], x: RaisedNotice) -> Settled
-    requires { ⌜ Laid (now p) × InRange x ⌝ }
+    requires { ⌜ SoundPart (now p) × InRange x ⌝ }
     ensures { λ r. ⌜ SettledTo (now (p .entry)) x r (now (p .exit)) ⌝ }
 {
     let n = numbers::get(p, 4) as usize;
@@ -213,7 +215,7 @@ fn settle_request(p: &mut [i64], x: RaisedNotice) -> Settled
 
 // A notice on its point's part, which a refusal leaves as found.
 fn enter(p: &mut [i64], x: RaisedNotice, nondaily: u64, daily: u64) -> EnergyAnswer
-    requires { ⌜ Laid (now p) × InRange x × (nondaily ≤ 2000000) × (daily ≤ 2000000) ⌝ }
+    requires { ⌜ SoundPart (now p) × InRange x × (nondaily ≤ 2000000) × (daily ≤ 2000000) ⌝ }
     ensures { λ r. ⌜ (energyNumbers r ≡ energyPart x nondaily daily (now (p .entry)) .0) × (now (p .exit) ≡ energyPart x nondaily daily (now (p .entry)) .1) × (energyRefused r ≡ refused (energyNumbers r)) ⌝ }
 {
     let row = check(p, x, nondaily, daily);
@@ -242,20 +244,21 @@ fn enter(p: &mut [i64], x: RaisedNotice, nondaily: u64, daily: u64) -> EnergyAns
 pub fn energy(t: &mut [i64], n: EnergyNotice) -> EnergyAnswer
     ensures { λ r. ⌜ (energyNumbers r ≡ energyCall (now (t .entry)) n .0) × (now (t .exit) ≡ energyCall (now (t .entry)) n .1) × (energyRefused r ≡ refused (energyNumbers r)) ⌝ }
 {
-    if !table::sound(t) {
+    let ed = table::edition(t);
+    if !table::sound(t, ed) {
         return EnergyAnswer::Refused(1);
     }
     let x = read(n);
     if !in_range(x) {
         return EnergyAnswer::Refused(2);
     }
-    let i = table::index_of(t, x.mirn);
-    if i == 32 {
+    let i = table::index_of(t, ed, x.mirn);
+    if i == ed.points {
         return EnergyAnswer::Refused(4);
     }
     let nondaily = numbers::get_energy(t, 1);
     let daily = numbers::get_energy(t, 2);
-    let a = 8 + 240 * i;
-    let b = a + 240;
+    let a = table::place(ed, i);
+    let b = table::place(ed, i + 1);
     enter(&mut t[a..b], x, nondaily, daily)
 }

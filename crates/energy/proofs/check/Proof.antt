@@ -1,80 +1,97 @@
-use Rattle.layout.specs.Layout.{pointFrom}
-use Rattle.energy.proofs.Refusals.{sent-6, sent-7, sent-8, sent-9, sent-16, sent-not, row6-is, row7-is, row8-is, row9-is, row16-is}
+use Rattle.energy.proofs.Refusals.{row6, row7, row8, row9, sent-6, sent-7, sent-8, sent-9, sent-16, sent-not, row6-is, row7-is, row8-is, row9-is, row16-is}
 use native.Mathlib.Omega.{arith}
-use mathlib.Core.Path.{sym, _∙_}
+use mathlib.Core.Bool.{false}
+use mathlib.Core.Path.{_≡_, sym, _∙_}
 use borrow.Author.Needs.{needs}
 use Rattle.energy.proofs.check.Statement.{statement}
 use Rattle.energy.proofs.check.Tie as tie
 
+-- what has passed at a place
+abbrev start : tie.Else1 → tie.Start
+start c = c .before .before .before
+
+abbrev else1 : tie.Else2 → tie.Else1
+else1 c = c .before .before .before .before
+
+abbrev else2 : tie.Else3 → tie.Else2
+else2 c = c .before .before .before
+
+abbrev else3 : tie.Else4 → tie.Else3
+else3 c = c .before .before .before
+
+past-6 : (c : tie.Else1) → let s = start c in row6 (s .args .x) (s .args .p .now) ≡ false
+past-6 c =
+    let s = start c in
+    sym (row6-is (s .pre .0) (s .args .x) _ (c .before .before .get .ensures .0) (c .before .fits-kind .ensures)) ∙ c .if1 .left
+
+past-7 : (c : tie.Else2) → let s = start (else1 c) in row7 (s .args .x) (s .args .p .now) ≡ false
+past-7 c =
+    let s = start (else1 c) in
+    sym (row7-is (s .pre .0) (s .args .x) (c .before .before .before .appends .ensures) _ (omega arith) (c .before .before .append-day .ensures)) ∙ c .if2 .left
+
+past-8 : (c : tie.Else3) → let s = start (else1 (else2 c)) in row8 (s .args .x) (s .args .p .now) ≡ false
+past-8 c =
+    let e = else1 (else2 c) in
+    let s = start e in
+    sym (row8-is (s .pre .0) (s .args .x) _ (past-6 e) (omega arith) (c .before .before .get2 .ensures .0) (c .before .no-off .ensures)) ∙ c .if3 .left
+
+past-9 : (c : tie.Else4)
+    → let s = start (else1 (else2 (else3 c))) in
+    row9 (s .args .x) (s .args .nondaily) (s .args .daily) (s .args .p .now) ≡ false
+past-9 c =
+    let e = else1 (else2 (else3 c)) in
+    let s = start e in
+    sym (row9-is (s .pre .0) (s .args .x) (s .args .nondaily) (s .args .daily) _ (e .before .before .get .ensures .0) (c .before .before .unusual .ensures)) ∙ c .if4 .left
+
 returns : tie.Need-returns
 returns c =
-    let z = c .before .before .before in
-    sent-6 (z .args .x) (z .args .nondaily) (z .args .daily) (pointFrom (z .args .p .now)) (sym (row6-is (z .pre .0) (z .args .x) _ (c .before .before .get .ensures .0) (c .before .fits-kind .ensures)) ∙ c .if1 .taken)
+    let s = c .before .before .before in
+    sent-6 (s .args .x) (s .args .nondaily) (s .args .daily) (s .args .p .now)
+    (sym (row6-is (s .pre .0) (s .args .x) _ (c .before .before .get .ensures .0) (c .before .fits-kind .ensures)) ∙ c .if1 .taken)
 
 returns-2 : tie.Need-returns-2
 returns-2 c =
-    let o = c .before .before .before .before in
-    let z = o .before .before .before in
-    let x = z .args .x in
-    let ok = z .pre .0 in
-    let e6 = sym (row6-is ok x _ (o .before .before .get .ensures .0) (o .before .fits-kind .ensures)) ∙ o .if1 .left in
-    sent-7 x (z .args .nondaily) (z .args .daily) (pointFrom (z .args .p .now)) e6
-    (sym (row7-is ok x (c .before .before .before .appends .ensures) _ (omega arith) (c .before .before .append-day .ensures)) ∙ c .if2 .taken)
+    let e = c .before .before .before .before in
+    let s = start e in
+    sent-7 (s .args .x) (s .args .nondaily) (s .args .daily) (s .args .p .now) (past-6 e)
+    (sym (row7-is (s .pre .0) (s .args .x) (c .before .before .before .appends .ensures) _ (omega arith) (c .before .before .append-day .ensures)) ∙ c .if2 .taken)
 
 returns-3 : tie.Need-returns-3
 returns-3 c =
-    let n = c .before .before .before in
-    let o = n .before .before .before .before in
-    let z = o .before .before .before in
-    let x = z .args .x in
-    let ok = z .pre .0 in
-    let e6 = sym (row6-is ok x _ (o .before .before .get .ensures .0) (o .before .fits-kind .ensures)) ∙ o .if1 .left in
-    let e7 = sym (row7-is ok x (n .before .before .before .appends .ensures) _ (omega arith) (n .before .before .append-day .ensures)) ∙ n .if2 .left in
-    sent-8 x (z .args .nondaily) (z .args .daily) (pointFrom (z .args .p .now)) e6 e7
-    (sym (row8-is ok x _ e6 (omega arith) (c .before .before .get2 .ensures .0) (c .before .no-off .ensures)) ∙ c .if3 .taken)
+    let f = c .before .before .before in
+    let e = else1 f in
+    let s = start e in
+    sent-8 (s .args .x) (s .args .nondaily) (s .args .daily) (s .args .p .now) (past-6 e) (past-7 f)
+    (sym (row8-is (s .pre .0) (s .args .x) _ (past-6 e) (omega arith) (c .before .before .get2 .ensures .0) (c .before .no-off .ensures)) ∙ c .if3 .taken)
 
 returns-4 : tie.Need-returns-4
 returns-4 c =
-    let m = c .before .before .before in
-    let n = m .before .before .before in
-    let o = n .before .before .before .before in
-    let z = o .before .before .before in
-    let x = z .args .x in
-    let ok = z .pre .0 in
-    let e6 = sym (row6-is ok x _ (o .before .before .get .ensures .0) (o .before .fits-kind .ensures)) ∙ o .if1 .left in
-    let e7 = sym (row7-is ok x (n .before .before .before .appends .ensures) _ (omega arith) (n .before .before .append-day .ensures)) ∙ n .if2 .left in
-    let e8 = sym (row8-is ok x _ e6 (omega arith) (m .before .before .get2 .ensures .0) (m .before .no-off .ensures)) ∙ m .if3 .left in
-    sent-9 x (z .args .nondaily) (z .args .daily) (pointFrom (z .args .p .now)) e6 e7 e8 (sym (row9-is ok x (z .args .nondaily) (z .args .daily) _ (o .before .before .get .ensures .0) (c .before .before .unusual .ensures)) ∙ c .if4 .taken)
+    let g = c .before .before .before in
+    let f = else2 g in
+    let e = else1 f in
+    let s = start e in
+    sent-9 (s .args .x) (s .args .nondaily) (s .args .daily) (s .args .p .now) (past-6 e) (past-7 f) (past-8 g)
+    (sym (row9-is (s .pre .0) (s .args .x) (s .args .nondaily) (s .args .daily) _ (e .before .before .get .ensures .0) (c .before .before .unusual .ensures)) ∙ c .if4 .taken)
 
 returns-5 : tie.Need-returns-5
 returns-5 c =
-    let m = c .before .before .before .before .before in
-    let n = m .before .before .before in
-    let o = n .before .before .before .before in
-    let z = o .before .before .before in
-    let x = z .args .x in
-    let ok = z .pre .0 in
-    let e6 = sym (row6-is ok x _ (o .before .before .get .ensures .0) (o .before .fits-kind .ensures)) ∙ o .if1 .left in
-    let e7 = sym (row7-is ok x (n .before .before .before .appends .ensures) _ (omega arith) (n .before .before .append-day .ensures)) ∙ n .if2 .left in
-    let e8 = sym (row8-is ok x _ e6 (omega arith) (m .before .before .get2 .ensures .0) (m .before .no-off .ensures)) ∙ m .if3 .left in
-    let l = c .before .before in
-    sent-16 x (z .args .nondaily) (z .args .daily) (pointFrom (z .args .p .now)) e6 e7 e8 (sym (row9-is ok x (z .args .nondaily) (z .args .daily) _ (o .before .before .get .ensures .0) (l .before .before .unusual .ensures)) ∙ l .if4 .left)
-    (sym (row16-is ok x (n .before .before .before .appends .ensures) _ (c .before .get3 .ensures .0)) ∙ c .if5 .taken)
+    let h = c .before .before in
+    let g = else3 h in
+    let f = else2 g in
+    let e = else1 f in
+    let s = start e in
+    sent-16 (s .args .x) (s .args .nondaily) (s .args .daily) (s .args .p .now) (past-6 e) (past-7 f) (past-8 g) (past-9 h)
+    (sym (row16-is (s .pre .0) (s .args .x) (f .before .before .before .appends .ensures) _ (c .before .get3 .ensures .0)) ∙ c .if5 .taken)
 
 returns-6 : tie.Need-returns-6
 returns-6 c =
-    let m = c .before .before .before .before .before in
-    let n = m .before .before .before in
-    let o = n .before .before .before .before in
-    let z = o .before .before .before in
-    let x = z .args .x in
-    let ok = z .pre .0 in
-    let e6 = sym (row6-is ok x _ (o .before .before .get .ensures .0) (o .before .fits-kind .ensures)) ∙ o .if1 .left in
-    let e7 = sym (row7-is ok x (n .before .before .before .appends .ensures) _ (omega arith) (n .before .before .append-day .ensures)) ∙ n .if2 .left in
-    let e8 = sym (row8-is ok x _ e6 (omega arith) (m .before .before .get2 .ensures .0) (m .before .no-off .ensures)) ∙ m .if3 .left in
-    let l = c .before .before in
-    sent-not x (z .args .nondaily) (z .args .daily) (pointFrom (z .args .p .now)) e6 e7 e8 (sym (row9-is ok x (z .args .nondaily) (z .args .daily) _ (o .before .before .get .ensures .0) (l .before .before .unusual .ensures)) ∙ l .if4 .left)
-    (sym (row16-is ok x (n .before .before .before .appends .ensures) _ (c .before .get3 .ensures .0)) ∙ c .if5 .left)
+    let h = c .before .before in
+    let g = else3 h in
+    let f = else2 g in
+    let e = else1 f in
+    let s = start e in
+    sent-not (s .args .x) (s .args .nondaily) (s .args .daily) (s .args .p .now) (past-6 e) (past-7 f) (past-8 g) (past-9 h)
+    (sym (row16-is (s .pre .0) (s .args .x) (f .before .before .before .appends .ensures) _ (c .before .get3 .ensures .0)) ∙ c .if5 .left)
 
 pub check-spec : {M : Type 1} → statement M
 check-spec =
@@ -88,6 +105,6 @@ check-spec =
     returns-3
     (λ c κs. search needs)
     returns-4
-    (λ c κs. search needs)
+    (λ c. search needs) (λ c κs. search needs)
     returns-5
     returns-6)

@@ -2,7 +2,7 @@ use Rattle.numbers.proofs.Answers.{row-refuses}
 use mathlib.Core.Path.{refl}
 use native.Mathlib.Omega.{arith}
 use borrow.Author.Needs.{needs}
-use Rattle.energy.proofs.Entered.{refused, may, then-laid, corrected, entered}
+use Rattle.energy.proofs.Entered.{refused, may, then-sound, corrected, entered}
 use Rattle.energy.proofs.enter.Statement.{statement}
 use Rattle.energy.proofs.enter.Tie as tie
 
@@ -34,7 +34,7 @@ settle-request-requires c κs =
     let l = r .before .before in
     let k = l .before in
     let s = k .before .before in
-    (then-laid (s .pre .0) (s .args .x) (s .pre .1) (s .args .nondaily) (s .args .daily) _ (k .check .ensures) (l .if1 .left) (r .enter-record .ensures), s .pre .1)
+    (then-sound (s .pre .0) (s .args .x) (s .pre .1) (s .args .nondaily) (s .args .daily) _ (k .check .ensures) (l .if1 .left) (r .enter-record .ensures), s .pre .1)
 
 returns-3 : tie.Need-returns-3
 returns-3 c =
