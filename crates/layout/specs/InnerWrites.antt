@@ -5,6 +5,7 @@ use lib.IntN.{ℤ, pos, negsuc}
 use lib.ListN.{set, take, drop}
 use Rattle.daybook.specs.declared.Edition.{Edition}
 use Rattle.daybook.specs.Book.{Entry, Facts}
+use Rattle.layout.specs.Places.{pointsPlace, mirnPlace, kindPlace, installPlace, basePlace, regCount, offCount, recCount, pendingUser, pendingFirst, pendingLast, recLength, regPlace, offPlace, recPlace}
 use Rattle.layout.specs.Layout.{stride, placeOf, partOf}
 
 -- The table with p for the numbers of point i.
@@ -19,31 +20,31 @@ cleared t a (suc n) = set (cleared t a n) (a + n) (pos 0)
 -- The four numbers of record j.
 unfoldable pub putRecord : List ℤ → ℕ → Entry → List ℤ
 putRecord p j x =
-    set (set (set (set p (48 + 4 * j) (pos (x .start))) (48 + 4 * j + 1) (pos (x .end))) (48 + 4 * j + 2) (x .energy))
-    (48 + 4 * j + 3) (pos (x .type))
+    set (set (set (set p (recPlace j) (pos (x .start))) (recPlace j + 1) (pos (x .end))) (recPlace j + 2) (x .energy))
+    (recPlace j + 3) (pos (x .type))
 
 -- Record n, and n + 1 records.
 unfoldable pub appendRecord : List ℤ → ℕ → Entry → List ℤ
-appendRecord p n x = set (putRecord p n x) 6 (pos (n + 1))
+appendRecord p n x = set (putRecord p n x) recCount (pos (n + 1))
 
 -- The records j to n - 1 are 0, and j records are left.
 unfoldable pub cutRecords : List ℤ → ℕ → ℕ → List ℤ
-cutRecords p j n = set (cleared p (48 + 4 * j) (4 * (n - j))) 6 (pos j)
+cutRecords p j n = set (cleared p (recPlace j) (recLength * (n - j))) recCount (pos j)
 
 -- Registration n, of User u from day d on, and n + 1 registrations.
 unfoldable pub appendRegistration : List ℤ → ℕ → ℕ → ℕ → List ℤ
-appendRegistration p n d u = set (set (set p (16 + 2 * n) (pos d)) (16 + 2 * n + 1) (pos u)) 4 (pos (n + 1))
+appendRegistration p n d u = set (set (set p (regPlace n) (pos d)) (regPlace n + 1) (pos u)) regCount (pos (n + 1))
 
 -- Off span n from day d on, still off, and n + 1 spans.
 unfoldable pub openSpan : List ℤ → ℕ → ℕ → List ℤ
-openSpan p n d = set (set (set p (32 + 2 * n) (pos d)) (32 + 2 * n + 1) (negsuc 0)) 5 (pos (n + 1))
+openSpan p n d = set (set (set p (offPlace n) (pos d)) (offPlace n + 1) (negsuc 0)) offCount (pos (n + 1))
 
 -- Day d is the on day of span k.
 unfoldable pub closeSpan : List ℤ → ℕ → ℕ → List ℤ
-closeSpan p k d = set p (32 + 2 * k + 1) (pos d)
+closeSpan p k d = set p (offPlace k + 1) (pos d)
 
 unfoldable pub setPending : List ℤ → ℕ → ℕ → ℕ → List ℤ
-setPending p user first last = set (set (set p 7 (pos user)) 8 (pos first)) 9 (pos last)
+setPending p user first last = set (set (set p pendingUser (pos user)) pendingFirst (pos first)) pendingLast (pos last)
 
 abbrev pub clearPending : List ℤ → List ℤ
 clearPending p = setPending p 0 0 0
@@ -52,8 +53,9 @@ clearPending p = setPending p 0 0 0
 unfoldable pub openPoint : List ℤ → Facts → ℕ → List ℤ
 openPoint p f u =
     appendRegistration
-    (set (set (set (set p 0 (pos (f .mirn))) 1 (pos (f .kind))) 2 (pos (f .install))) 3 (pos (f .base))) 0 (f .install) u
+    (set (set (set (set p mirnPlace (pos (f .mirn))) kindPlace (pos (f .kind))) installPlace (pos (f .install)))
+    basePlace (pos (f .base))) 0 (f .install) u
 
 -- Point n, and n + 1 points.
 unfoldable pub appendPoint : Edition → List ℤ → ℕ → Facts → ℕ → List ℤ
-appendPoint ed t n f u = set (withPart ed t n (openPoint (partOf ed t n) f u)) 0 (pos (n + 1))
+appendPoint ed t n f u = set (withPart ed t n (openPoint (partOf ed t n) f u)) pointsPlace (pos (n + 1))

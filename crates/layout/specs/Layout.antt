@@ -6,8 +6,9 @@ use lib.IntN.{ℤ, pos, negsuc}
 use lib.ListN.{length, getD, take, drop, replicate}
 use Rattle.numbers.specs.Naturals.{natOf}
 use Rattle.daybook.specs.declared.Edition.{Edition}
-use Rattle.daybook.specs.Book.{Entry, Pending, Point, Book, records, registrations, spans}
+use Rattle.daybook.specs.Book.{Entry, Pending, Facts, Point, Book, records, registrations, spans}
 use Rattle.lists.specs.Lists.{Lists, Register, bookOf}
+use Rattle.layout.specs.Places.{pointsPlace, nondailyPlace, dailyPlace, headerLength, mirnPlace, kindPlace, installPlace, basePlace, regCount, offCount, recCount, pendingUser, pendingFirst, pendingLast, sparePlace, regsPlace, offsPlace, recsPlace, regLength, offLength, recLength, recPlace}
 
 -- ---- editions and places
 
@@ -15,13 +16,13 @@ use Rattle.lists.specs.Lists.{Lists, Register, bookOf}
 abbrev pub tableLength : ℕ
 tableLength = 7688
 
--- How many numbers a point has: records start at place 48, four numbers each.
+-- How many numbers a point has.
 abbrev pub stride : Edition → ℕ
-stride ed = 48 + 4 * ed .records
+stride ed = recPlace (ed .records)
 
 -- Where point i starts.
 abbrev pub placeOf : Edition → ℕ → ℕ
-placeOf ed i = 8 + stride ed * i
+placeOf ed i = headerLength + stride ed * i
 
 -- An edition whose points fit the table, and their shares an answer table of 32 numbers.
 pub record Fits (ed : Edition) : Type 0 where
@@ -70,20 +71,20 @@ pendingOrZeros none = record { user = 0; first = 0; last = 0 }
 pendingOrZeros (some q) = q
 
 -- The first sixteen places of a point: MIRN, kind, install, base load, how many registrations, off spans and records,
--- pending User, first, last, six zeros.
+-- pending User, first, last, zeros.
 unfoldable pub headNumbers : Lists → List ℤ
 headNumbers q =
     pos (q .facts .mirn) ∷ pos (q .facts .kind) ∷ pos (q .facts .install) ∷ pos (q .facts .base)
     ∷ pos (length (q .regs)) ∷ pos (length (q .offs)) ∷ pos (length (q .recs))
     ∷ pos (pendingOrZeros (q .pending) .user) ∷ pos (pendingOrZeros (q .pending) .first)
     ∷ pos (pendingOrZeros (q .pending) .last)
-    ∷ replicate 6 (pos 0)
+    ∷ replicate (regsPlace - sparePlace) (pos 0)
 
--- From 16 registrations, from 32 off spans, from 48 records.
+-- Then registrations, off spans and records.
 unfoldable pub pointNumbers : ℕ → Lists → List ℤ
 pointNumbers room q =
-    headNumbers q ++ (pad 16 (regNumbers (q .regs)) ++ (pad 16 (offNumbers (q .offs))
-    ++ pad (4 * room) (recNumbers (q .recs))))
+    headNumbers q ++ (pad (offsPlace - regsPlace) (regNumbers (q .regs))
+    ++ (pad (recsPlace - offsPlace) (offNumbers (q .offs)) ++ pad (recLength * room) (recNumbers (q .recs))))
 
 unfoldable pub pointsNumbers : ℕ → List Lists → List ℤ
 pointsNumbers room [] = []
@@ -93,7 +94,7 @@ pointsNumbers room (q ∷ qs) = pointNumbers room q ++ pointsNumbers room qs
 unfoldable pub layout : Edition → Register → List ℤ
 layout ed R =
     pad tableLength
-    (pad 8 (pos (length (R .points)) ∷ R .nondaily ∷ R .daily ∷ []) ++ pointsNumbers (ed .records) (R .points))
+    (pad headerLength (pos (length (R .points)) ∷ R .nondaily ∷ R .daily ∷ []) ++ pointsNumbers (ed .records) (R .points))
 
 -- ---- from numbers to lists
 
@@ -103,7 +104,7 @@ numAt t i = natOf (getD t i (pos 0))
 
 unfoldable pub regsFrom : ℕ → List ℤ → List (ℕ × ℕ)
 regsFrom zero t = []
-regsFrom (suc n) t = (numAt t 0, numAt t 1) ∷ regsFrom n (drop 2 t)
+regsFrom (suc n) t = (numAt t 0, numAt t 1) ∷ regsFrom n (drop regLength t)
 
 -- -1 is still off; any other negative number is above every bound.
 abbrev pub onOf : ℤ → Option ℕ
@@ -113,26 +114,35 @@ onOf (negsuc (suc d)) = some (2 ^ 63)
 
 unfoldable pub offsFrom : ℕ → List ℤ → List (ℕ × Option ℕ)
 offsFrom zero t = []
-offsFrom (suc n) t = (numAt t 0, onOf (getD t 1 (pos 0))) ∷ offsFrom n (drop 2 t)
+offsFrom (suc n) t = (numAt t 0, onOf (getD t 1 (pos 0))) ∷ offsFrom n (drop offLength t)
 
 unfoldable pub recsFrom : ℕ → List ℤ → List Entry
 recsFrom zero t = []
 recsFrom (suc n) t =
-    record { start = numAt t 0; end = numAt t 1; energy = getD t 2 (pos 0); type = numAt t 3 } ∷ recsFrom n (drop 4 t)
+    record { start = numAt t 0; end = numAt t 1; energy = getD t 2 (pos 0); type = numAt t 3 } ∷ recsFrom n (drop recLength t)
 
 -- A pending User of 0 is none.
 abbrev pub pendingFrom : ℕ → ℕ → ℕ → Option Pending
 pendingFrom zero first last = none
 pendingFrom (suc u) first last = some (record { user = suc u; first = first; last = last })
 
+abbrev pub factsAt : List ℤ → Facts
+factsAt p =
+    record {
+      mirn = numAt p mirnPlace;
+      kind = numAt p kindPlace;
+      install = numAt p installPlace;
+      base = numAt p basePlace;
+    }
+
 unfoldable pub pointFrom : List ℤ → Lists
 pointFrom p =
     record {
-      facts = record { mirn = numAt p 0; kind = numAt p 1; install = numAt p 2; base = numAt p 3 };
-      regs = regsFrom (numAt p 4) (drop 16 p);
-      offs = offsFrom (numAt p 5) (drop 32 p);
-      recs = recsFrom (numAt p 6) (drop 48 p);
-      pending = pendingFrom (numAt p 7) (numAt p 8) (numAt p 9);
+      facts = factsAt p;
+      regs = regsFrom (numAt p regCount) (drop regsPlace p);
+      offs = offsFrom (numAt p offCount) (drop offsPlace p);
+      recs = recsFrom (numAt p recCount) (drop recsPlace p);
+      pending = pendingFrom (numAt p pendingUser) (numAt p pendingFirst) (numAt p pendingLast);
     }
 
 unfoldable pub pointsFrom : Edition → ℕ → List ℤ → List Lists
@@ -142,9 +152,9 @@ pointsFrom ed (suc n) t = pointFrom (take (stride ed) t) ∷ pointsFrom ed n (dr
 unfoldable pub registerOf : Edition → List ℤ → Register
 registerOf ed t =
     record {
-      nondaily = getD t 1 (pos 0);
-      daily = getD t 2 (pos 0);
-      points = pointsFrom ed (numAt t 0) (drop 8 t);
+      nondaily = getD t nondailyPlace (pos 0);
+      daily = getD t dailyPlace (pos 0);
+      points = pointsFrom ed (numAt t pointsPlace) (drop headerLength t);
     }
 
 -- ---- tables and books

@@ -2,7 +2,7 @@
 use mathlib.Core.Bool.{Bool, true, false, not, _&&_, cond}
 use mathlib.Core.Option.{Option}
 use mathlib.Core.List.{List, [], _∷_, _++_}
-use Prim.Native.Nat.{ℕ, _+_, _-_, _*_, _/_}
+use Prim.Native.Nat.{ℕ, _+_, _-_, _/_}
 use lib.Dec.{leb, ltb, eqb}
 use lib.IntN.{ℤ, pos, negsuc}
 use lib.ListN.{length, getD, drop}
@@ -13,6 +13,7 @@ use Rattle.daybook.specs.declared.Edition.{Edition}
 use Rattle.daybook.specs.Book.{Entry, Pending, Facts, lastOf, appendDay}
 use Rattle.daybook.specs.Notices.{fitsKind, isRange, offWithin}
 use Rattle.lists.specs.Lists.{Lists, pointOf}
+use Rattle.layout.specs.Places.{pointsPlace, nondailyPlace, dailyPlace, headerSpare, headerLength, regCount, offCount, recCount, pendingUser, sparePlace, regsPlace, offsPlace, recsPlace, recLength, regPlace, offPlace, recPlace}
 use Rattle.layout.specs.Layout.{tableLength, placeOf, partOf, numAt, pointFrom, pointsFrom}
 
 unfoldable pub each : {A : Type 0} → (A → Bool) → List A → Bool
@@ -83,14 +84,15 @@ zeros t a b = all (λ k. eqb (numAt t (a + k)) 0) (b - a)
 -- Registrations are 1 to 8, off spans 0 to 8, records 0 to as many as the part holds.
 unfoldable pub countsSound : List ℤ → Bool
 countsSound p =
-    leb 1 (numAt p 4) && leb (numAt p 4) 8 && leb (numAt p 5) 8 && leb (numAt p 6) ((length p - 48) / 4)
+    leb 1 (numAt p regCount) && leb (numAt p regCount) 8 && leb (numAt p offCount) 8
+    && leb (numAt p recCount) ((length p - recsPlace) / recLength)
 
 -- Unused places are 0; without a pending User, all three are 0.
 unfoldable pub unusedZero : List ℤ → Bool
 unusedZero p =
-    zeros p 10 16 && zeros p (16 + 2 * numAt p 4) 32 && zeros p (32 + 2 * numAt p 5) 48
-    && zeros p (48 + 4 * numAt p 6) (length p)
-    && cond (eqb (numAt p 7) 0) (zeros p 7 10) true
+    zeros p sparePlace regsPlace && zeros p (regPlace (numAt p regCount)) offsPlace
+    && zeros p (offPlace (numAt p offCount)) recsPlace && zeros p (recPlace (numAt p recCount)) (length p)
+    && cond (eqb (numAt p pendingUser) 0) (zeros p pendingUser sparePlace) true
 
 unfoldable pub partSound : List ℤ → Bool
 partSound p = countsSound p && unusedZero p && listsSound (pointFrom p)
@@ -102,7 +104,8 @@ mirnsDiffer (q ∷ qs) = each (λ (r : Lists). not (eqb (q .facts .mirn) (r .fac
 -- The header, every point, MIRNs that differ, and 0 in all that is left.
 unfoldable pub sound : Edition → List ℤ → Bool
 sound ed t =
-    leb tableLength (length t) && leb (numAt t 0) (ed .points)
-    && isRange (getD t 1 (pos 0)) && isRange (getD t 2 (pos 0)) && zeros t 3 8
-    && all (λ i. partSound (partOf ed t i)) (numAt t 0) && mirnsDiffer (pointsFrom ed (numAt t 0) (drop 8 t))
-    && zeros t (placeOf ed (numAt t 0)) tableLength
+    leb tableLength (length t) && leb (numAt t pointsPlace) (ed .points)
+    && isRange (getD t nondailyPlace (pos 0)) && isRange (getD t dailyPlace (pos 0)) && zeros t headerSpare headerLength
+    && all (λ i. partSound (partOf ed t i)) (numAt t pointsPlace)
+    && mirnsDiffer (pointsFrom ed (numAt t pointsPlace) (drop headerLength t))
+    && zeros t (placeOf ed (numAt t pointsPlace)) tableLength

@@ -10,14 +10,14 @@ use lib.IntN.{ℤ}
 use Rattle.numbers.proofs.Bools.{both, join, iff}
 use Rattle.lists.specs.Lists.{Lists}
 use Rattle.lists.specs.InnerWell.{Regs, StartsOn, Spans, Recs, PendingOk, Well}
-use Rattle.layout.specs.Layout.{numAt, pointFrom, pointNumbers}
+use Rattle.layout.specs.Layout.{numAt, factsAt, pointFrom, pointNumbers}
 use Rattle.layout.specs.Sound.{countsSound, factsSound, unusedZero, listsSound, partSound}
 use Rattle.layout.proofs.Cells.{place-user, place-first, place-last}
 use Rattle.layout.proofs.RowsSound.{facts-sound, facts-ok}
 use Rattle.layout.proofs.RowsLaid.{length-regsFrom, length-offsFrom, length-recsFrom}
 use Rattle.layout.proofs.ListsSound.{well-lists-sound}
 use Rattle.layout.proofs.PartLays.{part-lays, Counts, counts}
-use Rattle.point.specs.InnerTests.{factsAt, regsOk, spansOk, recsOk, pendingOk, rowsOk, testPart, regRow, spanRow, recRow}
+use Rattle.point.specs.InnerTests.{regsOk, spansOk, recsOk, pendingOk, rowsOk, testPart, regRow, spanRow, recRow}
 use Rattle.point.proofs.Rows.{rowsAt, regs-read, offs-read, recs-read}
 use Rattle.point.proofs.Registrations.{registrations-well, registrations-pass}
 use Rattle.point.proofs.Spans.{spans-tested, spans-tests}

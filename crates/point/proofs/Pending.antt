@@ -4,7 +4,7 @@ use mathlib.Core.Path.{_≡_, refl, sym, ap, ap₂, _∙_}
 use mathlib.Core.Bool.{true, not, _&&_, _||_, cond}
 use mathlib.Core.Option.{Option}
 use mathlib.Core.List.{List}
-use Prim.Native.Nat.{ℕ, zero, suc, _+_, _*_, _≤_}
+use Prim.Native.Nat.{ℕ, zero, suc, _-_, _≤_}
 use native.Mathlib.Omega.{arith}
 use borrow.Author.Tests.{leb-true, le-leb, eq-eqb, ne-eqb, not-true}
 use lib.Dec.{eqb, leb}
@@ -15,7 +15,7 @@ use Rattle.daybook.specs.Book.{Pending}
 use Rattle.lists.specs.InnerWell.{PendingOk, nopending, pending}
 use Rattle.layout.specs.Layout.{numAt, pendingOrZeros, pendingFrom}
 use Rattle.layout.specs.Sound.{zeros}
-use Rattle.point.specs.InnerTests.{pendingOk, regRow}
+use Rattle.point.specs.InnerTests.{regUser, pendingOk, regRow}
 use Rattle.point.proofs.Rows.{rowsAt, length-rows}
 use Rattle.point.proofs.Registrations.{latest-user}
 
@@ -28,7 +28,7 @@ module _ (p : List ℤ) (n : ℕ) (some-regs : 1 ≤ n) where
   pending-well h = go (numAt p 7) h
     where
       go : (u : ℕ)
-          → (eqb u 0 || leb u 16 && not (eqb (numAt p (15 + 2 * n)) u) && leb (numAt p 8) (numAt p 9) && leb (numAt p 9) 39999 && leb n 7) ≡ true
+          → (eqb u 0 || leb u 16 && not (eqb (regUser p (n - 1)) u) && leb (numAt p 8) (numAt p 9) && leb (numAt p 9) 39999 && leb n 7) ≡ true
           → PendingOk regs (pendingFrom u (numAt p 8) (numAt p 9))
       go zero q = nopending
       go (suc u) q =

@@ -3,7 +3,7 @@ use mathlib.Core.Path.{_≡_, refl, ap, _∙_}
 use mathlib.Core.Bool.{true, not}
 use mathlib.Core.Option.{Option}
 use mathlib.Core.List.{List}
-use Prim.Native.Nat.{ℕ, zero, suc, _+_, _*_, _≤_}
+use Prim.Native.Nat.{ℕ, zero, suc, _+_, _-_, _≤_}
 use native.Mathlib.Omega.{arith}
 use borrow.Author.Tests.{leb-true, eqb-true, eq-eqb, le-leb, not-true}
 use lib.IntN.{ℤ}
@@ -58,11 +58,11 @@ module _ (p : List ℤ) where
   registrations-pass n r s = join (eq-eqb _ _ (starts-at n (numAt p 2) s .1)) (regs-pass n 0 0 (numAt p 2) r)
 
   -- the latest User stands at the last row
-  pub latest-user : (n : ℕ) → 1 ≤ n → latestOf (rowsAt (regRow p) 0 n) .1 ≡ numAt p (15 + 2 * n)
+  pub latest-user : (n : ℕ) → 1 ≤ n → latestOf (rowsAt (regRow p) 0 n) .1 ≡ regUser p (n - 1)
   unfolding latestOf
   latest-user zero l = absurd (omega arith)
   latest-user (suc n) l =
       let regs : List (ℕ × ℕ) = rowsAt (regRow p) 0 (suc n) in
-      let e : 16 + 2 * (0 + n) + 1 ≡ 15 + 2 * suc n = omega arith in
+      let e : 0 + n ≡ suc n - 1 = omega arith in
       ap (λ (o : Option (ℕ × ℕ)). maybe (0, 0) (λ x. x) o .1) (last-at (0, 0) regs n (length-rows (regRow p) 0 (suc n)))
-      ∙ ap (λ (r : ℕ × ℕ). r .1) (getD-rows (regRow p) (suc n) 0 n (0, 0) (omega arith)) ∙ ap (numAt p) e
+      ∙ ap (λ (r : ℕ × ℕ). r .1) (getD-rows (regRow p) (suc n) 0 n (0, 0) (omega arith)) ∙ ap (regUser p) e

@@ -4,15 +4,16 @@ use mathlib.Core.Path.{_≡_}
 use mathlib.Core.Bool.{Bool, true, not, _&&_, _||_, cond}
 use mathlib.Core.Option.{Option, none, some}
 use mathlib.Core.List.{List}
-use Prim.Native.Nat.{ℕ, zero, suc, _+_, _*_, _≤_, _<_, _^_}
+use Prim.Native.Nat.{ℕ, zero, suc, _+_, _-_, _≤_, _<_, _^_}
 use lib.Dec.{leb, ltb, eqb}
 use lib.ListN.{length, getD}
 use lib.IntN.{ℤ, pos, negsuc}
 use Rattle.numbers.specs.InnerEnergies.{biasOf}
 use Rattle.numbers.specs.Rows.{all}
-use Rattle.daybook.specs.Book.{Facts, Entry}
+use Rattle.daybook.specs.Book.{Entry}
 use Rattle.daybook.specs.Notices.{fitsKind}
-use Rattle.layout.specs.Layout.{numAt, onOf}
+use Rattle.layout.specs.Places.{kindPlace, installPlace, regCount, offCount, recCount, pendingUser, pendingFirst, pendingLast, recsPlace, regPlace, offPlace, recPlace}
+use Rattle.layout.specs.Layout.{numAt, onOf, factsAt}
 use Rattle.layout.specs.Sound.{factsSound, countsSound, unusedZero}
 
 -- Each of the n rows from row k on passes its test, beside what the row before it leaves.
@@ -20,31 +21,28 @@ unfoldable pub rows : {S : Type 0} → (S → ℕ → Bool) → (S → ℕ → S
 rows test next s k zero = true
 rows test next s k (suc n) = test s k && rows test next (next s k) (suc k) n
 
--- ---- facts and counts
-
-abbrev pub factsAt : List ℤ → Facts
-factsAt p = record { mirn = numAt p 0; kind = numAt p 1; install = numAt p 2; base = numAt p 3 }
+-- ---- counts
 
 -- What the counts say, for arithmetic: the rows lie in the part.
 pub record Counted (p : List ℤ) : Type 0 where
-  pub long : 48 ≤ length p
-  pub someRegs : 1 ≤ numAt p 4
-  pub fewRegs : numAt p 4 ≤ 8
-  pub fewSpans : numAt p 5 ≤ 8
-  pub fewRecs : 48 + 4 * numAt p 6 ≤ length p
+  pub long : recsPlace ≤ length p
+  pub someRegs : 1 ≤ numAt p regCount
+  pub fewRegs : numAt p regCount ≤ 8
+  pub fewSpans : numAt p offCount ≤ 8
+  pub fewRecs : recPlace (numAt p recCount) ≤ length p
 
 -- The bits of a number n, whose marker is 2 ^ 63 and whose sign bit they may have: both are below 2 ^ 63 or neither.
 pub record Bits (n bits : ℕ) : Type 0 where
   pub same : n < 2 ^ 63 → bits ≡ n
   pub large : 2 ^ 63 ≤ n → 2 ^ 63 ≤ bits
 
--- ---- registrations: row k is (start, User) at 16 + 2 × k
+-- ---- registrations
 
 abbrev pub regStart : List ℤ → ℕ → ℕ
-regStart p k = numAt p (16 + 2 * k)
+regStart p k = numAt p (regPlace k)
 
 abbrev pub regUser : List ℤ → ℕ → ℕ
-regUser p k = numAt p (16 + 2 * k + 1)
+regUser p k = numAt p (regPlace k + 1)
 
 -- On day lo or later, with another User than u.
 abbrev pub regOk : ℕ × ℕ → ℕ → ℕ → Bool
@@ -58,9 +56,9 @@ regLeaves p s k = (regUser p k, suc (regStart p k))
 
 -- The first registration starts on the install day.
 unfoldable pub regsOk : List ℤ → ℕ → Bool
-regsOk p n = eqb (regStart p 0) (numAt p 2) && rows (regAt p) (regLeaves p) (0, numAt p 2) 0 n
+regsOk p n = eqb (regStart p 0) (numAt p installPlace) && rows (regAt p) (regLeaves p) (0, numAt p installPlace) 0 n
 
--- ---- off spans: row k is (off day, on day) at 32 + 2 × k
+-- ---- off spans
 
 -- The day before which a span ends: 40,001 for -1, still off; a number that is no on day is the marker.
 abbrev pub untilOf : ℤ → ℕ
@@ -69,10 +67,10 @@ untilOf (negsuc zero) = 40001
 untilOf (negsuc (suc n)) = 2 ^ 63
 
 abbrev pub offDay : List ℤ → ℕ → ℕ
-offDay p k = numAt p (32 + 2 * k)
+offDay p k = numAt p (offPlace k)
 
 abbrev pub onDay : List ℤ → ℕ → ℕ
-onDay p k = untilOf (getD p (32 + 2 * k + 1) (pos 0))
+onDay p k = untilOf (getD p (offPlace k + 1) (pos 0))
 
 -- On day lo or later, and on again after that. No span can follow one that is still off.
 abbrev pub spanOk : ℕ → ℕ → ℕ → Bool
@@ -86,7 +84,7 @@ abbrev pub spanLeaves : List ℤ → ℕ → ℕ → ℕ
 spanLeaves p lo k = suc (onDay p k)
 
 unfoldable pub spansOk : List ℤ → ℕ → Bool
-spansOk p n = rows (spanOkAt p) (spanLeaves p) (numAt p 2) 0 n
+spansOk p n = rows (spanOkAt p) (spanLeaves p) (numAt p installPlace) 0 n
 
 -- The span's on day for a day in it.
 abbrev pub past : ℕ → ℕ → ℕ → ℕ
@@ -111,19 +109,19 @@ apartAt p a b k = apart a b (offDay p k) (onDay p k)
 unfoldable pub noOff : List ℤ → ℕ → ℕ → ℕ → Bool
 noOff p m a b = all (apartAt p a b) m
 
--- ---- records: row k is (start, end, energy, type) at 48 + 4 × k
+-- ---- records
 
 abbrev pub recStart : List ℤ → ℕ → ℕ
-recStart p k = numAt p (48 + 4 * k)
+recStart p k = numAt p (recPlace k)
 
 abbrev pub recEnd : List ℤ → ℕ → ℕ
-recEnd p k = numAt p (48 + 4 * k + 1)
+recEnd p k = numAt p (recPlace k + 1)
 
 abbrev pub recEnergy : List ℤ → ℕ → ℕ
-recEnergy p k = biasOf (getD p (48 + 4 * k + 2) (pos 0))
+recEnergy p k = biasOf (getD p (recPlace k + 2) (pos 0))
 
 abbrev pub recType : List ℤ → ℕ → ℕ
-recType p k = numAt p (48 + 4 * k + 3)
+recType p k = numAt p (recPlace k + 3)
 
 abbrev pub recInRange : ℕ → ℕ → ℕ → Bool
 recInRange end energy type = leb end 39999 && leb energy 2000000 && leb type 2
@@ -132,7 +130,7 @@ recInRange end energy type = leb end 39999 && leb energy 2000000 && leb type 2
 unfoldable pub recAt : List ℤ → ℕ → ℕ → ℕ → Bool
 recAt p m from k =
     recInRange (recEnd p k) (recEnergy p k) (recType p k)
-    && fitsKind (numAt p 1) (recStart p k) (recEnd p k)
+    && fitsKind (numAt p kindPlace) (recStart p k) (recEnd p k)
     && eqb (recStart p k) (firstOn p m from) && noOff p m (recStart p k) (recEnd p k)
 
 -- The off day of span j; past the last of m a number above every day.
@@ -153,21 +151,23 @@ abbrev pub recLeaves : List ℤ → ℕ → ℕ → ℕ
 recLeaves p from k = suc (recEnd p k)
 
 unfoldable pub recsOk : List ℤ → ℕ → ℕ → Bool
-recsOk p m n = rows (recAt p m) (recLeaves p) (numAt p 2) 0 n
+recsOk p m n = rows (recAt p m) (recLeaves p) (numAt p installPlace) 0 n
 
--- ---- the pending request: User, first, last at 7; without a User nothing more is asked here
+-- ---- the pending request; without a User nothing more is asked here
 
 unfoldable pub pendingOk : List ℤ → ℕ → Bool
 pendingOk p n =
-    eqb (numAt p 7) 0
-    || leb (numAt p 7) 16 && not (eqb (numAt p (15 + 2 * n)) (numAt p 7)) && leb (numAt p 8) (numAt p 9)
-    && leb (numAt p 9) 39999 && leb n 7
+    let user : ℕ = numAt p pendingUser in
+    eqb user 0
+    || leb user 16 && not (eqb (regUser p (n - 1)) user) && leb (numAt p pendingFirst) (numAt p pendingLast)
+    && leb (numAt p pendingLast) 39999 && leb n 7
 
 -- ---- the whole part
 
 unfoldable pub rowsOk : List ℤ → Bool
 rowsOk p =
-    regsOk p (numAt p 4) && spansOk p (numAt p 5) && recsOk p (numAt p 5) (numAt p 6) && pendingOk p (numAt p 4)
+    regsOk p (numAt p regCount) && spansOk p (numAt p offCount) && recsOk p (numAt p offCount) (numAt p recCount)
+    && pendingOk p (numAt p regCount)
 
 unfoldable pub testPart : List ℤ → Bool
 testPart p = countsSound p && factsSound (factsAt p) && unusedZero p && rowsOk p
@@ -182,8 +182,8 @@ abbrev pub regRow : List ℤ → ℕ → ℕ × ℕ
 regRow p k = (regStart p k, regUser p k)
 
 abbrev pub spanRow : List ℤ → ℕ → ℕ × Option ℕ
-spanRow p k = (offDay p k, onOf (getD p (32 + 2 * k + 1) (pos 0)))
+spanRow p k = (offDay p k, onOf (getD p (offPlace k + 1) (pos 0)))
 
 abbrev pub recRow : List ℤ → ℕ → Entry
 recRow p k =
-    record { start = recStart p k; end = recEnd p k; energy = getD p (48 + 4 * k + 2) (pos 0); type = recType p k }
+    record { start = recStart p k; end = recEnd p k; energy = getD p (recPlace k + 2) (pos 0); type = recType p k }

@@ -3,13 +3,13 @@
 // each once or twice; the spans, once tested, a second time beside the records, with a cursor on the next one.
 ghost use mathlib.Core.Path.{_≡_};
 ghost use mathlib.Core.Bool.{true};
-ghost use Prim.Native.Nat.{_+_, _*_, _%_, _<_, _≤_, _^_};
-ghost use lib.ListN.{length, getD};
-ghost use lib.IntN.{pos};
+ghost use Prim.Native.Nat.{_+_, _%_, _<_, _≤_, _^_};
+ghost use lib.ListN.{length};
 ghost use Rattle.daybook.specs.Notices.{fitsKind};
-ghost use Rattle.layout.specs.Layout.{numAt};
+ghost use Rattle.layout.specs.Places.{installPlace, recsPlace, offPlace, recPlace};
+ghost use Rattle.layout.specs.Layout.{numAt, factsAt};
 ghost use Rattle.layout.specs.Sound.{factsSound, countsSound, unusedZero, partSound, zeros};
-ghost use Rattle.point.specs.InnerTests.{factsAt, Counted, Bits, regsOk, untilOf, spansOk, past, firstOn, noOff, offFrom, recOn, recsOk, pendingOk, rowsOk};
+ghost use Rattle.point.specs.InnerTests.{Counted, Bits, regsOk, untilOf, onDay, spansOk, past, firstOn, noOff, offFrom, recOn, recsOk, pendingOk, rowsOk};
 
 // The day before which an off span ends; -1, still off, as 40,001.
 pub fn until(x: i64) -> u64
@@ -25,11 +25,11 @@ pub fn until(x: i64) -> u64
     0x8000_0000_0000_0000
 }
 
-pub fn get_until(p: &[i64], i: usize) -> u64
-    requires { ⌜ i < length (now p) ⌝ }
-    ensures { λ r. ⌜ (r ≡ untilOf (getD (now (p .entry)) i (pos 0))) × (r ≤ 2 ^ 63) ⌝ }
+pub fn on_day(p: &[i64], k: usize) -> u64
+    requires { ⌜ offPlace k + 1 < length (now p) ⌝ }
+    ensures { λ r. ⌜ (r ≡ onDay (now (p .entry)) k) × (r ≤ 2 ^ 63) ⌝ }
 {
-    until(p[i])
+    until(p[places::OFFS + places::OFF_LENGTH * k + 1])
 }
 
 // The bits of the number at place i: in a test beside days as good as the number, and read without a test of its sign.
@@ -56,58 +56,55 @@ pub fn zeros_in(p: &[i64], a: usize, b: usize) -> bool
 }
 
 fn counts_sound(p: &[i64]) -> bool
-    requires { ⌜ 48 ≤ length (now p) ⌝ }
+    requires { ⌜ recsPlace ≤ length (now p) ⌝ }
     ensures { λ r. ⌜ r ≡ countsSound (now (p .entry)) ⌝ }
 {
-    let regs = numbers::get(p, 4);
-    let room = (p.len() - 48) / 4;
-    (1 <= regs) & (regs <= 8) & (numbers::get(p, 5) <= 8) & (numbers::get(p, 6) <= room as u64)
+    let regs = places::registrations(p);
+    let room = (p.len() - places::RECS) / places::REC_LENGTH;
+    (1 <= regs) & (regs <= 8) & (places::spans(p) <= 8) & (places::records(p) <= room)
 }
 
 fn facts_sound(p: &[i64]) -> bool
-    requires { ⌜ 48 ≤ length (now p) ⌝ }
+    requires { ⌜ recsPlace ≤ length (now p) ⌝ }
     ensures { λ r. ⌜ r ≡ factsSound (factsAt (now (p .entry))) ⌝ }
 {
-    let mirn = numbers::get(p, 0);
+    let mirn = places::mirn(p);
     let numbered = (1 <= mirn) & (mirn <= 9999999999);
-    numbered
-        & (numbers::get(p, 1) <= 1)
-        & (numbers::get(p, 2) <= 39999)
-        & (numbers::get(p, 3) <= 10000)
+    numbered & (places::kind(p) <= 1) & (places::install(p) <= 39999) & (places::base(p) <= 10000)
 }
 
-// Places 10 to 15, unused rows and, without a pending User, the pending request.
+// Spare places, unused rows and, without a pending User, the pending request.
 fn unused_zero(p: &[i64]) -> bool
     requires { ⌜ Counted (now p) ⌝ }
     ensures { λ r. ⌜ r ≡ unusedZero (now (p .entry)) ⌝ }
 {
-    let regs = 16 + 2 * numbers::get(p, 4) as usize;
-    let spans = 32 + 2 * numbers::get(p, 5) as usize;
-    let recs = 48 + 4 * numbers::get(p, 6) as usize;
-    let zero = zeros_in(p, 10, 16)
-        & zeros_in(p, regs, 32)
-        & zeros_in(p, spans, 48)
+    let regs = places::REGS + places::REG_LENGTH * places::registrations(p);
+    let spans = places::OFFS + places::OFF_LENGTH * places::spans(p);
+    let recs = places::RECS + places::REC_LENGTH * places::records(p);
+    let zero = zeros_in(p, places::SPARE, places::REGS)
+        & zeros_in(p, regs, places::OFFS)
+        & zeros_in(p, spans, places::RECS)
         & zeros_in(p, recs, p.len());
-    if numbers::get(p, 7) == 0 {
-        return zero & zeros_in(p, 7, 10);
+    if places::pending_user(p) == 0 {
+        return zero & zeros_in(p, places::PENDING_USER, places::SPARE);
     }
     zero
 }
 
 // The first of n registrations starts on the install day, each other one after the one before it with another User.
 fn registrations_ok(p: &[i64], n: usize) -> bool
-    requires { ⌜ (n ≤ 8) × (48 ≤ length (now p)) ⌝ }
+    requires { ⌜ (n ≤ 8) × (recsPlace ≤ length (now p)) ⌝ }
     ensures { λ r. ⌜ r ≡ regsOk (now (p .entry)) n ⌝ }
 {
-    let install = numbers::get(p, 2);
-    if numbers::get(p, 16) != install {
+    let install = places::install(p);
+    if places::reg_start(p, 0) != install {
         return false;
     }
     let mut lo = install;
     let mut latest = 0;
     let mut k: usize = 0;
     while k < n {
-        let i = 16 + 2 * k;
+        let i = places::REGS + places::REG_LENGTH * k;
         let start = bits_at(p, i);
         let user = bits_at(p, i + 1);
         if !((lo <= start) & (start <= 40000) & (1 <= user) & (user <= 16) & (latest != user)) {
@@ -122,15 +119,14 @@ fn registrations_ok(p: &[i64], n: usize) -> bool
 
 // Each of n spans begins after the one before it has ended, and only the last is still off.
 fn spans_ok(p: &[i64], n: usize) -> bool
-    requires { ⌜ (n ≤ 8) × (48 ≤ length (now p)) ⌝ }
+    requires { ⌜ (n ≤ 8) × (recsPlace ≤ length (now p)) ⌝ }
     ensures { λ r. ⌜ r ≡ spansOk (now (p .entry)) n ⌝ }
 {
-    let mut lo = numbers::get(p, 2);
+    let mut lo = places::install(p);
     let mut k: usize = 0;
     while k < n {
-        let i = 32 + 2 * k;
-        let off = numbers::get(p, i);
-        let on = get_until(p, i + 1);
+        let off = places::off_day(p, k);
+        let on = on_day(p, k);
         if !((lo <= off) & (off <= 39999) & (off < on) & (on <= 40001)) {
             return false;
         }
@@ -152,14 +148,13 @@ fn past_span(off: u64, on: u64, d: u64) -> u64
 
 // The first day from d on that is in none of the first m spans; 40,001 if there is none.
 pub fn first_on(p: &[i64], m: usize, d: u64) -> u64
-    requires { ⌜ 32 + 2 * m ≤ length (now p) ⌝ }
+    requires { ⌜ offPlace m ≤ length (now p) ⌝ }
     ensures { λ r. ⌜ r ≡ firstOn (now (p .entry)) m d ⌝ }
 {
     let mut x = d;
     let mut k: usize = 0;
     while k < m {
-        let i = 32 + 2 * k;
-        x = past_span(numbers::get(p, i), get_until(p, i + 1), x);
+        x = past_span(places::off_day(p, k), on_day(p, k), x);
         k += 1;
     }
     x
@@ -167,13 +162,12 @@ pub fn first_on(p: &[i64], m: usize, d: u64) -> u64
 
 // Is none of the days a to b in one of the first m spans?
 pub fn no_off(p: &[i64], m: usize, a: u64, b: u64) -> bool
-    requires { ⌜ 32 + 2 * m ≤ length (now p) ⌝ }
+    requires { ⌜ offPlace m ≤ length (now p) ⌝ }
     ensures { λ r. ⌜ r ≡ noOff (now (p .entry)) m a b ⌝ }
 {
     let mut k: usize = 0;
     while k < m {
-        let i = 32 + 2 * k;
-        if !((b < numbers::get(p, i)) | (get_until(p, i + 1) <= a)) {
+        if !((b < places::off_day(p, k)) | (on_day(p, k) <= a)) {
             return false;
         }
         k += 1;
@@ -192,12 +186,12 @@ pub fn fits_kind(kind: u64, start: u64, end: u64) -> bool
 }
 
 // The off day of span j; past the last of m a number above every day.
-fn off_day(p: &[i64], m: usize, j: usize) -> u64
-    requires { ⌜ 32 + 2 * m ≤ length (now p) ⌝ }
+fn off_from(p: &[i64], m: usize, j: usize) -> u64
+    requires { ⌜ offPlace m ≤ length (now p) ⌝ }
     ensures { λ r. ⌜ r ≡ offFrom (now (p .entry)) m j ⌝ }
 {
     if j < m {
-        return numbers::get(p, 32 + 2 * j);
+        return places::off_day(p, j);
     }
     0xffff_ffff_ffff_ffff
 }
@@ -205,10 +199,10 @@ fn off_day(p: &[i64], m: usize, j: usize) -> u64
 // Record k, which is to start on a day and to end before an off day. The kind is tested by branches, not as `fits_kind`
 // does: the back end then tests it once for all records.
 fn record_ok(p: &[i64], kind: u64, k: usize, day: u64, off: u64) -> bool
-    requires { ⌜ (48 + 4 * k + 3 < length (now p)) × (day < 2 ^ 63) ⌝ }
+    requires { ⌜ (recPlace k + 3 < length (now p)) × (day < 2 ^ 63) ⌝ }
     ensures { λ r. ⌜ r ≡ recOn (now (p .entry)) kind k day off ⌝ }
 {
-    let i = 48 + 4 * k;
+    let i = places::RECS + places::REC_LENGTH * k;
     let end = bits_at(p, i + 1);
     if !((end <= 39999)
         & (numbers::get_energy(p, i + 2) <= 2000000)
@@ -233,53 +227,53 @@ fn record_ok(p: &[i64], kind: u64, k: usize, day: u64, off: u64) -> bool
 // Each of n records follows the one before it, beside m spans that pass. Both are read once: a record is awaited from
 // `day` on, the j spans before it have ended by then, and `off` is the next off day.
 fn records_ok(p: &[i64], m: usize, n: usize) -> bool
-    requires { ⌜ (32 + 2 * m ≤ length (now p)) × (48 + 4 * n ≤ length (now p)) × (numAt (now p) 2 ≤ 39999) × (spansOk (now p) m ≡ true) ⌝ }
+    requires { ⌜ (offPlace m ≤ length (now p)) × (recPlace n ≤ length (now p)) × (numAt (now p) installPlace ≤ 39999) × (spansOk (now p) m ≡ true) ⌝ }
     ensures { λ r. ⌜ r ≡ recsOk (now (p .entry)) m n ⌝ }
 {
-    let kind = numbers::get(p, 1);
-    let mut day = numbers::get(p, 2);
+    let kind = places::kind(p);
+    let mut day = places::install(p);
     let mut j: usize = 0;
-    let mut off = off_day(p, m, 0);
+    let mut off = off_from(p, m, 0);
     let mut k: usize = 0;
     while k < n {
         if off <= day {
-            day = get_until(p, 32 + 2 * j + 1);
+            day = on_day(p, j);
             j += 1;
-            off = off_day(p, m, j);
+            off = off_from(p, m, j);
         }
         if !record_ok(p, kind, k, day, off) {
             return false;
         }
-        day = bits_at(p, 48 + 4 * k + 1) + 1;
+        day = bits_at(p, places::RECS + places::REC_LENGTH * k + 1) + 1;
         k += 1;
     }
     true
 }
 
-// A pending User isn't the latest, whose place is that of the last of n registrations.
+// A pending User isn't the latest, that of the last of n registrations.
 fn pending_ok(p: &[i64], n: usize) -> bool
-    requires { ⌜ (n ≤ 8) × (48 ≤ length (now p)) ⌝ }
+    requires { ⌜ (1 ≤ n) × (n ≤ 8) × (recsPlace ≤ length (now p)) ⌝ }
     ensures { λ r. ⌜ r ≡ pendingOk (now (p .entry)) n ⌝ }
 {
-    let user = numbers::get(p, 7);
-    let latest = numbers::get(p, 15 + 2 * n);
-    let last = numbers::get(p, 9);
+    let user = places::pending_user(p);
+    let latest = places::reg_user(p, n - 1);
+    let last = places::pending_last(p);
     (user == 0)
         | ((user <= 16)
             & (latest != user)
-            & (numbers::get(p, 8) <= last)
+            & (places::pending_first(p) <= last)
             & (last <= 39999)
             & (n <= 7))
 }
 
 // The spans are tested before the records, which are read beside them.
 fn rows_ok(p: &[i64]) -> bool
-    requires { ⌜ Counted (now p) × (numAt (now p) 2 ≤ 39999) ⌝ }
+    requires { ⌜ Counted (now p) × (numAt (now p) installPlace ≤ 39999) ⌝ }
     ensures { λ r. ⌜ r ≡ rowsOk (now (p .entry)) ⌝ }
 {
-    let regs = numbers::get(p, 4) as usize;
-    let spans = numbers::get(p, 5) as usize;
-    let recs = numbers::get(p, 6) as usize;
+    let regs = places::registrations(p);
+    let spans = places::spans(p);
+    let recs = places::records(p);
     if !spans_ok(p, spans) {
         return false;
     }
@@ -288,7 +282,7 @@ fn rows_ok(p: &[i64]) -> bool
 
 // Is this a sound point? The tests above decide what document 01 says (proofs/Decides.antt).
 pub fn part_sound(p: &[i64]) -> bool
-    requires { ⌜ (48 ≤ length (now p)) × (length (now p) % 4 ≡ 0) ⌝ }
+    requires { ⌜ (recsPlace ≤ length (now p)) × (length (now p) % 4 ≡ 0) ⌝ }
     ensures { λ r. ⌜ r ≡ partSound (now (p .entry)) ⌝ }
 {
     if !counts_sound(p) {

@@ -5,9 +5,11 @@ use Rattle.point.proofs.counts_sound.Tie as tie
 
 returns : tie.Need-returns
 unfolding countsSound
-returns c = rw (c .get3 .ensures .0, c .before .get2 .ensures .0, c .before .before .get .ensures .0)
+returns c = rw (c .records .ensures .0, c .before .spans .ensures .0, c .before .before .registrations .ensures .0)
 
 pub counts-sound-spec : {M : Type 1} → statement M
 counts-sound-spec =
     tie.close
-    (tie.spec (λ c κs. search needs) (λ c. search needs) (λ c κs. search needs) (λ c κs. search needs) returns)
+    (tie.spec
+    (λ c κs. search needs) (λ c. search needs) (λ c κs. search needs) (λ c κs. search needs)
+    returns)

@@ -5,7 +5,7 @@ use Rattle.point.proofs.facts_sound.Tie as tie
 
 returns : tie.Need-returns
 unfolding factsSound
-returns c = rw (c .get4 .ensures .0, c .before .get3 .ensures .0, c .before .before .get2 .ensures .0, c .before .before .before .get .ensures .0)
+returns c = rw (c .base .ensures .0, c .before .install .ensures .0, c .before .before .kind .ensures .0, c .before .before .before .mirn .ensures .0)
 
 pub facts-sound-spec : {M : Type 1} → statement M
 facts-sound-spec =

@@ -20,7 +20,7 @@ loop-holds c = let z : c .args .m - 0 ≡ c .args .m = omega arith in (omega ari
 loop-again : tie.Need-loop-again Inv-loop μ-loop
 loop-again c =
     let l = c .before .before .before .before .loop in
-    (omega arith, rw (c .past-span .ensures, c .before .get-until .ensures .0, c .before .before .get .ensures .0) (sym (passed-more _ _ (l .k) _ (omega arith)) ∙ l .inv .1))
+    (omega arith, rw (c .past-span .ensures, c .before .on-day .ensures .0, c .before .before .off-day .ensures .0) (sym (passed-more _ _ (l .k) _ (omega arith)) ∙ l .inv .1))
 
 returns : tie.Need-returns Inv-loop μ-loop
 returns c = sym (passed-end _ _ (c .before .loop .k) _ (omega arith)) ∙ c .before .loop .inv .1
@@ -29,9 +29,9 @@ pub first-on-spec : {M : Type 1} → statement M
 first-on-spec =
     tie.close
     (tie.spec
-    Inv-loop μ-loop
+    Inv-loop
+    μ-loop
     loop-holds
-    (λ c. search needs) (λ c. search needs) (λ c κs. search needs) (λ c. search needs) (λ c κs. search needs)
-    (λ c κs. search needs) (λ c. search needs) (λ c. search needs)
+    (λ c κs. search needs) (λ c κs. search needs) (λ c κs. search needs) (λ c. search needs) (λ c. search needs)
     loop-again
     returns)

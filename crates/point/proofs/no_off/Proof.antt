@@ -23,12 +23,12 @@ returns : tie.Need-returns Inv-loop μ-loop
 unfolding noOff
 returns c =
     let s = c .before .before .before .before .before .args in
-    sym (all-fails _ (c .before .before .before .before .loop .k) _ (omega arith) (rw (c .before .get-until .ensures .0, c .before .before .get .ensures .0) at (not-true (apart (s .a) (s .b) (c .before .before .get .result) (c .before .get-until .result)) (c .if1 .taken))))
+    sym (all-fails _ (c .before .before .before .before .loop .k) _ (omega arith) (rw (c .before .on-day .ensures .0, c .before .before .off-day .ensures .0) at (not-true (apart (s .a) (s .b) (c .before .before .off-day .result) (c .before .on-day .result)) (c .if1 .taken))))
 
 loop-again : tie.Need-loop-again Inv-loop μ-loop
 loop-again c =
     let s = c .before .before .before .before .before .args in
-    (omega arith, all-more _ _ (c .before .before .before .before .loop .inv .1) (rw (c .before .get-until .ensures .0, c .before .before .get .ensures .0) at (not-false (apart (s .a) (s .b) (c .before .before .get .result) (c .before .get-until .result)) (c .if1 .left))))
+    (omega arith, all-more _ _ (c .before .before .before .before .loop .inv .1) (rw (c .before .on-day .ensures .0, c .before .before .off-day .ensures .0) at (not-false (apart (s .a) (s .b) (c .before .before .off-day .result) (c .before .on-day .result)) (c .if1 .left))))
 
 returns-2 : tie.Need-returns-2 Inv-loop μ-loop
 unfolding noOff
@@ -38,9 +38,10 @@ pub no-off-spec : {M : Type 1} → statement M
 no-off-spec =
     tie.close
     (tie.spec
-    Inv-loop μ-loop
+    Inv-loop
+    μ-loop
     loop-holds
-    (λ c. search needs) (λ c. search needs) (λ c κs. search needs) (λ c. search needs) (λ c κs. search needs)
+    (λ c κs. search needs) (λ c κs. search needs)
     returns
     (λ c. search needs) (λ c. search needs)
     loop-again

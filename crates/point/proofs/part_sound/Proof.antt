@@ -1,9 +1,9 @@
 use mathlib.Core.Path.{_≡_, refl, sym, _∙_}
 use mathlib.Core.Bool.{true}
 use borrow.Author.Tests.{not-true, not-false}
+use Rattle.layout.specs.Layout.{factsAt}
 use Rattle.layout.specs.Sound.{countsSound, factsSound}
 use Rattle.layout.proofs.RowsSound.{facts-ok}
-use Rattle.point.specs.InnerTests.{factsAt}
 use Rattle.point.proofs.Loops.{counted}
 use Rattle.point.proofs.Decides.{uncounted, tested}
 use borrow.Author.Needs.{needs}

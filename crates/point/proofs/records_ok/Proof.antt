@@ -27,10 +27,10 @@ unfolding recsOk
 loop-holds c =
     let s = c .before .before .before in
     let z : s .args .n - 0 ≡ s .args .n = omega arith in
-    (omega arith, rw (z, c .before .get2 .ensures .0), rw (c .off-day .ensures, c .before .get2 .ensures .0) (awaits-first (s .args .p .now) (s .args .m) (s .pre .3) (s .pre .2)))
+    (omega arith, rw (z, c .before .install .ensures .0), rw (c .off-from .ensures, c .before .install .ensures .0) (awaits-first (s .args .p .now) (s .args .m) (s .pre .3) (s .pre .2)))
 
-get-until-requires : tie.Need-get-until-requires Inv-loop μ-loop
-get-until-requires c κs =
+on-day-requires : tie.Need-on-day-requires Inv-loop μ-loop
+on-day-requires c κs =
     let l = c .before .before .loop in
     let s = start (c .before) in
     omega (arith, is-span (s .args .p .now) (s .args .m) (s .pre .3) (l .day) (l .j) (l .off) (l .inv .2) (c .if1 .taken))
@@ -58,7 +58,7 @@ tested c =
     let q = c .before in
     let s = start (q .before) in
     found-test (s .args .p .now) (s .args .m) (s .pre .3) _ _ _ _ (q .before .before .loop .k) (found q)
-    ∙ sym (rw (q .before .before .before .before .before .get .ensures .0) at (c .record-ok .ensures))
+    ∙ sym (rw (q .before .before .before .before .before .kind .ensures .0) at (c .record-ok .ensures))
 
 returns : tie.Need-returns Inv-loop μ-loop
 returns c =
@@ -68,7 +68,7 @@ returns c =
 passed : (c : tie.Else2 Inv-loop μ-loop)
     → let q : tie.Joined1 Inv-loop μ-loop = c .before .before in
     let s : tie.Start Inv-loop μ-loop = start (q .before) in
-    recOn (s .args .p .now) (q .before .before .before .before .before .get .result) (q .before .before .loop .k) (q .if1 .day) (q .if1 .off) ≡ true
+    recOn (s .args .p .now) (q .before .before .before .before .before .kind .result) (q .before .before .loop .k) (q .if1 .day) (q .if1 .off) ≡ true
 passed c = sym (c .before .record-ok .ensures) ∙ not-false _ (c .if2 .left)
 
 -- its end, read once more
@@ -98,11 +98,11 @@ pub records-ok-spec : {M : Type 1} → statement M
 records-ok-spec =
     tie.close
     (tie.spec
-    Inv-loop μ-loop
+    Inv-loop
+    μ-loop
     (λ c κs. search needs) (λ c κs. search needs) (λ c κs. search needs)
     loop-holds
-    (λ c. search needs) (λ c. search needs) (λ c. search needs)
-    get-until-requires
+    on-day-requires
     (λ c. search needs) (λ c κs. search needs)
     record-ok-requires
     returns

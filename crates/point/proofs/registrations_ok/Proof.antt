@@ -21,13 +21,13 @@ abbrev μ-loop : tie.MeasureT-loop
 returns : tie.Need-returns Inv-loop μ-loop
 unfolding regsOk
 returns c =
-    rw (rw (c .before .get2 .ensures .0, c .before .before .get .ensures .0) at (ne-eqb (c .before .get2 .result) (c .before .before .get .result) (c .if1 .taken)))
+    rw (rw (c .before .reg-start .ensures .0, c .before .before .install .ensures .0) at (ne-eqb (c .before .reg-start .result) (c .before .before .install .result) (c .if1 .taken)))
 
 loop-holds : tie.Need-loop-holds Inv-loop μ-loop
 unfolding regsOk
 loop-holds c =
     let z : c .before .before .before .args .n - 0 ≡ c .before .before .before .args .n = omega arith in
-    (omega arith, rw (z, c .before .before .get .ensures .0, rw (c .before .get2 .ensures .0, c .before .before .get .ensures .0) at (eq-eqb (c .before .get2 .result) (c .before .before .get .result) (c .if1 .left))))
+    (omega arith, rw (z, c .before .before .install .ensures .0, rw (c .before .reg-start .ensures .0, c .before .before .install .ensures .0) at (eq-eqb (c .before .reg-start .result) (c .before .before .install .result) (c .if1 .left))))
 
 -- the row is tested as if by its numbers
 tested : (c : tie.After-bits-at2 Inv-loop μ-loop)
@@ -72,7 +72,8 @@ pub registrations-ok-spec : {M : Type 1} → statement M
 registrations-ok-spec =
     tie.close
     (tie.spec
-    Inv-loop μ-loop
+    Inv-loop
+    μ-loop
     (λ c κs. search needs) (λ c κs. search needs)
     returns
     loop-holds

@@ -10,7 +10,7 @@ returns : tie.Need-returns
 unfolding rowsOk
 returns c =
     let q = c .before in
-    rw (rw (q .before .before .get2 .ensures .0) at (sym (q .spans-ok .ensures) ∙ not-true _ (c .if1 .taken)), and-false _)
+    rw (rw (q .before .before .spans .ensures .0) at (sym (q .spans-ok .ensures) ∙ not-true _ (c .if1 .taken)), and-false _)
 
 records-ok-requires : tie.Need-records-ok-requires
 records-ok-requires c κs =
@@ -21,8 +21,8 @@ returns-2 : tie.Need-returns-2
 unfolding rowsOk
 returns-2 c =
     let q = c .before .before .before .before in
-    let s = rw (q .before .before .get2 .ensures .0) at (sym (q .spans-ok .ensures) ∙ not-false _ (c .before .before .before .if1 .left)) in
-    rw (c .pending-ok .ensures, c .before .records-ok .ensures, c .before .before .registrations-ok .ensures, q .before .get3 .ensures .0, q .before .before .get2 .ensures .0, q .before .before .before .get .ensures .0, s, and-true _)
+    let s = rw (q .before .before .spans .ensures .0) at (sym (q .spans-ok .ensures) ∙ not-false _ (c .before .before .before .if1 .left)) in
+    rw (c .pending-ok .ensures, c .before .records-ok .ensures, c .before .before .registrations-ok .ensures, q .before .records .ensures .0, q .before .before .spans .ensures .0, q .before .before .before .registrations .ensures .0, s, and-true _)
 
 pub rows-ok-spec : {M : Type 1} → statement M
 rows-ok-spec =

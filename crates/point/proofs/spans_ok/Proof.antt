@@ -19,18 +19,18 @@ loop-holds : tie.Need-loop-holds Inv-loop μ-loop
 unfolding spansOk
 loop-holds c =
     let z : c .before .args .n - 0 ≡ c .before .args .n = omega arith in
-    (omega arith, rw (z, c .get .ensures .0))
+    (omega arith, rw (z, c .install .ensures .0))
 
 returns : tie.Need-returns Inv-loop μ-loop
 returns c =
     let l = c .before .before .before .before .loop in
-    sym (rows-fail _ _ _ (l .k) _ (omega arith) (rw (c .before .get-until .ensures .0, c .before .before .get2 .ensures .0) at (not-true (spanOk (l .lo) (c .before .before .get2 .result) (c .before .get-until .result)) (c .if1 .taken)))) ∙ l .inv .1
+    sym (rows-fail _ _ _ (l .k) _ (omega arith) (rw (c .before .on-day .ensures .0, c .before .before .off-day .ensures .0) at (not-true (spanOk (l .lo) (c .before .before .off-day .result) (c .before .on-day .result)) (c .if1 .taken)))) ∙ l .inv .1
 
 loop-again : tie.Need-loop-again Inv-loop μ-loop
 loop-again c =
     let l = c .before .before .before .before .loop in
-    let on = c .before .get-until in
-    (omega arith, sym (rows-pass _ _ _ (l .k) _ _ (omega arith) (rw (on .ensures .0, c .before .before .get2 .ensures .0) at (not-false (spanOk (l .lo) (c .before .before .get2 .result) (on .result)) (c .if1 .left))) (add-one (on .result) ∙ ap suc (on .ensures .0))) ∙ l .inv .1)
+    let on = c .before .on-day in
+    (omega arith, sym (rows-pass _ _ _ (l .k) _ _ (omega arith) (rw (on .ensures .0, c .before .before .off-day .ensures .0) at (not-false (spanOk (l .lo) (c .before .before .off-day .result) (on .result)) (c .if1 .left))) (add-one (on .result) ∙ ap suc (on .ensures .0))) ∙ l .inv .1)
 
 returns-2 : tie.Need-returns-2 Inv-loop μ-loop
 returns-2 c = sym (rows-end _ _ _ (c .before .loop .k) _ (omega arith)) ∙ c .before .loop .inv .1
@@ -39,10 +39,11 @@ pub spans-ok-spec : {M : Type 1} → statement M
 spans-ok-spec =
     tie.close
     (tie.spec
-    Inv-loop μ-loop
+    Inv-loop
+    μ-loop
     (λ c κs. search needs)
     loop-holds
-    (λ c. search needs) (λ c. search needs) (λ c κs. search needs) (λ c. search needs) (λ c κs. search needs)
+    (λ c κs. search needs) (λ c κs. search needs)
     returns
     (λ c. search needs) (λ c. search needs) (λ c. search needs)
     loop-again
