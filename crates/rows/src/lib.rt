@@ -1,10 +1,11 @@
 // Row writers: each writes one row of a point's part p, with the count that it changes, and nothing else. A `requires`
 // here is met by every caller: a part is long enough, and counts and numbers have been tested.
 ghost use mathlib.Core.Path.{_≡_};
-ghost use Prim.Native.Nat.{_+_, _*_, _<_, _≤_, _^_};
+ghost use Prim.Native.Nat.{_+_, _<_, _≤_, _^_};
 ghost use lib.IntN.{pos, negsuc};
 ghost use lib.ListN.{length, set};
 ghost use Rattle.numbers.specs.InnerEnergies.{energyOf};
+ghost use Rattle.layout.specs.Places.{recsPlace, recPlace};
 ghost use Rattle.layout.specs.InnerWrites.{cleared, putRecord, appendRecord, cutRecords, appendRegistration, openSpan, closeSpan, setPending, clearPending, openPoint};
 ghost use Rattle.rows.specs.InnerRows.{recordOf};
 
@@ -47,10 +48,10 @@ pub fn clear(p: &mut [i64], a: usize, n: usize)
 
 // Record j: its days, its energy raised by 1,000,000, its type.
 pub fn put_record(p: &mut [i64], j: usize, start: u64, end: u64, u: u64, type_: u64)
-    requires { ⌜ (52 + 4 * j ≤ length (now p)) × (start < 2 ^ 63) × (end < 2 ^ 63) × (u < 2 ^ 63) × («type_» < 2 ^ 63) ⌝ }
+    requires { ⌜ (recPlace (j + 1) ≤ length (now p)) × (start < 2 ^ 63) × (end < 2 ^ 63) × (u < 2 ^ 63) × («type_» < 2 ^ 63) ⌝ }
     ensures { λ _. ⌜ now (p .exit) ≡ putRecord (now (p .entry)) j (recordOf start end u «type_») ⌝ }
 {
-    let at = 48 + 4 * j;
+    let at = places::RECS + places::REC_LENGTH * j;
     put_pair(p, at, start, end);
     put_energy(p, at + 2, u);
     numbers::put(p, at + 3, type_);
@@ -58,59 +59,63 @@ pub fn put_record(p: &mut [i64], j: usize, start: u64, end: u64, u: u64, type_: 
 
 // One more record, after n.
 pub fn append_record(p: &mut [i64], n: usize, start: u64, end: u64, u: u64, type_: u64)
-    requires { ⌜ (52 + 4 * n ≤ length (now p)) × (start < 2 ^ 63) × (end < 2 ^ 63) × (u < 2 ^ 63) × («type_» < 2 ^ 63) ⌝ }
+    requires { ⌜ (recPlace (n + 1) ≤ length (now p)) × (start < 2 ^ 63) × (end < 2 ^ 63) × (u < 2 ^ 63) × («type_» < 2 ^ 63) ⌝ }
     ensures { λ _. ⌜ now (p .exit) ≡ appendRecord (now (p .entry)) n (recordOf start end u «type_») ⌝ }
 {
     put_record(p, n, start, end, u, type_);
-    numbers::put(p, 6, n as u64 + 1);
+    numbers::put(p, places::REC_COUNT, n as u64 + 1);
 }
 
 // Of n records the first j are left.
 pub fn cut_records(p: &mut [i64], j: usize, n: usize)
-    requires { ⌜ (j ≤ n) × (48 + 4 * n ≤ length (now p)) ⌝ }
+    requires { ⌜ (j ≤ n) × (recPlace n ≤ length (now p)) ⌝ }
     ensures { λ _. ⌜ now (p .exit) ≡ cutRecords (now (p .entry)) j n ⌝ }
 {
-    clear(p, 48 + 4 * j, 4 * (n - j));
-    numbers::put(p, 6, j as u64);
+    clear(
+        p,
+        places::RECS + places::REC_LENGTH * j,
+        places::REC_LENGTH * (n - j),
+    );
+    numbers::put(p, places::REC_COUNT, j as u64);
 }
 
 // One more registration, after n.
 pub fn append_registration(p: &mut [i64], n: usize, day: u64, user: u64)
-    requires { ⌜ (n < 8) × (48 ≤ length (now p)) × (day < 2 ^ 63) × (user < 2 ^ 63) ⌝ }
+    requires { ⌜ (n < 8) × (recsPlace ≤ length (now p)) × (day < 2 ^ 63) × (user < 2 ^ 63) ⌝ }
     ensures { λ _. ⌜ now (p .exit) ≡ appendRegistration (now (p .entry)) n day user ⌝ }
 {
-    put_pair(p, 16 + 2 * n, day, user);
-    numbers::put(p, 4, n as u64 + 1);
+    put_pair(p, places::REGS + places::REG_LENGTH * n, day, user);
+    numbers::put(p, places::REG_COUNT, n as u64 + 1);
 }
 
 // One more off span, after n; its on day is -1 until it has one.
 pub fn open_span(p: &mut [i64], n: usize, off: u64)
-    requires { ⌜ (n < 8) × (48 ≤ length (now p)) × (off < 2 ^ 63) ⌝ }
+    requires { ⌜ (n < 8) × (recsPlace ≤ length (now p)) × (off < 2 ^ 63) ⌝ }
     ensures { λ _. ⌜ now (p .exit) ≡ openSpan (now (p .entry)) n off ⌝ }
 {
-    let at = 32 + 2 * n;
+    let at = places::OFFS + places::OFF_LENGTH * n;
     numbers::put(p, at, off);
     put_no_day(p, at + 1);
-    numbers::put(p, 5, n as u64 + 1);
+    numbers::put(p, places::OFF_COUNT, n as u64 + 1);
 }
 
 pub fn close_span(p: &mut [i64], k: usize, on: u64)
-    requires { ⌜ (k < 8) × (48 ≤ length (now p)) × (on < 2 ^ 63) ⌝ }
+    requires { ⌜ (k < 8) × (recsPlace ≤ length (now p)) × (on < 2 ^ 63) ⌝ }
     ensures { λ _. ⌜ now (p .exit) ≡ closeSpan (now (p .entry)) k on ⌝ }
 {
-    numbers::put(p, 32 + 2 * k + 1, on);
+    numbers::put(p, places::OFFS + places::OFF_LENGTH * k + 1, on);
 }
 
 pub fn set_pending(p: &mut [i64], user: u64, first: u64, last: u64)
-    requires { ⌜ (48 ≤ length (now p)) × (user < 2 ^ 63) × (first < 2 ^ 63) × (last < 2 ^ 63) ⌝ }
+    requires { ⌜ (recsPlace ≤ length (now p)) × (user < 2 ^ 63) × (first < 2 ^ 63) × (last < 2 ^ 63) ⌝ }
     ensures { λ _. ⌜ now (p .exit) ≡ setPending (now (p .entry)) user first last ⌝ }
 {
-    put_pair(p, 7, user, first);
-    numbers::put(p, 9, last);
+    put_pair(p, places::PENDING_USER, user, first);
+    numbers::put(p, places::PENDING_LAST, last);
 }
 
 pub fn clear_pending(p: &mut [i64])
-    requires { ⌜ 48 ≤ length (now p) ⌝ }
+    requires { ⌜ recsPlace ≤ length (now p) ⌝ }
     ensures { λ _. ⌜ now (p .exit) ≡ clearPending (now (p .entry)) ⌝ }
 {
     set_pending(p, 0, 0, 0);
@@ -118,10 +123,10 @@ pub fn clear_pending(p: &mut [i64])
 
 // A point's facts and its first registration, in a part that holds zeros.
 pub fn open_point(p: &mut [i64], mirn: u64, kind: u64, install: u64, base: u64, user: u64)
-    requires { ⌜ (48 ≤ length (now p)) × (mirn < 2 ^ 63) × (kind < 2 ^ 63) × (install < 2 ^ 63) × (base < 2 ^ 63) × (user < 2 ^ 63) ⌝ }
+    requires { ⌜ (recsPlace ≤ length (now p)) × (mirn < 2 ^ 63) × (kind < 2 ^ 63) × (install < 2 ^ 63) × (base < 2 ^ 63) × (user < 2 ^ 63) ⌝ }
     ensures { λ _. ⌜ now (p .exit) ≡ openPoint (now (p .entry)) (record { mirn = mirn; kind = kind; install = install; base = base }) user ⌝ }
 {
-    put_pair(p, 0, mirn, kind);
-    put_pair(p, 2, install, base);
+    put_pair(p, places::MIRN, mirn, kind);
+    put_pair(p, places::INSTALL, install, base);
     append_registration(p, 0, install, user);
 }
