@@ -8,6 +8,7 @@ use Rattle.numbers.specs.Rows.{all}
 use Rattle.daybook.specs.declared.Edition.{Edition}
 use Rattle.daybook.specs.Notices.{Row, least, Numbers, decide, isRange}
 use Rattle.lists.specs.Lists.{Lists}
+use Rattle.layout.specs.Places.{pointsPlace, nondailyPlace, dailyPlace, headerSpare, headerLength}
 use Rattle.layout.specs.Layout.{tableLength, placeOf, partOf, numAt, pointsFrom, pointNumbers, pointFrom}
 use Rattle.layout.specs.Sound.{zeros, partSound, mirnsDiffer}
 use Rattle.layout.specs.InnerParts.{roomOf}
@@ -15,9 +16,10 @@ use Rattle.layout.specs.InnerParts.{roomOf}
 -- What is tested of a table that is long enough and does not say that it has too many points.
 unfoldable pub bodySound : Edition → List ℤ → Bool
 bodySound ed t =
-    isRange (getD t 1 (pos 0)) && isRange (getD t 2 (pos 0)) && zeros t 3 8
-    && all (λ i. partSound (partOf ed t i)) (numAt t 0)
-    && mirnsDiffer (pointsFrom ed (numAt t 0) (drop 8 t)) && zeros t (placeOf ed (numAt t 0)) tableLength
+    isRange (getD t nondailyPlace (pos 0)) && isRange (getD t dailyPlace (pos 0)) && zeros t headerSpare headerLength
+    && all (λ i. partSound (partOf ed t i)) (numAt t pointsPlace)
+    && mirnsDiffer (pointsFrom ed (numAt t pointsPlace) (drop headerLength t))
+    && zeros t (placeOf ed (numAt t pointsPlace)) tableLength
 
 -- A call with k fields on a part: its rows and its effect, on the point's lists.
 unfoldable pub onPart : ℕ → (Lists → List Row) → (Lists → Numbers × Lists) → List ℤ → Numbers × List ℤ

@@ -8,12 +8,13 @@ use lib.IntN.{ℤ}
 use Rattle.numbers.specs.Naturals.{natOf}
 use Rattle.numbers.specs.Search.{maybe, firstFrom}
 use Rattle.daybook.specs.declared.Edition.{Edition}
+use Rattle.layout.specs.Places.{pointsPlace}
 use Rattle.layout.specs.Layout.{placeOf, editionOf, partOf, numAt}
 use Rattle.layout.specs.Sound.{sound}
 
 -- The first point, of those in use, whose MIRN is m.
 unfoldable pub indexOf : Edition → List ℤ → ℕ → Option ℕ
-indexOf ed t m = firstFrom (λ i. eqb (numAt t (placeOf ed i)) m) 0 (numAt t 0)
+indexOf ed t m = firstFrom (λ i. eqb (numAt t (placeOf ed i)) m) 0 (numAt t pointsPlace)
 
 -- That point's numbers; nothing if the table is short or unsound or has no such point.
 unfoldable pub lookUp : List ℤ → ℤ → List ℤ

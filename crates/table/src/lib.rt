@@ -7,7 +7,8 @@ ghost use lib.IntN.{pos};
 ghost use Rattle.numbers.specs.Rows.{all};
 ghost use Rattle.numbers.specs.Search.{maybe};
 ghost use Rattle.daybook.specs.Notices.{isRange};
-ghost use Rattle.layout.specs.Layout.{stride as strideOf, placeOf, Fits, editionOf, partOf, numAt, pointsFrom};
+ghost use Rattle.layout.specs.Places.{pointsPlace, headerLength};
+ghost use Rattle.layout.specs.Layout.{tableLength, stride as strideOf, placeOf, Fits, editionOf, partOf, numAt, pointsFrom};
 ghost use Rattle.layout.specs.Sound.{partSound, mirnsDiffer, sound as tableSound};
 ghost use Rattle.layout.specs.InnerMirns.{laterDiffer};
 ghost use Rattle.table.specs.InnerTable.{bodySound};
@@ -28,20 +29,20 @@ fn stride(ed: Edition) -> usize
     requires { ⌜ Fits ed ⌝ }
     ensures { λ r. ⌜ (r ≡ strideOf ed) × (r ≤ 7680) ⌝ }
 {
-    48 + 4 * ed.records
+    places::RECS + places::REC_LENGTH * ed.records
 }
 
 // Where point i starts.
 pub fn place(ed: Edition, i: usize) -> usize
     requires { ⌜ Fits ed × (i ≤ ed .points) ⌝ }
-    ensures { λ r. ⌜ (r ≡ placeOf ed i) × (r ≤ 7688) ⌝ }
+    ensures { λ r. ⌜ (r ≡ placeOf ed i) × (r ≤ tableLength) ⌝ }
 {
-    8 + stride(ed) * i
+    places::HEADER_LENGTH + stride(ed) * i
 }
 
 // The numbers of point i.
 pub fn part(t: &[i64], ed: Edition, i: usize) -> &[i64]
-    requires { ⌜ Fits ed × (i < ed .points) × (7688 ≤ length (now t)) ⌝ }
+    requires { ⌜ Fits ed × (i < ed .points) × (tableLength ≤ length (now t)) ⌝ }
     ensures { λ r. ⌜ now r ≡ partOf ed (now (t .entry)) i ⌝ }
 {
     let a = place(ed, i);
@@ -57,9 +58,9 @@ fn range_ok(t: &[i64], i: usize) -> bool
     (999999 <= u) & (u <= 2000000)
 }
 
-// The MIRN of point i.
+// The MIRN of point i, which comes first.
 fn mirn(t: &[i64], ed: Edition, i: usize) -> u64
-    requires { ⌜ Fits ed × (i < ed .points) × (7688 ≤ length (now t)) ⌝ }
+    requires { ⌜ Fits ed × (i < ed .points) × (tableLength ≤ length (now t)) ⌝ }
     ensures { λ r. ⌜ r ≡ numAt (now (t .entry)) (placeOf ed i) ⌝ }
 {
     numbers::get(t, place(ed, i))
@@ -67,7 +68,7 @@ fn mirn(t: &[i64], ed: Edition, i: usize) -> u64
 
 // Is the MIRN of point i that of no later point, of n?
 fn later_differ(t: &[i64], ed: Edition, i: usize, n: usize) -> bool
-    requires { ⌜ Fits ed × (i < n) × (n ≤ ed .points) × (7688 ≤ length (now t)) ⌝ }
+    requires { ⌜ Fits ed × (i < n) × (n ≤ ed .points) × (tableLength ≤ length (now t)) ⌝ }
     ensures { λ r. ⌜ r ≡ laterDiffer ed (now (t .entry)) n i ⌝ }
 {
     let own = mirn(t, ed, i);
@@ -83,8 +84,8 @@ fn later_differ(t: &[i64], ed: Edition, i: usize, n: usize) -> bool
 }
 
 fn mirns_differ(t: &[i64], ed: Edition, n: usize) -> bool
-    requires { ⌜ Fits ed × (n ≤ ed .points) × (7688 ≤ length (now t)) ⌝ }
-    ensures { λ r. ⌜ r ≡ mirnsDiffer (pointsFrom ed n (drop 8 (now (t .entry)))) ⌝ }
+    requires { ⌜ Fits ed × (n ≤ ed .points) × (tableLength ≤ length (now t)) ⌝ }
+    ensures { λ r. ⌜ r ≡ mirnsDiffer (pointsFrom ed n (drop headerLength (now (t .entry)))) ⌝ }
 {
     let mut i: usize = 0;
     while i < n {
@@ -97,7 +98,7 @@ fn mirns_differ(t: &[i64], ed: Edition, n: usize) -> bool
 }
 
 fn parts_sound(t: &[i64], ed: Edition, n: usize) -> bool
-    requires { ⌜ Fits ed × (n ≤ ed .points) × (7688 ≤ length (now t)) ⌝ }
+    requires { ⌜ Fits ed × (n ≤ ed .points) × (tableLength ≤ length (now t)) ⌝ }
     ensures { λ r. ⌜ r ≡ all (λ i. partSound (partOf ed (now (t .entry)) i)) n ⌝ }
 {
     let mut i: usize = 0;
@@ -112,16 +113,16 @@ fn parts_sound(t: &[i64], ed: Edition, n: usize) -> bool
 
 // The tests of a table that is long enough and says that it has n points.
 fn body_sound(t: &[i64], ed: Edition, n: usize) -> bool
-    requires { ⌜ Fits ed × (n ≤ ed .points) × (7688 ≤ length (now t)) × (n ≡ numAt (now t) 0) ⌝ }
+    requires { ⌜ Fits ed × (n ≤ ed .points) × (tableLength ≤ length (now t)) × (n ≡ numAt (now t) pointsPlace) ⌝ }
     ensures { λ r. ⌜ r ≡ bodySound ed (now (t .entry)) ⌝ }
 {
     let end = place(ed, n);
-    range_ok(t, 1)
-        & range_ok(t, 2)
-        & point::zeros_in(t, 3, 8)
+    range_ok(t, places::NONDAILY)
+        & range_ok(t, places::DAILY)
+        & point::zeros_in(t, places::HEADER_SPARE, places::HEADER_LENGTH)
         & parts_sound(t, ed, n)
         & mirns_differ(t, ed, n)
-        & point::zeros_in(t, end, 7688)
+        & point::zeros_in(t, end, places::TABLE_LENGTH)
 }
 
 // Is this a sound register of that edition? Any numbers, any length.
@@ -129,22 +130,22 @@ pub fn sound(t: &[i64], ed: Edition) -> bool
     requires { ⌜ Fits ed ⌝ }
     ensures { λ r. ⌜ r ≡ tableSound ed (now (t .entry)) ⌝ }
 {
-    if t.len() < 7688 {
+    if t.len() < places::TABLE_LENGTH {
         return false;
     }
-    let n = numbers::get(t, 0);
-    if (ed.points as u64) < n {
+    let n = places::points(t);
+    if ed.points < n {
         return false;
     }
-    body_sound(t, ed, n as usize)
+    body_sound(t, ed, n)
 }
 
 // The point of a MIRN, as many as the edition has points if there is none.
 pub fn index_of(t: &[i64], ed: Edition, m: u64) -> usize
-    requires { ⌜ Fits ed × (7688 ≤ length (now t)) × (numAt (now t) 0 ≤ ed .points) ⌝ }
+    requires { ⌜ Fits ed × (tableLength ≤ length (now t)) × (numAt (now t) pointsPlace ≤ ed .points) ⌝ }
     ensures { λ r. ⌜ (r ≡ maybe (ed .points) (λ i. i) (indexOf ed (now (t .entry)) m)) × (r ≤ ed .points) ⌝ }
 {
-    let used = numbers::get(t, 0) as usize;
+    let used = places::points(t);
     let mut i: usize = 0;
     while i < used {
         if mirn(t, ed, i) == m {

@@ -17,8 +17,8 @@ abbrev μ-loop : tie.MeasureT-loop
 -- src/lib.rt:85:5
 loop-holds : tie.Need-loop-holds Inv-loop μ-loop
 loop-holds c =
-    let e = c .get .ensures .0 in
-    (search needs, search needs, search needs, index-start (c .before .args .ed) (c .before .args .t .now) (c .before .args .m) (c .get .result) e)
+    let e = c .points .ensures .0 in
+    (search needs, search needs, search needs, index-start (c .before .args .ed) (c .before .args .t .now) (c .before .args .m) (c .points .result) e)
 
 -- src/lib.rt:87:13
 returns : tie.Need-returns Inv-loop μ-loop

@@ -12,14 +12,16 @@ returns c = short-unsound (c .before .args .ed) (c .before .args .t .now) (c .if
 -- src/lib.rt:115:9
 returns-2 : tie.Need-returns-2
 returns-2 c =
-    let s = c .before .before .before in
-    many-unsound (s .args .ed) (s .args .t .now) (c .before .before .if1 .left) (omega (arith, c .before .get .ensures .0))
+    let n = c .before .before in
+    let s = n .before .before in
+    many-unsound (s .args .ed) (s .args .t .now) (n .before .if1 .left) (omega (arith, n .points .ensures .0))
 
 -- src/lib.rt:107:1
 returns-3 : tie.Need-returns-3
 returns-3 c =
-    let s = c .before .before .before .before in
-    c .body-sound .ensures ∙ body-sound (s .args .ed) (s .args .t .now) (c .before .before .before .if1 .left) (omega (arith, c .before .before .get .ensures .0))
+    let n = c .before .before .before in
+    let s = n .before .before in
+    c .body-sound .ensures ∙ body-sound (s .args .ed) (s .args .t .now) (n .before .if1 .left) (omega (arith, n .points .ensures .0))
 
 pub sound-spec : {M : Type 1} → statement M
 sound-spec =
