@@ -8,14 +8,15 @@ use lib.IntN.{ℤ, pos, subℕ, _-ℤ_}
 use lib.ListN.{length, getD, replicate}
 use Rattle.numbers.specs.Naturals.{natOf}
 use Rattle.daybook.specs.declared.AllocationQuery.{AllocationQuery}
-use Rattle.daybook.specs.Book.{Point, Book, standard}
+use Rattle.daybook.specs.declared.Edition.{Edition}
+use Rattle.daybook.specs.Book.{Point, Book}
 use Rattle.daybook.specs.Notices.{Numbers}
 use Rattle.daybook.specs.Queries.{allocationInRange, nslOf, weights, total, pointShares, totalOf, users}
-use Rattle.layout.specs.Layout.{numAt, tableBook}
+use Rattle.layout.specs.Layout.{Fits, numAt, tableBook}
 use Rattle.layout.specs.Sound.{sound}
 
-abbrev pub pointsOf : List ℤ → List Point
-pointsOf t = tableBook standard t .points
+abbrev pub pointsOf : Edition → List ℤ → List Point
+pointsOf ed t = tableBook ed t .points
 
 -- Numbers of points, in an array of 32.
 unfoldable pub padded : List ℕ → List ℕ
@@ -46,11 +47,12 @@ givenOf q B = (
   pointShares q B ++ replicate (32 - length (B .points)) (pos 0),
 )
 
--- The tests before the split were passed: ws are the weights, and s is their sum.
-pub record MaySplit (t : List ℤ) (q : AllocationQuery) (ws : List ℕ) (s room : ℕ) : Type 0 where
-  pub isSound : sound standard t ≡ true
+-- The edition fits, and the tests before the split were passed: ws are the weights, and s is their sum.
+pub record MaySplit (ed : Edition) (t : List ℤ) (q : AllocationQuery) (ws : List ℕ) (s room : ℕ) : Type 0 where
+  pub fits : Fits ed
+  pub isSound : sound ed t ≡ true
   pub inRange : allocationInRange q room ≡ true
-  pub weigh : ws ≡ padded (weights q (tableBook standard t))
+  pub weigh : ws ≡ padded (weights q (tableBook ed t))
   pub sum : s ≡ total ws
   pub some : 0 < s
   pub few : s ≤ mostTotal
