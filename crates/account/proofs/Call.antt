@@ -15,12 +15,14 @@ use Rattle.numbers.proofs.Bools.{both, and-where}
 use Rattle.calendar.specs.Calendar.{isDay}
 use Rattle.calendar.proofs.Dates.{within-natural, day-natural, days-order}
 use Rattle.daybook.specs.declared.AccountQuery.{AccountQuery}
+use Rattle.daybook.specs.declared.Edition.{Edition}
 use Rattle.daybook.specs.Notices.{decide, least, isUser}
 use Rattle.daybook.specs.Queries.{ownShare, accountOf, accountRows, account}
-use Rattle.daybook.specs.Book.{standard}
+use Rattle.daybook.specs.Book.{Book}
 use Rattle.lists.proofs.Rows.{above, least-first, least-skip}
-use Rattle.layout.specs.Layout.{partOf, numAt, tableBook}
+use Rattle.layout.specs.Layout.{editionOf, partOf, numAt, tableBook}
 use Rattle.layout.specs.Sound.{sound}
+use Rattle.layout.specs.Calls.{ofEdition}
 use Rattle.table.proofs.Calls.{query-unsound, query-sound}
 use Rattle.readings.specs.InnerReadings.{pointAt}
 use Rattle.readings.proofs.Points.{points-sum}
@@ -53,32 +55,39 @@ range-bounds n e =
 
 -- ---- the sum
 
-pub table-sum : (t : List ℤ) (u a b : ℕ)
-    → sumFrom (λ k. sumFrom (ownShare u (pointAt (partOf standard t k))) a (b + 1 - a)) 0 (numAt t 0) ≡ accountOf u a b (tableBook standard t)
+pub table-sum : (ed : Edition) (t : List ℤ) (u a b : ℕ)
+    → sumFrom (λ k. sumFrom (ownShare u (pointAt (partOf ed t k))) a (b + 1 - a)) 0 (numAt t 0) ≡ accountOf u a b (tableBook ed t)
 unfolding accountOf
-table-sum t u a b = rw (add-one b) (sym (points-sum (λ p. sumOver (ownShare u p) a b) t))
+table-sum ed t u a b = rw (add-one b) (sym (points-sum ed t (λ p. sumOver (ownShare u p) a b)))
 
 -- ---- each way that the code ends
 
-module _ (t : List ℤ) (n : AccountQuery) where
-  pub unsound-ends : sound standard t ≡ false → pos 1 ∷ pos 0 ∷ [] ≡ accountCall t n
-  unfolding accountCall
-  unsound-ends e = sym (query-unsound _ (account n) standard t e)
+module _ (ed : Edition) (t : List ℤ) (own : ed ≡ editionOf t) (n : AccountQuery) where
+  abbrev B : Book
+  B = tableBook ed t
 
-  module _ (s : sound standard t ≡ true) where
+  -- the call is the query of the table's own edition
+  call-is : ofEdition (pos 1 ∷ pos 0 ∷ []) (account n) ed t ≡ accountCall t n
+  unfolding accountCall
+  call-is = ap (λ ed. ofEdition (pos 1 ∷ pos 0 ∷ []) (account n) ed t) own
+
+  pub unsound-ends : sound ed t ≡ false → pos 1 ∷ pos 0 ∷ [] ≡ accountCall t n
+  unsound-ends e = sym (query-unsound _ (account n) ed t e) ∙ call-is
+
+  module _ (s : sound ed t ≡ true) where
     decided : (r : ℕ) → least (accountRows n) ≡ r
-        → decide r 1 (tableBook standard t) (accountOf (natOf (n .user)) (natOf (n .from)) (natOf (n .to)) (tableBook standard t) ∷ [], tableBook standard t) .0 ≡ accountCall t n
-    unfolding accountCall account
+        → decide r 1 B (accountOf (natOf (n .user)) (natOf (n .from)) (natOf (n .to)) B ∷ [], B) .0 ≡ accountCall t n
+    unfolding account
     decided r e =
-        ap (λ r. decide r 1 (tableBook standard t) (accountOf (natOf (n .user)) (natOf (n .from)) (natOf (n .to)) (tableBook standard t) ∷ [], tableBook standard t) .0) (sym e)
-        ∙ sym (query-sound _ (account n) standard t s)
+        ap (λ r. decide r 1 B (accountOf (natOf (n .user)) (natOf (n .from)) (natOf (n .to)) B ∷ [], B) .0) (sym e)
+        ∙ sym (query-sound _ (account n) ed t s) ∙ call-is
 
     pub range-ends : inRange n ≡ false → pos 2 ∷ pos 0 ∷ [] ≡ accountCall t n
     unfolding accountRows decide above
     range-ends e = decided 2 (least-first 2 _ [] refl (ap not e))
 
     pub given-ends : inRange n ≡ true → (u a b : ℕ) → u ≡ natOf (n .user) → a ≡ natOf (n .from) → b ≡ natOf (n .to)
-        → pos 0 ∷ accountOf u a b (tableBook standard t) ∷ [] ≡ accountCall t n
+        → pos 0 ∷ accountOf u a b B ∷ [] ≡ accountCall t n
     unfolding accountRows decide least
     given-ends i u a b e f g =
         rw (e, f, g) (decided 0 (least-skip 2 _ [] (ap not i)))

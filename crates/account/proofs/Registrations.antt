@@ -16,10 +16,12 @@ use Rattle.lists.specs.Lists.{userOn, pointOf}
 use Rattle.lists.specs.InnerWell.{Regs, reg}
 use Rattle.lists.proofs.Registrations.{user-before, user-since}
 use Rattle.layout.specs.Layout.{numAt, pointFrom}
+use Rattle.layout.specs.InnerParts.{SoundPart}
+use Rattle.layout.proofs.SoundParts.{part-well}
 use Rattle.point.specs.InnerTests.{regStart, regUser, regRow}
 use Rattle.point.proofs.Rows.{rowsAt}
-use Rattle.readings.specs.InnerReadings.{pointAt, Readable}
-use Rattle.readings.proofs.Part.{part-well, regs-of}
+use Rattle.readings.specs.InnerReadings.{pointAt}
+use Rattle.readings.proofs.Part.{regs-of}
 use Rattle.account.specs.InnerRegistrations.{movedInto, startIn, ownIn}
 
 -- ---- days moved into x to y
@@ -73,7 +75,7 @@ module _ (p : List ℤ) where
           omega (arith, starts-from n (suc i) r k (omega arith) (omega arith))
       go false q ih = let s : ¬ (i ≡ j) = eqb-false i j q in ih (omega arith) l (omega arith)
 
-module _ {p : List ℤ} (ok : Readable p) where
+module _ {p : List ℤ} (ok : SoundPart p) where
   regs-ok : Regs 0 (pointFrom p .facts .install) (rowsAt (regRow p) 0 (numAt p 4))
   regs-ok = subst (Regs 0 (pointFrom p .facts .install)) (regs-of p) (part-well ok .regsOk)
 
@@ -169,7 +171,7 @@ module _ (f : ℕ → ℤ) (u x y : ℕ) (xy : x ≤ y) (p : List ℤ) where
       until d i = user-before (reg {lo = regStart p j} {x = regRow p j} (omega arith) b c g ne r) v d i
 
 -- THE LAW: what a User's days of x to y - 1 have is the sum over the point's registrations
-pub own-by-rows : {p : List ℤ} → Readable p → (u x y : ℕ) → 1 ≤ u → x ≤ y
+pub own-by-rows : {p : List ℤ} → SoundPart p → (u x y : ℕ) → 1 ≤ u → x ≤ y
     → sumFrom (ownIn (dayShare (pointAt p)) u p x y) 0 (numAt p 4) ≡ sumFrom (ownShare u (pointAt p)) x (y - x)
 unfolding ownShare pointAt pointOf
 own-by-rows {p} ok u x y h l =

@@ -4,9 +4,8 @@ use lib.IntN.{ℤ, pos}
 use Rattle.daybook.specs.declared.AccountQuery.{AccountQuery}
 use Rattle.daybook.specs.Notices.{Numbers}
 use Rattle.daybook.specs.Queries.{account}
-use Rattle.daybook.specs.Book.{standard}
 use Rattle.layout.specs.Calls.{ofTable}
 
 -- One field: the sum.
 unfoldable pub accountCall : List ℤ → AccountQuery → Numbers
-accountCall t n = ofTable (pos 1 ∷ pos 0 ∷ []) (account n) standard t
+accountCall t n = ofTable (pos 1 ∷ pos 0 ∷ []) (account n) t

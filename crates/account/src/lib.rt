@@ -2,6 +2,7 @@
 // the period into spans with one FRO each, and a span's energy is read at once. A sum is raised, so that it is natural.
 use daybook::AccountAnswer;
 use daybook::AccountQuery;
+use daybook::Edition;
 ghost use mathlib.Core.Path.{_≡_};
 ghost use mathlib.Core.Bool.{true, _&&_};
 ghost use Prim.Native.Nat.{_-_, _<_, _≤_};
@@ -10,13 +11,14 @@ ghost use lib.Signed.{leZ};
 ghost use Rattle.numbers.specs.Sums.{sumFrom};
 ghost use Rattle.numbers.specs.Answers.{refused};
 ghost use Rattle.calendar.specs.Calendar.{isDay};
-ghost use Rattle.daybook.specs.Book.{dayShare, standard};
+ghost use Rattle.daybook.specs.Book.{dayShare};
 ghost use Rattle.daybook.specs.Calls.{accountNumbers, accountRefused};
 ghost use Rattle.daybook.specs.Notices.{isUser};
 ghost use Rattle.daybook.specs.Queries.{ownShare, accountOf};
-ghost use Rattle.layout.specs.Layout.{numAt, tableBook};
+ghost use Rattle.layout.specs.Layout.{Fits, numAt, tableBook};
 ghost use Rattle.layout.specs.Sound.{sound};
-ghost use Rattle.readings.specs.InnerReadings.{pointAt, Readable};
+ghost use Rattle.layout.specs.InnerParts.{SoundPart};
+ghost use Rattle.readings.specs.InnerReadings.{pointAt};
 ghost use Rattle.account.specs.Account.{accountCall};
 ghost use Rattle.account.specs.InnerRegistrations.{movedInto, startIn, ownIn};
 
@@ -49,7 +51,7 @@ fn moved_into(a: u64, b: u64, d: u64) -> u64
 
 // The day on which registration j starts, moved into x to y; y if there is no such registration.
 fn start_in(p: &[i64], j: usize, x: u64, y: u64) -> u64
-    requires { ⌜ Readable (now p) × (x ≤ y) ⌝ }
+    requires { ⌜ SoundPart (now p) × (x ≤ y) ⌝ }
     ensures { λ r. ⌜ r ≡ startIn (now (p .entry)) x y j ⌝ }
 {
     let n = numbers::get(p, 4) as usize;
@@ -61,7 +63,7 @@ fn start_in(p: &[i64], j: usize, x: u64, y: u64) -> u64
 
 // The energy of registration j's days of x to y - 1 if it is the User's, raised by 2,000,000,000.
 fn registration_energy(p: &[i64], j: usize, user: u64, x: u64, y: u64) -> u64
-    requires { ⌜ Readable (now p) × (j < numAt (now p) 4) × (x ≤ y) ⌝ }
+    requires { ⌜ SoundPart (now p) × (j < numAt (now p) 4) × (x ≤ y) ⌝ }
     ensures { λ r. ⌜ (subℕ r 2000000000 ≡ ownIn (dayShare (pointAt (now (p .entry)))) user (now (p .entry)) x y j) × (r ≤ 4000000000) ⌝ }
 {
     if numbers::get(p, 16 + 2 * j + 1) != user {
@@ -74,7 +76,7 @@ fn registration_energy(p: &[i64], j: usize, user: u64, x: u64, y: u64) -> u64
 
 // The energy of the User's days of x to y - 1 at one point, raised by 16,000,000,000.
 fn point_energy(p: &[i64], user: u64, x: u64, y: u64) -> u64
-    requires { ⌜ Readable (now p) × (1 ≤ user) × (x ≤ y) ⌝ }
+    requires { ⌜ SoundPart (now p) × (1 ≤ user) × (x ≤ y) ⌝ }
     ensures { λ r. ⌜ (subℕ r 16000000000 ≡ sumFrom (ownShare user (pointAt (now (p .entry)))) x (y - x)) × (r ≤ 32000000000) ⌝ }
 {
     let n = numbers::get(p, 4);
@@ -88,15 +90,15 @@ fn point_energy(p: &[i64], user: u64, x: u64, y: u64) -> u64
 }
 
 // The energy of the User's days of a to b at all points.
-fn table_energy(t: &[i64], user: u64, a: u64, b: u64) -> i64
-    requires { ⌜ (sound standard (now t) ≡ true) × (1 ≤ user) × (a ≤ b) × (b ≤ 39999) ⌝ }
-    ensures { λ r. ⌜ r ≡ accountOf user a b (tableBook standard (now (t .entry))) ⌝ }
+fn table_energy(t: &[i64], ed: Edition, user: u64, a: u64, b: u64) -> i64
+    requires { ⌜ Fits ed × (sound ed (now t) ≡ true) × (1 ≤ user) × (a ≤ b) × (b ≤ 39999) ⌝ }
+    ensures { λ r. ⌜ r ≡ accountOf user a b (tableBook ed (now (t .entry))) ⌝ }
 {
     let n = numbers::get(t, 0);
     let mut sum: u64 = 0;
     let mut i: u64 = 0;
     while i < n {
-        sum += point_energy(table::part(t, i as usize), user, a, b + 1);
+        sum += point_energy(table::part(t, ed, i as usize), user, a, b + 1);
         i += 1;
     }
     numbers::difference(sum, 16000000000 * n)
@@ -106,7 +108,8 @@ fn table_energy(t: &[i64], user: u64, a: u64, b: u64) -> i64
 pub fn account(t: &[i64], n: AccountQuery) -> AccountAnswer
     ensures { λ r. ⌜ (accountNumbers r ≡ accountCall (now (t .entry)) n) × (accountRefused r ≡ refused (accountNumbers r)) ⌝ }
 {
-    if !table::sound(t) {
+    let ed = table::edition(t);
+    if !table::sound(t, ed) {
         return AccountAnswer::Refused(1);
     }
     if !in_range(n) {
@@ -118,5 +121,5 @@ pub fn account(t: &[i64], n: AccountQuery) -> AccountAnswer
     let u = numbers::natural(user);
     let a = numbers::natural(from);
     let b = numbers::natural(to);
-    AccountAnswer::Given(table_energy(t, u, a, b))
+    AccountAnswer::Given(table_energy(t, ed, u, a, b))
 }

@@ -14,17 +14,16 @@ use Rattle.numbers.proofs.Bools.{both}
 use Rattle.calendar.specs.Calendar.{within, isDay}
 use Rattle.calendar.proofs.Dates.{days-order}
 use Rattle.daybook.specs.declared.AllocationQuery.{AllocationQuery}
-use Rattle.daybook.specs.Book.{Point, Book, standard}
+use Rattle.daybook.specs.declared.Edition.{Edition}
+use Rattle.daybook.specs.Book.{Point, Book}
 use Rattle.daybook.specs.Queries.{allocationInRange, atLeast0, tdmOf, nslOf, weight, weights, total, split, pointShares, totalOf, users}
 use Rattle.lists.proofs.Bounds.{within-bounds}
 use Rattle.lists.proofs.Splits.{split-length}
 use Rattle.layout.specs.Layout.{numAt, tableBook}
-use Rattle.point.proofs.Rows.{length-rows}
-use Rattle.table.proofs.Laws.{sound-long}
-use Rattle.readings.proofs.Points.{partPoint, points-are}
 use Rattle.allocate.specs.Allocate.{placed}
 use Rattle.allocate.specs.InnerParts.{pointsOf, padded, SharesBelow, totalTo, loadOf, MaySplit, givenOf}
 use Rattle.allocate.proofs.Loads.{isLoad, next-order}
+use Rattle.allocate.proofs.Arrays.{points-few}
 use Rattle.allocate.proofs.Given.{total-padded, split-padded, split-small, user-total}
 
 -- ---- numbers in range
@@ -77,17 +76,15 @@ placed-long xs out e = simp length-append (omega arith)
 
 -- ---- what is given
 
-module _ {t : List ℤ} {q : AllocationQuery} {ws : List ℕ} {s room : ℕ} (given : MaySplit t q ws s room) where
+module _ {ed : Edition} {t : List ℤ} {q : AllocationQuery} {ws : List ℕ} {s room : ℕ} (given : MaySplit ed t q ws s room) where
   abbrev B : Book
-  B = tableBook standard t
+  B = tableBook ed t
 
   abbrev G : ℕ
   G = natOf (q .gasday)
 
-  few-points : (length (pointsOf t) ≡ numAt t 0) × (length (pointsOf t) ≤ 32)
-  few-points =
-      let is : length (pointsOf t) ≡ numAt t 0 = ap length (points-are t) ∙ length-rows (partPoint t) 0 (numAt t 0) in
-      (is, omega (arith, sound-long t (given .isSound) .1))
+  few-points : length (pointsOf ed t) ≤ 32
+  few-points = points-few ed (given .fits) t (given .isSound)
 
   pub in-range : InRange q
   in-range = in-range-tells q room (given .inRange) .0
@@ -99,12 +96,12 @@ module _ {t : List ℤ} {q : AllocationQuery} {ws : List ℕ} {s room : ℕ} (gi
   sum-is : s ≡ total (weights q B)
   sum-is = given .sum ∙ ap total (given .weigh) ∙ total-padded (weights q B)
 
-  pub fros-32 : length (padded (map (λ p. p .fro G) (pointsOf t))) ≡ 32
-  fros-32 = padded-32 (map (λ p. p .fro G) (pointsOf t)) (omega (arith, length-map (pointsOf t) (λ p. p .fro G), few-points .1))
+  pub fros-32 : length (padded (map (λ p. p .fro G) (pointsOf ed t))) ≡ 32
+  fros-32 = padded-32 (map (λ p. p .fro G) (pointsOf ed t)) (omega (arith, length-map (pointsOf ed t) (λ p. p .fro G), few-points))
 
   pub weigh-32 : length ws ≡ 32
   unfolding weights
-  weigh-32 = ap length (given .weigh) ∙ padded-32 (weights q B) (omega (arith, length-map (pointsOf t) (weight G (natOf (q .from)) (natOf (q .to))), few-points .1))
+  weigh-32 = ap length (given .weigh) ∙ padded-32 (weights q B) (omega (arith, length-map (pointsOf ed t) (weight G (natOf (q .from)) (natOf (q .to))), few-points))
 
   pub split-32 : (load : ℕ) → length (split load s 0 ws) ≡ 32
   split-32 load = split-length load s 0 ws ∙ weigh-32
@@ -113,20 +110,20 @@ module _ {t : List ℤ} {q : AllocationQuery} {ws : List ℕ} {s room : ℕ} (gi
     abbrev w : Point → ℕ
     w = weight G (natOf (q .from)) (natOf (q .to))
 
-    split-is : split load s 0 ws ≡ split load s 0 (map w (pointsOf t)) ++ replicate (32 - length (pointsOf t)) (pos 0)
+    split-is : split load s 0 ws ≡ split load s 0 (map w (pointsOf ed t)) ++ replicate (32 - length (pointsOf ed t)) (pos 0)
     unfolding weights
     split-is =
-        ap (split load s 0) (given .weigh) ∙ split-padded load s (map w (pointsOf t))
-        ∙ ap (λ n. split load s 0 (map w (pointsOf t)) ++ replicate (32 - n) (pos 0)) (length-map (pointsOf t) w)
+        ap (split load s 0) (given .weigh) ∙ split-padded load s (map w (pointsOf ed t))
+        ∙ ap (λ n. split load s 0 (map w (pointsOf ed t)) ++ replicate (32 - n) (pos 0)) (length-map (pointsOf ed t) w)
 
-    own-is : split load s 0 (map w (pointsOf t)) ≡ pointShares q B
+    own-is : split load s 0 (map w (pointsOf ed t)) ≡ pointShares q B
     unfolding pointShares weights
-    own-is = ap₂ (λ l z. split l z 0 (map w (pointsOf t))) is sum-is
+    own-is = ap₂ (λ l z. split l z 0 (map w (pointsOf ed t))) is sum-is
 
     -- the 32 numbers
     pub shares-are : split load s 0 ws ≡ givenOf q B .1
     unfolding givenOf
-    shares-are = split-is ∙ ap (λ l. l ++ replicate (32 - length (pointsOf t)) (pos 0)) own-is
+    shares-are = split-is ∙ ap (λ l. l ++ replicate (32 - length (pointsOf ed t)) (pos 0)) own-is
 
     pub shares-small : load ≤ 3032000000 → (out : List ℤ) → SharesBelow 3032000000 (placed (split load s 0 ws) out)
     unfolding placed
@@ -136,12 +133,12 @@ module _ {t : List ℤ} {q : AllocationQuery} {ws : List ℕ} {s room : ℕ} (gi
         (omega (arith, split-small load s (given .some) 0 ws z k))
 
     -- the sixteen totals
-    pub totals-are : (out : List ℤ) → map (λ u. pos (totalTo (padded (map (λ p. p .fro G) (pointsOf t))) (placed (split load s 0 ws) out) u 32)) users ≡ map (λ u. totalOf G u (pointsOf t) (pointShares q B)) users
+    pub totals-are : (out : List ℤ) → map (λ u. pos (totalTo (padded (map (λ p. p .fro G) (pointsOf ed t))) (placed (split load s 0 ws) out) u 32)) users ≡ map (λ u. totalOf G u (pointsOf ed t) (pointShares q B)) users
     unfolding placed
     totals-are out i = map (λ u. own u i) users
       where
-        own : (u : ℕ) → pos (totalTo (padded (map (λ p. p .fro G) (pointsOf t))) (placed (split load s 0 ws) out) u 32) ≡ totalOf G u (pointsOf t) (pointShares q B)
+        own : (u : ℕ) → pos (totalTo (padded (map (λ p. p .fro G) (pointsOf ed t))) (placed (split load s 0 ws) out) u 32) ≡ totalOf G u (pointsOf ed t) (pointShares q B)
         own u =
-            ap (λ l. pos (totalTo (padded (map (λ p. p .fro G) (pointsOf t))) (l ++ drop (length (split load s 0 ws)) out) u 32)) split-is
-            ∙ user-total load s (given .some) G w (pointsOf t) (few-points .1) (drop (length (split load s 0 ws)) out) u
-            ∙ ap (totalOf G u (pointsOf t)) own-is
+            ap (λ l. pos (totalTo (padded (map (λ p. p .fro G) (pointsOf ed t))) (l ++ drop (length (split load s 0 ws)) out) u 32)) split-is
+            ∙ user-total load s (given .some) G w (pointsOf ed t) (few-points) (drop (length (split load s 0 ws)) out) u
+            ∙ ap (totalOf G u (pointsOf ed t)) own-is

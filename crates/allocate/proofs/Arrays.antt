@@ -1,15 +1,19 @@
 -- Arrays of 32 with a place for each point of a table. Assumes nothing.
 use mathlib.Core.Path.{_≡_, refl, sym, _∙_, ap, ap₂}
+use mathlib.Core.Bool.{true}
 use mathlib.Core.List.{List, [], _∷_, _++_, map, append-assoc}
 use Prim.Native.Nat.{ℕ, zero, suc, _+_, _-_, _≤_, _<_}
 use native.Mathlib.Omega.{arith}
 use lib.ListN.{length, set, replicate}
 use lib.Seq.{set-at}
 use lib.IntN.{ℤ}
+use Rattle.daybook.specs.declared.Edition.{Edition}
 use Rattle.daybook.specs.Book.{Point}
 use Rattle.daybook.specs.Queries.{total}
-use Rattle.layout.specs.Layout.{numAt}
+use Rattle.layout.specs.Layout.{Fits, numAt}
+use Rattle.layout.specs.Sound.{sound}
 use Rattle.point.proofs.Rows.{rowsAt, length-rows, rows-join}
+use Rattle.table.proofs.Laws.{sound-long}
 use Rattle.readings.proofs.Points.{partPoint, points-are}
 use Rattle.allocate.specs.InnerParts.{pointsOf, padded}
 
@@ -39,12 +43,19 @@ one-filled f i h =
     ∙ sym (append-assoc (rowsAt f 0 i) (f i ∷ []) (replicate (32 - (i + 1)) 0))
     ∙ ap (λ l. l ++ replicate (32 - (i + 1)) 0) (one-row f i)
 
+-- there is a place for each point
+pub points-few : (ed : Edition) → Fits ed → (t : List ℤ) → sound ed t ≡ true → length (pointsOf ed t) ≤ 32
+points-few ed f t s =
+    let is : length (pointsOf ed t) ≡ numAt t 0 = ap length (points-are ed t) ∙ length-rows (partPoint ed t) 0 (numAt t 0) in
+    omega (arith, sound-long ed t s .1, f .few)
+
 -- at the end there is a number for each point
-pub all-filled : (f : Point → ℕ) (t : List ℤ) → filledTo (λ i. f (partPoint t i)) (numAt t 0) ≡ padded (map f (pointsOf t))
+pub all-filled : (f : Point → ℕ) (ed : Edition) (t : List ℤ)
+    → filledTo (λ i. f (partPoint ed t i)) (numAt t 0) ≡ padded (map f (pointsOf ed t))
 unfolding padded
-all-filled f t =
-    let is : rowsAt (λ i. f (partPoint t i)) 0 (numAt t 0) ≡ map f (pointsOf t) = sym (ap (map f) (points-are t) ∙ map-rows f (partPoint t) 0 (numAt t 0)) in
-    ap₂ (λ l n. l ++ replicate (32 - n) 0) is (sym (length-rows (λ i. f (partPoint t i)) 0 (numAt t 0)) ∙ ap length is)
+all-filled f ed t =
+    let is : rowsAt (λ i. f (partPoint ed t i)) 0 (numAt t 0) ≡ map f (pointsOf ed t) = sym (ap (map f) (points-are ed t) ∙ map-rows f (partPoint ed t) 0 (numAt t 0)) in
+    ap₂ (λ l n. l ++ replicate (32 - n) 0) is (sym (length-rows (λ i. f (partPoint ed t i)) 0 (numAt t 0)) ∙ ap length is)
 
 -- a number that is put adds at most itself
 pub put-adds : (l : List ℕ) (i x : ℕ) → total (set l i x) ≤ total l + x

@@ -8,12 +8,14 @@ use lib.ListN.{replicate}
 use lib.IntN.{ℤ, pos}
 use borrow.Author.Tests.{eq-eqb, ne-eqb}
 use Rattle.daybook.specs.declared.AllocationQuery.{AllocationQuery}
+use Rattle.daybook.specs.declared.Edition.{Edition}
 use Rattle.daybook.specs.Notices.{Numbers, least, decide}
 use Rattle.daybook.specs.Queries.{allocationInRange, weights, total, allocateRows, allocate}
-use Rattle.daybook.specs.Book.{standard}
+use Rattle.daybook.specs.Book.{Book}
 use Rattle.lists.proofs.Rows.{above, least-first, least-skip, decide-taken, decide-refused}
-use Rattle.layout.specs.Layout.{tableBook}
+use Rattle.layout.specs.Layout.{editionOf, tableBook}
 use Rattle.layout.specs.Sound.{sound}
+use Rattle.layout.specs.Calls.{ofEdition}
 use Rattle.table.proofs.Calls.{query-unsound, query-sound}
 use Rattle.allocate.specs.Allocate.{allocateCall, placed}
 use Rattle.allocate.specs.InnerParts.{givenOf}
@@ -30,35 +32,42 @@ sent-back row out e f = (e ∙ ap (λ w. w .0) (sym f), ap (λ w. placed (w .1) 
 pub handed-out : (out : List ℤ) {a : Numbers} {l : List ℤ} {w v : Numbers × List ℤ} → (a ≡ pos 0 ∷ v .0) × (l ≡ placed (v .1) out) → w ≡ (pos 0 ∷ v .0, v .1) → (a ≡ w .0) × (l ≡ placed (w .1) out)
 handed-out out e f = (e .0 ∙ ap (λ w. w .0) (sym f), e .1 ∙ ap (λ w. placed (w .1) out) (sym f))
 
-module _ (t : List ℤ) (q : AllocationQuery) (room : ℕ) where
-  pub call-unsound : sound standard t ≡ false → allocateCall t q room ≡ refusal 1
-  unfolding allocateCall
-  call-unsound = query-unsound (refusal 1) (allocate q room) standard t
+module _ (ed : Edition) (t : List ℤ) (own : ed ≡ editionOf t) (q : AllocationQuery) (room : ℕ) where
+  abbrev B : Book
+  B = tableBook ed t
 
-  module _ (s : sound standard t ≡ true) where
+  -- the call is the query of the table's own edition
+  call-is : allocateCall t q room ≡ ofEdition (refusal 1) (allocate q room) ed t
+  unfolding allocateCall
+  call-is = ap (λ ed. ofEdition (refusal 1) (allocate q room) ed t) (sym own)
+
+  pub call-unsound : sound ed t ≡ false → allocateCall t q room ≡ refusal 1
+  call-unsound e = call-is ∙ query-unsound (refusal 1) (allocate q room) ed t e
+
+  module _ (s : sound ed t ≡ true) where
     -- by the row that applies, 0 for none
-    by-row : (r : ℕ) → least (allocateRows q room (tableBook standard t)) ≡ r → allocateCall t q room ≡ decide r 17 [] (givenOf q (tableBook standard t))
-    unfolding allocateCall allocate givenOf
+    by-row : (r : ℕ) → least (allocateRows q room B) ≡ r → allocateCall t q room ≡ decide r 17 [] (givenOf q B)
+    unfolding allocate givenOf
     by-row r e =
-        query-sound (refusal 1) (allocate q room) standard t s ∙ ap (λ r. decide r 17 [] (givenOf q (tableBook standard t))) e
+        call-is ∙ query-sound (refusal 1) (allocate q room) ed t s ∙ ap (λ r. decide r 17 [] (givenOf q B)) e
 
     pub call-range : allocationInRange q room ≡ false → allocateCall t q room ≡ refusal 2
     unfolding allocateRows above
-    call-range e = by-row 2 (least-first 2 (not (allocationInRange q room)) _ refl (ap not e)) ∙ decide-refused 17 [] (givenOf q (tableBook standard t)) 1
+    call-range e = by-row 2 (least-first 2 (not (allocationInRange q room)) _ refl (ap not e)) ∙ decide-refused 17 [] (givenOf q B) 1
 
     module _ (e : allocationInRange q room ≡ true) where
-      no-two : least (allocateRows q room (tableBook standard t)) ≡ least ((15, eqb (total (weights q (tableBook standard t))) 0) ∷ [])
+      no-two : least (allocateRows q room B) ≡ least ((15, eqb (total (weights q B)) 0) ∷ [])
       unfolding allocateRows
       no-two = least-skip 2 (not (allocationInRange q room)) _ (ap not e)
 
-      pub call-weightless : total (weights q (tableBook standard t)) ≡ 0 → allocateCall t q room ≡ refusal 15
+      pub call-weightless : total (weights q B) ≡ 0 → allocateCall t q room ≡ refusal 15
       unfolding above
       call-weightless z =
-          by-row 15 (no-two ∙ least-first 15 (eqb (total (weights q (tableBook standard t))) 0) [] refl (eq-eqb (total (weights q (tableBook standard t))) 0 z))
-          ∙ decide-refused 17 [] (givenOf q (tableBook standard t)) 14
+          by-row 15 (no-two ∙ least-first 15 (eqb (total (weights q B)) 0) [] refl (eq-eqb (total (weights q B)) 0 z))
+          ∙ decide-refused 17 [] (givenOf q B) 14
 
-      pub call-given : (total (weights q (tableBook standard t)) ≡ 0 → ⊥) → allocateCall t q room ≡ (pos 0 ∷ givenOf q (tableBook standard t) .0, givenOf q (tableBook standard t) .1)
+      pub call-given : (total (weights q B) ≡ 0 → ⊥) → allocateCall t q room ≡ (pos 0 ∷ givenOf q B .0, givenOf q B .1)
       unfolding least
       call-given n =
-          by-row 0 (no-two ∙ least-skip 15 (eqb (total (weights q (tableBook standard t))) 0) [] (ne-eqb (total (weights q (tableBook standard t))) 0 n))
-          ∙ decide-taken 17 [] (givenOf q (tableBook standard t))
+          by-row 0 (no-two ∙ least-skip 15 (eqb (total (weights q B)) 0) [] (ne-eqb (total (weights q B)) 0 n))
+          ∙ decide-taken 17 [] (givenOf q B)

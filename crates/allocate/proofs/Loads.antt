@@ -1,12 +1,12 @@
 -- Row 2 of an allocation on naturals, and the net section load from raised numbers. Assumes nothing.
 use mathlib.Core.Path.{_≡_, refl, sym, ap, ap₂, _∙_}
 use mathlib.Core.Bool.{Bool, true, false, _&&_, false≢true}
-use Prim.Native.Nat.{ℕ, _+_, _-_, _≤_, _<_}
+use Prim.Native.Nat.{ℕ, _+_, _-_, _≤_}
 use native.Mathlib.Omega.{arith}
 use lib.Dec.{leb, ltb}
 use lib.IntN.{ℤ, pos, negsuc, subℕ, _+ℤ_, _-ℤ_}
 use lib.Signed.{leZ, ltZ}
-use borrow.Author.Tests.{ltb-true, leb-true, leb-false, le-leb, lt-leb}
+use borrow.Author.Tests.{leb-true, leb-false, le-leb, lt-leb}
 use Rattle.numbers.specs.Naturals.{natOf}
 use Rattle.numbers.proofs.Bools.{both, and-where}
 use Rattle.numbers.proofs.Integers.{up, dn, eqZ, add-fact, minus-fact, sub-fact, le-fact}
@@ -14,6 +14,7 @@ use Rattle.calendar.specs.Calendar.{within, isDay}
 use Rattle.calendar.proofs.Dates.{day-natural, up-to-natural, days-order}
 use Rattle.daybook.specs.declared.AllocationQuery.{AllocationQuery}
 use Rattle.daybook.specs.Queries.{allocationInRange, atLeast0}
+use Rattle.readings.proofs.Weights.{at-least}
 use Rattle.allocate.specs.InnerParts.{loadOf}
 
 -- ---- an amount of at most 1,000,000,000 either way
@@ -45,16 +46,9 @@ load-natural (negsuc n) e = let z : _≡_ {A = ℕ} 0 1 = cc in absurd (omega ar
 
 -- ---- the net section load
 
-at-least-sub : (a b : ℕ) → atLeast0 (subℕ a b) ≡ a - b
-at-least-sub a b = go (ltb a b) refl
-  where
-    go : (t : Bool) → ltb a b ≡ t → atLeast0 (subℕ a b) ≡ a - b
-    go true e = let h : a < b = ltb-true a b e in rw e (omega arith)
-    go false e = rw e
-
 module _ (q : AllocationQuery) (tdq tdm most uag clp : ℕ) (a : q .tdq ≡ pos tdq) (b : subℕ uag 1000000000 ≡ q .uag) (c : subℕ clp 1000000000 ≡ q .clp) where
   pub net-load : tdq + most + 2000000000 - (tdm + uag + clp) ≡ atLeast0 (loadOf q tdm most)
-  net-load = sym (ap atLeast0 whole ∙ at-least-sub (tdq + most + 2000000000) (tdm + uag + clp))
+  net-load = sym (ap atLeast0 whole ∙ at-least (tdq + most + 2000000000) (tdm + uag + clp))
     where
       whole : loadOf q tdm most ≡ subℕ (tdq + most + 2000000000) (tdm + uag + clp)
       whole =

@@ -8,18 +8,19 @@ use lib.IntN.{ℤ, pos, subℕ, _-ℤ_}
 use lib.ListN.{length, getD, replicate}
 use Rattle.numbers.specs.Naturals.{natOf}
 use Rattle.daybook.specs.declared.AllocationQuery.{AllocationQuery}
-use Rattle.daybook.specs.Book.{Point, Book, standard}
+use Rattle.daybook.specs.declared.Edition.{Edition}
+use Rattle.daybook.specs.Book.{Point, Book}
 use Rattle.daybook.specs.Notices.{Numbers}
-use Rattle.daybook.specs.Queries.{allocationInRange, nslOf, weights, total, pointShares, totalOf, users}
-use Rattle.layout.specs.Layout.{numAt, tableBook}
+use Rattle.daybook.specs.Queries.{shareCount, allocationInRange, nslOf, weights, total, pointShares, totalOf, users}
+use Rattle.layout.specs.Layout.{Fits, numAt, tableBook}
 use Rattle.layout.specs.Sound.{sound}
 
-abbrev pub pointsOf : List ℤ → List Point
-pointsOf t = tableBook standard t .points
+abbrev pub pointsOf : Edition → List ℤ → List Point
+pointsOf ed t = tableBook ed t .points
 
--- Numbers of points, in an array of 32.
+-- Numbers of points, in an array with a place for each share.
 unfoldable pub padded : List ℕ → List ℕ
-padded l = l ++ replicate (32 - length l) 0
+padded l = l ++ replicate (shareCount - length l) 0
 
 -- What User u has of the first k shares, where us names the Users.
 unfoldable pub totalTo : List ℕ → List ℤ → ℕ → ℕ → ℕ
@@ -35,22 +36,23 @@ loadOf n tdm raised = n .tdq -ℤ subℕ tdm raised -ℤ n .uag -ℤ n .clp
 abbrev pub mostTotal : ℕ
 mostTotal = 32 * 4000000 + 250000 * 7680
 
--- Every one of the first 32 numbers of a table is at most `most`.
+-- Every share in an answer table is at most `most`.
 abbrev pub SharesBelow : ℕ → List ℤ → Type 0
-SharesBelow most l = (k : ℕ) → k < 32 → numAt l k ≤ most
+SharesBelow most l = (k : ℕ) → k < shareCount → numAt l k ≤ most
 
 -- What a given allocation answers, and what it gives the answer table.
 unfoldable pub givenOf : AllocationQuery → Book → Numbers × List ℤ
 givenOf q B = (
   pos (nslOf q B) ∷ map (λ u. totalOf (natOf (q .gasday)) u (B .points) (pointShares q B)) users,
-  pointShares q B ++ replicate (32 - length (B .points)) (pos 0),
+  pointShares q B ++ replicate (shareCount - length (B .points)) (pos 0),
 )
 
--- The tests before the split were passed: ws are the weights, and s is their sum.
-pub record MaySplit (t : List ℤ) (q : AllocationQuery) (ws : List ℕ) (s room : ℕ) : Type 0 where
-  pub isSound : sound standard t ≡ true
+-- The edition fits, and the tests before the split were passed: ws are the weights, and s is their sum.
+pub record MaySplit (ed : Edition) (t : List ℤ) (q : AllocationQuery) (ws : List ℕ) (s room : ℕ) : Type 0 where
+  pub fits : Fits ed
+  pub isSound : sound ed t ≡ true
   pub inRange : allocationInRange q room ≡ true
-  pub weigh : ws ≡ padded (weights q (tableBook standard t))
+  pub weigh : ws ≡ padded (weights q (tableBook ed t))
   pub sum : s ≡ total ws
   pub some : 0 < s
   pub few : s ≤ mostTotal

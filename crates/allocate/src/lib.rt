@@ -2,6 +2,7 @@
 // (8.11.2 to 8.11.6). Every total is natural: a number that may be negative is raised first.
 use daybook::AllocationAnswer;
 use daybook::AllocationQuery;
+use daybook::Edition;
 ghost use mathlib.Core.Path.{_≡_};
 ghost use mathlib.Core.Bool.{true, cond};
 ghost use mathlib.Core.List.{_∷_, map};
@@ -10,10 +11,9 @@ ghost use lib.Dec.{eqb};
 ghost use lib.ListN.{length, replicate};
 ghost use lib.IntN.{pos, negsuc, subℕ};
 ghost use Rattle.calendar.specs.Calendar.{within};
-ghost use Rattle.daybook.specs.Queries.{allocationInRange, atLeast0, tdmOf, weight, total as totalOfWeights, split, users};
+ghost use Rattle.daybook.specs.Queries.{allocationInRange, atLeast0, tdmOf, weight, total as totalWeight, split, users};
 ghost use Rattle.daybook.specs.Calls.{allocationNumbers};
-ghost use Rattle.daybook.specs.Book.{standard};
-ghost use Rattle.layout.specs.Layout.{numAt, tableBook};
+ghost use Rattle.layout.specs.Layout.{Fits, numAt, tableBook};
 ghost use Rattle.layout.specs.Sound.{sound};
 ghost use Rattle.allocate.specs.Allocate.{allocateCall, placed};
 ghost use Rattle.allocate.specs.InnerParts.{pointsOf, padded, mostTotal, SharesBelow, totalTo, loadOf, MaySplit, givenOf};
@@ -76,8 +76,8 @@ fn net_load(q: AllocationQuery, tdm: u64, n: u64) -> u64
 
 // S, the sum of 32 weights.
 fn sum_of(ws: &[u64]) -> u64
-    requires { ⌜ (length (now ws) ≡ 32) × (totalOfWeights (now ws) ≤ mostTotal) ⌝ }
-    ensures { λ r. ⌜ r ≡ totalOfWeights (now (ws .entry)) ⌝ }
+    requires { ⌜ (length (now ws) ≡ 32) × (totalWeight (now ws) ≤ mostTotal) ⌝ }
+    ensures { λ r. ⌜ r ≡ totalWeight (now (ws .entry)) ⌝ }
 {
     let mut sum: u64 = 0;
     let mut k: usize = 0;
@@ -90,7 +90,7 @@ fn sum_of(ws: &[u64]) -> u64
 
 // The load split by 32 weights, of which s is the sum; a point with weight 0 gets 0.
 fn split_to(ws: &[u64], load: u64, s: u64, out: &mut [i64])
-    requires { ⌜ (length (now ws) ≡ 32) × (32 ≤ length (now out)) × (load ≤ 3032000000) × (0 < s) × (s ≤ mostTotal) × (s ≡ totalOfWeights (now ws)) ⌝ }
+    requires { ⌜ (length (now ws) ≡ 32) × (32 ≤ length (now out)) × (load ≤ 3032000000) × (0 < s) × (s ≤ mostTotal) × (s ≡ totalWeight (now ws)) ⌝ }
     ensures { λ _. ⌜ now (out .exit) ≡ placed (split load s 0 (now (ws .entry))) (now (out .entry)) ⌝ }
 {
     let mut sum: u64 = 0;
@@ -144,45 +144,45 @@ fn totals(us: &[u64], xs: &[i64]) -> [i64; 16]
 }
 
 // The weights of the points, 0 past the last one.
-fn weights(t: &[i64], g: u64, a: u64, b: u64) -> [u64; 32]
-    requires { ⌜ (sound standard (now t) ≡ true) × (g ≤ 39999) × (a ≤ b + 1) × (b ≤ a + 399) × (b ≤ 39999) ⌝ }
-    ensures { λ r. ⌜ (r ≡ padded (map (weight g a b) (pointsOf (now (t .entry))))) × (totalOfWeights r ≤ mostTotal) ⌝ }
+fn weights(t: &[i64], ed: Edition, g: u64, a: u64, b: u64) -> [u64; 32]
+    requires { ⌜ Fits ed × (sound ed (now t) ≡ true) × (g ≤ 39999) × (a ≤ b + 1) × (b ≤ a + 399) × (b ≤ 39999) ⌝ }
+    ensures { λ r. ⌜ (r ≡ padded (map (weight g a b) (pointsOf ed (now (t .entry))))) × (totalWeight r ≤ mostTotal) ⌝ }
 {
     let n = numbers::get(t, 0) as usize;
     let mut ws = [0u64; 32];
     let mut i: usize = 0;
     while i < n {
-        ws[i] = readings::weight(table::part(t, i), g, a, b);
+        ws[i] = readings::weight(table::part(t, ed, i), g, a, b);
         i += 1;
     }
     ws
 }
 
 // The FROs of the points on day g, 0 past the last one.
-fn fros(t: &[i64], g: u64) -> [u64; 32]
-    requires { ⌜ sound standard (now t) ≡ true ⌝ }
-    ensures { λ r. ⌜ r ≡ padded (map (λ p. p .fro g) (pointsOf (now (t .entry)))) ⌝ }
+fn fros(t: &[i64], ed: Edition, g: u64) -> [u64; 32]
+    requires { ⌜ Fits ed × (sound ed (now t) ≡ true) ⌝ }
+    ensures { λ r. ⌜ r ≡ padded (map (λ p. p .fro g) (pointsOf ed (now (t .entry)))) ⌝ }
 {
     let n = numbers::get(t, 0) as usize;
     let mut us = [0u64; 32];
     let mut i: usize = 0;
     while i < n {
-        us[i] = readings::fro_on(table::part(t, i), g);
+        us[i] = readings::fro_on(table::part(t, ed, i), g);
         i += 1;
     }
     us
 }
 
 // TDM, raised by 1,000,000 for each point.
-fn metered(t: &[i64], g: u64) -> u64
-    requires { ⌜ (sound standard (now t) ≡ true) × (1 ≤ g) × (g ≤ 39999) ⌝ }
-    ensures { λ r. ⌜ (subℕ r (1000000 * numAt (now (t .entry)) 0) ≡ tdmOf g (tableBook standard (now (t .entry)))) × (r ≤ 2000000 * numAt (now (t .entry)) 0) ⌝ }
+fn metered(t: &[i64], ed: Edition, g: u64) -> u64
+    requires { ⌜ Fits ed × (sound ed (now t) ≡ true) × (1 ≤ g) × (g ≤ 39999) ⌝ }
+    ensures { λ r. ⌜ (subℕ r (1000000 * numAt (now (t .entry)) 0) ≡ tdmOf g (tableBook ed (now (t .entry)))) × (r ≤ 2000000 * numAt (now (t .entry)) 0) ⌝ }
 {
     let n = numbers::get(t, 0);
     let mut sum: u64 = 0;
     let mut i: u64 = 0;
     while i < n {
-        sum += readings::metered(table::part(t, i as usize), g);
+        sum += readings::metered(table::part(t, ed, i as usize), g);
         i += 1;
     }
     sum
@@ -200,15 +200,22 @@ fn refused(row: u64) -> AllocationAnswer
 }
 
 // The load apportioned to the points by their weights, and counted for their FROs.
-fn apportion(t: &[i64], q: AllocationQuery, ws: &[u64], s: u64, out: &mut [i64]) -> AllocationAnswer
-    requires { ⌜ MaySplit (now t) q (now ws) s (length (now out)) ⌝ }
-    ensures { λ r. ⌜ (allocationNumbers r ≡ pos 0 ∷ givenOf q (tableBook standard (now (t .entry))) .0) × (now (out .exit) ≡ placed (givenOf q (tableBook standard (now (t .entry))) .1) (now (out .entry))) ⌝ }
+fn apportion(
+    t: &[i64],
+    ed: Edition,
+    q: AllocationQuery,
+    ws: &[u64],
+    s: u64,
+    out: &mut [i64],
+) -> AllocationAnswer
+    requires { ⌜ MaySplit ed (now t) q (now ws) s (length (now out)) ⌝ }
+    ensures { λ r. ⌜ (allocationNumbers r ≡ pos 0 ∷ givenOf q (tableBook ed (now (t .entry))) .0) × (now (out .exit) ≡ placed (givenOf q (tableBook ed (now (t .entry))) .1) (now (out .entry))) ⌝ }
 {
     let gasday = q.gasday;
     let g = numbers::natural(gasday);
-    let load = net_load(q, metered(t, g), numbers::get(t, 0));
+    let load = net_load(q, metered(t, ed, g), numbers::get(t, 0));
     split_to(ws, load, s, out);
-    let us = fros(t, g);
+    let us = fros(t, ed, g);
     let all = totals(&us, out);
     AllocationAnswer {
         refusal: 0,
@@ -221,7 +228,8 @@ fn apportion(t: &[i64], q: AllocationQuery, ws: &[u64], s: u64, out: &mut [i64])
 pub fn allocate(t: &[i64], q: AllocationQuery, out: &mut [i64]) -> AllocationAnswer
     ensures { λ r. ⌜ (allocationNumbers r ≡ allocateCall (now (t .entry)) q (length (now (out .entry))) .0) × (now (out .exit) ≡ placed (allocateCall (now (t .entry)) q (length (now (out .entry))) .1) (now (out .entry))) ⌝ }
 {
-    if !table::sound(t) {
+    let ed = table::edition(t);
+    if !table::sound(t, ed) {
         return refused(1);
     }
     if !in_range(q, out.len()) {
@@ -232,6 +240,7 @@ pub fn allocate(t: &[i64], q: AllocationQuery, out: &mut [i64]) -> AllocationAns
     let to = q.to;
     let ws = weights(
         t,
+        ed,
         numbers::natural(gasday),
         numbers::natural(from),
         numbers::natural(to),
@@ -240,5 +249,5 @@ pub fn allocate(t: &[i64], q: AllocationQuery, out: &mut [i64]) -> AllocationAns
     if s == 0 {
         return refused(15);
     }
-    apportion(t, q, &ws, s, out)
+    apportion(t, ed, q, &ws, s, out)
 }

@@ -110,21 +110,25 @@ totalOf g u (p ∷ ps) (x ∷ xs) = cond (eqb (p .fro g) u) x (pos 0) +ℤ total
 abbrev pub users : List ℕ
 users = 1 ∷ 2 ∷ 3 ∷ 4 ∷ 5 ∷ 6 ∷ 7 ∷ 8 ∷ 9 ∷ 10 ∷ 11 ∷ 12 ∷ 13 ∷ 14 ∷ 15 ∷ 16 ∷ []
 
+-- How many shares an allocation gives the answer table.
+abbrev pub shareCount : ℕ
+shareCount = 32
+
 -- a ≤ b + 1, b < g, at most 400 days and maybe none (document 02, h); `room` is the answer table's length.
 abbrev pub allocationInRange : AllocationQuery → ℕ → Bool
 allocationInRange n room =
     isDay (n .gasday) && isDay (n .from) && isDay (n .to) && leZ (n .from) (n .to +ℤ pos 1) && ltZ (n .to) (n .gasday)
     && leb (natOf (n .to) - natOf (n .from)) 399 && within (pos 0) (pos 1000000000) (n .tdq)
     && within (negsuc 999999999) (pos 1000000000) (n .uag) && within (negsuc 999999999) (pos 1000000000) (n .clp)
-    && leb 32 room
+    && leb shareCount room
 
 unfoldable pub allocateRows : AllocationQuery → ℕ → Book → List Row
 allocateRows n room B = (2, not (allocationInRange n room)) ∷ (15, eqb (total (weights n B)) 0) ∷ []
 
--- NSL and the sixteen totals; and the answer table's first 32 numbers, the shares in opening order and 0 past the last
+-- NSL and the sixteen totals; and the answer table's first numbers, the shares in opening order and 0 past the last
 -- point. A refused allocation gives the answer table nothing.
 unfoldable pub allocate : AllocationQuery → ℕ → Book → Numbers × List ℤ
 allocate n room B =
     let totals : Numbers = map (λ u. totalOf (natOf (n .gasday)) u (B .points) (pointShares n B)) users in
-    let table : List ℤ = pointShares n B ++ replicate (32 - length (B .points)) (pos 0) in
+    let table : List ℤ = pointShares n B ++ replicate (shareCount - length (B .points)) (pos 0) in
     decide (least (allocateRows n room B)) 17 [] (pos (nslOf n B) ∷ totals, table)

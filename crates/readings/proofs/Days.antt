@@ -16,8 +16,9 @@ use Rattle.daybook.specs.Book.{Entry, Point, filled}
 use Rattle.daybook.specs.Queries.{someFilled, allFilled}
 use Rattle.lists.specs.Lists.{pointOf}
 use Rattle.layout.specs.Layout.{numAt}
+use Rattle.layout.specs.InnerParts.{SoundPart}
 use Rattle.point.specs.InnerTests.{recRow}
-use Rattle.readings.specs.InnerReadings.{pointAt, Readable, daysPassed, filledDays}
+use Rattle.readings.specs.InnerReadings.{pointAt, daysPassed, filledDays}
 use Rattle.readings.specs.InnerRecords.{partBetween, dayCount}
 use Rattle.readings.proofs.Records.{dayOf, before-up, days-by-rows}
 
@@ -41,7 +42,7 @@ unfolding filledDays sumFrom
 filled-sum p a zero = refl
 filled-sum p a (suc n) = ap₂ _+ℤ_ (filled-day (p .entry a) a) (filled-sum p (suc a) n)
 
-pub filled-by-rows : {p : List ℤ} → Readable p → (x y : ℕ) → x ≤ y
+pub filled-by-rows : {p : List ℤ} → SoundPart p → (x y : ℕ) → x ≤ y
     → sumFrom (λ k. partBetween dayCount x y (recRow p k)) 0 (numAt p 6) ≡ pos (filledDays (pointAt p) x (y - x))
 unfolding pointAt pointOf
 filled-by-rows {p} r x y h = days-by-rows dayCount r x y h ∙ sym (filled-sum (pointAt p) x (y - x))

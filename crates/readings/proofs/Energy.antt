@@ -15,8 +15,9 @@ use Rattle.numbers.proofs.Shares.{energies-near, raised-difference}
 use Rattle.daybook.specs.Book.{Entry, dayShare}
 use Rattle.lists.specs.Lists.{entryOn, pointOf}
 use Rattle.layout.specs.Layout.{numAt, pointFrom}
+use Rattle.layout.specs.InnerParts.{SoundPart}
 use Rattle.point.specs.InnerTests.{recRow}
-use Rattle.readings.specs.InnerReadings.{pointAt, Readable, daysPassed}
+use Rattle.readings.specs.InnerReadings.{pointAt, daysPassed}
 use Rattle.readings.specs.InnerRecords.{partBetween, partialOf}
 use Rattle.readings.proofs.Part.{RecordOk}
 use Rattle.readings.proofs.Records.{dayOf, before-most, days-by-rows}
@@ -64,7 +65,7 @@ unfolding dayOf partialOf share
 share-day none d = refl
 share-day (some x) d = refl
 
-pub energy-by-rows : {p : List ℤ} → Readable p → (x y : ℕ) → x ≤ y
+pub energy-by-rows : {p : List ℤ} → SoundPart p → (x y : ℕ) → x ≤ y
     → sumFrom (λ k. partBetween partialOf x y (recRow p k)) 0 (numAt p 6) ≡ sumFrom (dayShare (pointAt p)) x (y - x)
 unfolding pointAt pointOf dayShare
 energy-by-rows {p} r x y h =

@@ -1,46 +1,23 @@
--- A readable part: its lists are well-formed, and its rows are those of the lists. Assumes nothing.
+-- The lists of a part by index, and what holds of each record of a sound one. Assumes nothing.
 use mathlib.Core.Path.{_≡_, refl, subst, _∙_}
 use mathlib.Core.Bool.{Bool, true, false}
 use mathlib.Core.Option.{Option}
 use mathlib.Core.List.{List, _∷_}
-use Prim.Native.Nat.{ℕ, zero, suc, _+_, _-_, _/_, _≤_, _<_}
+use Prim.Native.Nat.{ℕ, zero, suc, _+_, _≤_, _<_}
 use native.Mathlib.Omega.{arith}
 use borrow.Author.Tests.{leb-true, eqb-true, eqb-false}
 use lib.Dec.{eqb}
-use lib.ListN.{length}
 use lib.IntN.{ℤ}
 use Rattle.numbers.specs.InnerEnergies.{biasOf}
-use Rattle.numbers.proofs.Bools.{both}
 use Rattle.daybook.specs.Book.{Entry}
-use Rattle.lists.specs.InnerWell.{Recs, rec, Well}
+use Rattle.lists.specs.InnerWell.{Recs, rec}
 use Rattle.lists.proofs.Apart.{fits-le}
-use Rattle.layout.specs.Layout.{numAt, pointFrom, pointNumbers}
-use Rattle.layout.specs.Sound.{partSound}
-use Rattle.layout.proofs.PartLays.{part-lays}
-use Rattle.point.specs.InnerTests.{Counted, regRow, recRow}
-use Rattle.point.proofs.Loops.{counted}
+use Rattle.layout.specs.Layout.{numAt, pointFrom}
+use Rattle.layout.specs.InnerParts.{SoundPart}
+use Rattle.layout.proofs.SoundParts.{part-well}
+use Rattle.point.specs.InnerTests.{regRow, recRow}
 use Rattle.point.proofs.Records.{energy-same}
 use Rattle.point.proofs.Rows.{rowsAt, regs-read, recs-read}
-use Rattle.readings.specs.InnerReadings.{Readable}
-
--- How many records a part has room for.
-abbrev pub roomOf : List ℤ → ℕ
-roomOf p = (length p - 48) / 4
-
-module _ {p : List ℤ} (r : Readable p) where
-  lays : Well (roomOf p) (pointFrom p) × (pointNumbers (roomOf p) (pointFrom p) ≡ p)
-  lays = part-lays p (roomOf p) (omega (arith, r .long, r .inFours)) (r .isSound)
-
-  pub part-well : Well (roomOf p) (pointFrom p)
-  part-well = lays .0
-
-  pub part-laid : pointNumbers (roomOf p) (pointFrom p) ≡ p
-  part-laid = lays .1
-
-  -- its rows lie in it
-  pub part-counted : Counted p
-  unfolding partSound
-  part-counted = counted p (r .long) (both _ _ (both _ _ (r .isSound) .0) .0)
 
 -- ---- the lists by index
 
@@ -73,6 +50,6 @@ row-ok f (suc n) k (rec a b c e t g r) i h l = go (eqb k i) refl (row-ok f n (su
     go true q ih = subst (λ j. RecordOk (f j)) (eqb-true k i q) (first-ok (rec a b c e t g r))
     go false q ih = let s : ¬ (k ≡ i) = eqb-false k i q in ih (omega arith) (omega arith)
 
-pub record-ok : {p : List ℤ} → Readable p → (k : ℕ) → k < numAt p 6 → RecordOk (recRow p k)
+pub record-ok : {p : List ℤ} → SoundPart p → (k : ℕ) → k < numAt p 6 → RecordOk (recRow p k)
 record-ok {p} r k h =
     row-ok (recRow p) (numAt p 6) 0 (subst (Recs _ _ _) (recs-of p) (part-well r .recsOk)) k (omega arith) (omega arith)

@@ -17,11 +17,13 @@ use Rattle.daybook.specs.Queries.{sumOf}
 use Rattle.lists.specs.Lists.{entryOn}
 use Rattle.lists.proofs.Apart.{Apart, noentry, apart, recs-apart, Place, inside, under, over, place, entry-none}
 use Rattle.layout.specs.Layout.{numAt, pointFrom}
+use Rattle.layout.specs.InnerParts.{SoundPart}
+use Rattle.layout.proofs.SoundParts.{part-well}
 use Rattle.point.specs.InnerTests.{recRow}
 use Rattle.point.proofs.Rows.{rowsAt}
-use Rattle.readings.specs.InnerReadings.{Readable, daysPassed}
+use Rattle.readings.specs.InnerReadings.{daysPassed}
 use Rattle.readings.specs.InnerRecords.{partBetween}
-use Rattle.readings.proofs.Part.{part-well, recs-of}
+use Rattle.readings.proofs.Part.{recs-of}
 
 -- What a day has, where the first k days of its entry have g k together.
 unfoldable pub dayOf : (Entry → ℕ → ℤ) → Option Entry → ℕ → ℤ
@@ -106,7 +108,7 @@ sum-rows f row k zero = refl
 sum-rows f row k (suc n) = ap (λ z. f (row k) +ℤ z) (sum-rows f row (suc k) n)
 
 -- the days x to y - 1 of a readable part, by its rows
-pub days-by-rows : (g : Entry → ℕ → ℤ) {p : List ℤ} → Readable p → (x y : ℕ) → x ≤ y
+pub days-by-rows : (g : Entry → ℕ → ℤ) {p : List ℤ} → SoundPart p → (x y : ℕ) → x ≤ y
     → sumFrom (λ k. partBetween g x y (recRow p k)) 0 (numAt p 6) ≡ sumFrom (λ d. dayOf g (entryOn (pointFrom p .recs) d) d) x (y - x)
 days-by-rows g {p} r x y h =
     let e : x + (y - x) ≡ y = omega arith in

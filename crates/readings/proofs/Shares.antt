@@ -17,9 +17,11 @@ use Rattle.lists.specs.Lists.{entryOn, pointOf}
 use Rattle.lists.specs.InnerWell.{Recs, norec, rec}
 use Rattle.lists.proofs.Apart.{Place, inside, under, over, place}
 use Rattle.layout.specs.Layout.{pointFrom}
-use Rattle.readings.specs.InnerReadings.{pointAt, Readable}
+use Rattle.layout.specs.InnerParts.{SoundPart}
+use Rattle.layout.proofs.SoundParts.{part-well}
+use Rattle.readings.specs.InnerReadings.{pointAt}
 use Rattle.readings.specs.InnerRecords.{partialOf}
-use Rattle.readings.proofs.Part.{part-well, RecordOk, first-ok}
+use Rattle.readings.proofs.Part.{RecordOk, first-ok}
 use Rattle.readings.proofs.Records.{dayOf}
 use Rattle.readings.proofs.Energy.{share-day}
 
@@ -60,7 +62,7 @@ day-small (rec {x = x} {l = l} a b c e t g r) d = go (place x d) (day-small r d)
 
 -- ---- the code's energy of one day, raised by 2,000,000,000
 
-module _ {p : List ℤ} (ok : Readable p) (d r : ℕ) where
+module _ {p : List ℤ} (ok : SoundPart p) (d r : ℕ) where
   share-small : Small (dayShare (pointAt p) d)
   unfolding pointAt pointOf dayShare
   share-small = rw (share-day (entryOn (pointFrom p .recs) d) d) (day-small (part-well ok .recsOk) d)

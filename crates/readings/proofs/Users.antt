@@ -14,12 +14,14 @@ use Rattle.lists.specs.Lists.{userOn, inSpan, offOn, pointOf}
 use Rattle.lists.specs.InnerSteps.{overlaps, someOverlap}
 use Rattle.lists.proofs.Registrations.{user-none, user-known}
 use Rattle.layout.specs.Layout.{numAt, pointFrom}
+use Rattle.layout.specs.InnerParts.{SoundPart}
+use Rattle.layout.proofs.SoundParts.{part-well, part-laid}
 use Rattle.layout.proofs.Cells.{place-offs}
 use Rattle.point.specs.InnerTests.{regStart, regUser, noOff, regRow}
 use Rattle.point.proofs.Readers.{no-off-is}
 use Rattle.point.proofs.Rows.{rowsAt}
-use Rattle.readings.specs.InnerReadings.{pointAt, Readable}
-use Rattle.readings.proofs.Part.{part-well, part-laid, regs-of}
+use Rattle.readings.specs.InnerReadings.{pointAt}
+use Rattle.readings.proofs.Part.{regs-of}
 
 -- ---- the FRO, by a loop with the invariant that the registrations left decide the day
 
@@ -39,7 +41,7 @@ module _ (p : List ℤ) (g n j u : ℕ) where
       let k : n - 0 ≡ numAt p 4 = omega arith in
       (rw m at h) ∙ ap (λ i. userOn 0 (rowsAt (regRow p) 0 i) g) k ∙ ap (λ l. userOn 0 l g) (sym (regs-of p))
 
-pub fro-few : {p : List ℤ} → Readable p → (g : ℕ) → pointAt p .fro g ≤ 16
+pub fro-few : {p : List ℤ} → SoundPart p → (g : ℕ) → pointAt p .fro g ≤ 16
 unfolding pointAt pointOf
 fro-few {p} r g = go (leb (pointFrom p .facts .install) g) refl
   where
@@ -58,7 +60,7 @@ unfolding someOverlap offOn
 off-day [] g = refl
 off-day (x ∷ l) g = ap₂ _||_ (in-span x g) (off-day l g)
 
-pub off-is : {p : List ℤ} → Readable p → (g : ℕ) → g ≤ 39999 → not (noOff p (numAt p 5) g g) ≡ pointAt p .off g
+pub off-is : {p : List ℤ} → SoundPart p → (g : ℕ) → g ≤ 39999 → not (noOff p (numAt p 5) g g) ≡ pointAt p .off g
 unfolding pointAt pointOf
 off-is {p} r g h =
     ap not
@@ -80,6 +82,6 @@ pub base-is : (p : List ℤ) → numAt p 3 ≡ pointAt p .facts .base
 unfolding pointAt pointOf pointFrom
 base-is p = refl
 
-pub base-few : {p : List ℤ} → Readable p → numAt p 3 ≤ 10000
+pub base-few : {p : List ℤ} → SoundPart p → numAt p 3 ≤ 10000
 unfolding pointFrom
 base-few r = part-well r .factsOk .baseOk

@@ -20,7 +20,7 @@ use Rattle.readings.proofs.Days.{some-filled}
 -- ---- T
 
 -- a raised number, where less than 0 counts 0
-at-least : (r m : ℕ) → atLeast0 (subℕ r m) ≡ r - m
+pub at-least : (r m : ℕ) → atLeast0 (subℕ r m) ≡ r - m
 at-least r m = go (ltb r m) refl
   where
     go : (t : Bool) → ltb r m ≡ t → atLeast0 (subℕ r m) ≡ r - m

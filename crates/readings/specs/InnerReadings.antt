@@ -1,25 +1,15 @@
--- The point that a part of the table stands for, and what its readers rely on.
-use mathlib.Core.Path.{_≡_}
-use mathlib.Core.Bool.{true, cond}
+-- The point that a part of the table stands for, and days of it.
+use mathlib.Core.Bool.{cond}
 use mathlib.Core.List.{List}
-use Prim.Native.Nat.{ℕ, zero, suc, _+_, _-_, _%_, _≤_, min}
-use lib.ListN.{length}
+use Prim.Native.Nat.{ℕ, zero, suc, _+_, _-_, min}
 use lib.IntN.{ℤ}
 use Rattle.daybook.specs.Book.{Point, filled}
 use Rattle.lists.specs.Lists.{pointOf}
 use Rattle.layout.specs.Layout.{pointFrom}
-use Rattle.layout.specs.Sound.{partSound}
 
 -- The day book's point of a part.
 unfoldable pub pointAt : List ℤ → Point
 pointAt p = pointOf (pointFrom p)
-
--- A sound part of any number of records that a register has room for.
-pub record Readable (p : List ℤ) : Type 0 where
-  pub isSound : partSound p ≡ true
-  pub long : 48 ≤ length p
-  pub inFours : length p % 4 ≡ 0
-  pub short : length p ≤ 7680
 
 -- How many of the days s to e lie before day d.
 unfoldable pub daysPassed : ℕ → ℕ → ℕ → ℕ

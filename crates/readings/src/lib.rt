@@ -11,8 +11,9 @@ ghost use Rattle.numbers.specs.Sums.{sumFrom, sumOver};
 ghost use Rattle.daybook.specs.Book.{dayShare, filled};
 ghost use Rattle.daybook.specs.Queries.{active as isActive, allFilled, atLeast0, baseOver, dailyGas, meteredOf, weight as weightOf};
 ghost use Rattle.layout.specs.Layout.{numAt};
+ghost use Rattle.layout.specs.InnerParts.{SoundPart};
 ghost use Rattle.point.specs.InnerTests.{regStart, regUser, recRow};
-ghost use Rattle.readings.specs.InnerReadings.{pointAt, Readable, daysPassed, filledDays};
+ghost use Rattle.readings.specs.InnerReadings.{pointAt, daysPassed, filledDays};
 ghost use Rattle.readings.specs.InnerRecords.{partBetween, partialOf, dayCount};
 
 // How many of the days start to end lie before day d.
@@ -31,7 +32,7 @@ fn days_passed(start: u64, end: u64, d: u64) -> u64
 
 // The energy of record k's days from x to y - 1, raised by 1,000,000.
 fn record_energy(p: &[i64], k: usize, x: u64, y: u64) -> u64
-    requires { ⌜ Readable (now p) × (k < numAt (now p) 6) × (x ≤ y) ⌝ }
+    requires { ⌜ SoundPart (now p) × (k < numAt (now p) 6) × (x ≤ y) ⌝ }
     ensures { λ r. ⌜ (subℕ r 1000000 ≡ partBetween partialOf x y (recRow (now (p .entry)) k)) × (r ≤ 2000000) ⌝ }
 {
     let at = 48 + 4 * k;
@@ -49,7 +50,7 @@ fn record_energy(p: &[i64], k: usize, x: u64, y: u64) -> u64
 
 // The energy of the days x to y - 1, raised by 2,000,000,000.
 pub fn energy_between(p: &[i64], x: u64, y: u64) -> u64
-    requires { ⌜ Readable (now p) × (x ≤ y) ⌝ }
+    requires { ⌜ SoundPart (now p) × (x ≤ y) ⌝ }
     ensures { λ r. ⌜ (subℕ r 2000000000 ≡ sumFrom (dayShare (pointAt (now (p .entry)))) x (y - x)) × (r ≤ 2000000000 + 1000000 * numAt (now (p .entry)) 6) ⌝ }
 {
     let n = numbers::get(p, 6);
@@ -64,7 +65,7 @@ pub fn energy_between(p: &[i64], x: u64, y: u64) -> u64
 
 // How many of the days x to y - 1 record k has.
 fn record_days(p: &[i64], k: usize, x: u64, y: u64) -> u64
-    requires { ⌜ Readable (now p) × (k < numAt (now p) 6) × (x ≤ y) ⌝ }
+    requires { ⌜ SoundPart (now p) × (k < numAt (now p) 6) × (x ≤ y) ⌝ }
     ensures { λ r. ⌜ (pos r ≡ partBetween dayCount x y (recRow (now (p .entry)) k)) × (r ≤ 40000) ⌝ }
 {
     let at = 48 + 4 * k;
@@ -78,7 +79,7 @@ fn record_days(p: &[i64], k: usize, x: u64, y: u64) -> u64
 
 // How many of the days x to y - 1 are filled.
 pub fn filled_between(p: &[i64], x: u64, y: u64) -> u64
-    requires { ⌜ Readable (now p) × (x ≤ y) ⌝ }
+    requires { ⌜ SoundPart (now p) × (x ≤ y) ⌝ }
     ensures { λ r. ⌜ r ≡ filledDays (pointAt (now (p .entry))) x (y - x) ⌝ }
 {
     let n = numbers::get(p, 6);
@@ -104,7 +105,7 @@ fn user_since(p: &[i64], j: usize, g: u64, earlier: u64) -> u64
 
 // The FRO of day g, 0 before install.
 pub fn fro_on(p: &[i64], g: u64) -> u64
-    requires { ⌜ Readable (now p) ⌝ }
+    requires { ⌜ SoundPart (now p) ⌝ }
     ensures { λ r. ⌜ (r ≡ pointAt (now (p .entry)) .fro g) × (r ≤ 16) ⌝ }
 {
     let n = numbers::get(p, 4);
@@ -119,7 +120,7 @@ pub fn fro_on(p: &[i64], g: u64) -> u64
 
 // Is the point off on day g?
 pub fn off_on(p: &[i64], g: u64) -> bool
-    requires { ⌜ Readable (now p) × (g ≤ 39999) ⌝ }
+    requires { ⌜ SoundPart (now p) × (g ≤ 39999) ⌝ }
     ensures { λ r. ⌜ r ≡ pointAt (now (p .entry)) .off g ⌝ }
 {
     let n = numbers::get(p, 5) as usize;
@@ -128,7 +129,7 @@ pub fn off_on(p: &[i64], g: u64) -> bool
 
 // Is the point installed and not off on gas day g?
 pub fn active(p: &[i64], g: u64) -> bool
-    requires { ⌜ Readable (now p) × (g ≤ 39999) ⌝ }
+    requires { ⌜ SoundPart (now p) × (g ≤ 39999) ⌝ }
     ensures { λ r. ⌜ r ≡ isActive g (pointAt (now (p .entry))) ⌝ }
 {
     (numbers::get(p, 2) <= g) & !off_on(p, g)
@@ -136,7 +137,7 @@ pub fn active(p: &[i64], g: u64) -> bool
 
 // Shares over the days a to b that add up to less than 0 count 0.
 fn measured(p: &[i64], a: u64, b: u64) -> u64
-    requires { ⌜ Readable (now p) × (a ≤ b + 1) × (b ≤ 39999) ⌝ }
+    requires { ⌜ SoundPart (now p) × (a ≤ b + 1) × (b ≤ 39999) ⌝ }
     ensures { λ r. ⌜ (r ≡ atLeast0 (sumOver (dayShare (pointAt (now (p .entry)))) a b)) × (r ≤ 1000000 * numAt (now (p .entry)) 6) ⌝ }
 {
     let energy = energy_between(p, a, b + 1);
@@ -159,7 +160,7 @@ fn base_over(base: u64, a: u64, b: u64) -> u64
 
 // T of a point over the days a to b, for gas day g. Filled days are counted only where no energy shows them.
 pub fn weight(p: &[i64], g: u64, a: u64, b: u64) -> u64
-    requires { ⌜ Readable (now p) × (g ≤ 39999) × (a ≤ b + 1) × (b ≤ a + 399) × (b ≤ 39999) ⌝ }
+    requires { ⌜ SoundPart (now p) × (g ≤ 39999) × (a ≤ b + 1) × (b ≤ a + 399) × (b ≤ 39999) ⌝ }
     ensures { λ r. ⌜ (r ≡ weightOf g a b (pointAt (now (p .entry)))) × (r ≤ 4000000 + 250000 * length (now (p .entry))) ⌝ }
 {
     if !(active(p, g) & (numbers::get(p, 1) == 0)) {
@@ -177,14 +178,14 @@ pub fn weight(p: &[i64], g: u64, a: u64, b: u64) -> u64
 
 // The share of day d, raised by 1,000,000.
 fn share_on(p: &[i64], d: u64) -> u64
-    requires { ⌜ Readable (now p) × (d ≤ 39999) ⌝ }
+    requires { ⌜ SoundPart (now p) × (d ≤ 39999) ⌝ }
     ensures { λ r. ⌜ (subℕ r 1000000 ≡ dayShare (pointAt (now (p .entry))) d) × (r ≤ 2000000) ⌝ }
 {
     energy_between(p, d, d + 1) - 1999000000
 }
 
 fn filled_on(p: &[i64], d: u64) -> bool
-    requires { ⌜ Readable (now p) × (d ≤ 39999) ⌝ }
+    requires { ⌜ SoundPart (now p) × (d ≤ 39999) ⌝ }
     ensures { λ r. ⌜ r ≡ filled (pointAt (now (p .entry))) d ⌝ }
 {
     filled_between(p, d, d + 1) == 1
@@ -192,7 +193,7 @@ fn filled_on(p: &[i64], d: u64) -> bool
 
 // Are the seven days before g days of the book, and filled?
 fn week_filled(p: &[i64], g: u64) -> bool
-    requires { ⌜ Readable (now p) × (g ≤ 39999) ⌝ }
+    requires { ⌜ SoundPart (now p) × (g ≤ 39999) ⌝ }
     ensures { λ r. ⌜ r ≡ (leb 7 g && allFilled (pointAt (now (p .entry))) (g - 7) 7) ⌝ }
 {
     if g < 7 {
@@ -203,7 +204,7 @@ fn week_filled(p: &[i64], g: u64) -> bool
 
 // A daily point's gas of day g (8.11.2(b)), raised by 1,000,000.
 fn gas_on(p: &[i64], g: u64) -> u64
-    requires { ⌜ Readable (now p) × (1 ≤ g) × (g ≤ 39999) ⌝ }
+    requires { ⌜ SoundPart (now p) × (1 ≤ g) × (g ≤ 39999) ⌝ }
     ensures { λ r. ⌜ (subℕ r 1000000 ≡ dailyGas g (pointAt (now (p .entry)))) × (r ≤ 2000000) ⌝ }
 {
     if filled_on(p, g) {
@@ -220,7 +221,7 @@ fn gas_on(p: &[i64], g: u64) -> u64
 
 // What a point adds to TDM, raised by 1,000,000: its gas if it is active and daily, else nothing.
 pub fn metered(p: &[i64], g: u64) -> u64
-    requires { ⌜ Readable (now p) × (1 ≤ g) × (g ≤ 39999) ⌝ }
+    requires { ⌜ SoundPart (now p) × (1 ≤ g) × (g ≤ 39999) ⌝ }
     ensures { λ r. ⌜ (subℕ r 1000000 ≡ meteredOf g (pointAt (now (p .entry)))) × (r ≤ 2000000) ⌝ }
 {
     if active(p, g) & (numbers::get(p, 1) == 1) {

@@ -7,7 +7,6 @@ use Rattle.numbers.proofs.Sums.{sum-none, sum-turn, sum-end}
 use Rattle.numbers.proofs.Integers.{raise}
 use Rattle.daybook.specs.Book.{dayShare}
 use Rattle.readings.specs.InnerReadings.{pointAt}
-use Rattle.readings.proofs.Part.{part-counted}
 use Rattle.account.specs.InnerRegistrations.{ownIn}
 use Rattle.account.proofs.Registrations.{own-by-rows}
 use borrow.Author.Needs.{needs}
@@ -24,29 +23,16 @@ abbrev μ-loop : tie.MeasureT-loop
 loop-holds : tie.Need-loop-holds Inv-loop μ-loop
 loop-holds c = (omega arith, omega arith, sum-none _ 0)
 
-add-sum : tie.Need-add-sum Inv-loop μ-loop
-add-sum c = let h = part-counted (c .before .before .before .before .pre .0) in search needs
-
 loop-again : tie.Need-loop-again Inv-loop μ-loop
 loop-again c =
     let l = c .before .before .loop in
     (search needs, search needs, sum-turn _ 2000000000 (l .j) (l .sum) _ (l .inv .2) (c .registration-energy .ensures .0))
-
-add-result : tie.Need-add-result Inv-loop μ-loop
-add-result c = let h = part-counted (c .before .before .before .pre .0) in search needs
-
-mul-result : tie.Need-mul-result Inv-loop μ-loop
-mul-result c = let h = part-counted (c .before .before .before .pre .0) in search needs
-
-sub-result : tie.Need-sub-result Inv-loop μ-loop
-sub-result c = let h = part-counted (c .before .before .before .pre .0) in search needs
 
 returns : tie.Need-returns Inv-loop μ-loop
 returns c =
     let s = c .before .before .before in
     let n = c .before .before .get .result in
     let l = c .before .loop in
-    let h = part-counted (s .pre .0) in
     let e : l .j ≡ n = omega arith in (
       raise (l .sum) (2000000000 * n) 16000000000 (omega arith)
           ∙ sum-end _ 2000000000 (l .j) (l .sum) n (l .inv .2) e
@@ -62,11 +48,7 @@ point-energy-spec =
     Inv-loop μ-loop
     (λ c κs. search needs)
     loop-holds
-    (λ c κs. search needs)
-    add-sum
-    (λ c. search needs) (λ c. search needs)
+    (λ c κs. search needs) (λ c. search needs) (λ c. search needs) (λ c. search needs)
     loop-again
-    add-result
-    mul-result
-    sub-result
+    (λ c. search needs) (λ c. search needs) (λ c. search needs)
     returns)

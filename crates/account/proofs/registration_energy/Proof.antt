@@ -1,30 +1,14 @@
 use mathlib.Core.Path.{sym, _∙_}
 use native.Mathlib.Omega.{arith}
-use Rattle.readings.proofs.Part.{part-counted}
 use Rattle.account.proofs.Registrations.{next-later, own-other, own-same}
 use borrow.Author.Needs.{needs}
 use Rattle.account.proofs.registration_energy.Statement.{statement}
 use Rattle.account.proofs.registration_energy.Tie as tie
 
-mul-get : tie.Need-mul-get
-mul-get c = let h = part-counted (c .pre .0) in search needs
-
-add-get : tie.Need-add-get
-add-get c = let h = part-counted (c .pre .0) in search needs
-
-add-get-2 : tie.Need-add-get-2
-add-get-2 c = let h = part-counted (c .pre .0) in search needs
-
-get-requires : tie.Need-get-requires
-get-requires c κs = let h = part-counted (c .pre .0) in search needs
-
 returns : tie.Need-returns
 returns c =
     let s = c .before .before in
     (sym (own-other _ (s .args .user) (s .args .p .now) (s .args .x) (s .args .y) (s .args .j) (λ e. c .if1 .taken (c .before .get .ensures .0 ∙ e))), search needs)
-
-add-start-in : tie.Need-add-start-in
-add-start-in c = let h = part-counted (c .before .before .before .pre .0) in search needs
 
 energy-between-requires : tie.Need-energy-between-requires
 energy-between-requires c κs =
@@ -34,7 +18,6 @@ energy-between-requires c κs =
 returns-2 : tie.Need-returns-2
 returns-2 c =
     let s = c .before .before .before .before .before in
-    let h = part-counted (s .pre .0) in
     let same = sym (c .before .before .before .before .get .ensures .0) ∙ c .before .before .before .if1 .left in (
       c .energy-between .ensures .0
           ∙ own-same _ (s .args .user) (s .args .p .now) (s .args .x) (s .args .y) (s .args .j) same (c .before .before .start-in .ensures) (c .before .start-in2 .ensures),
@@ -45,13 +28,8 @@ pub registration-energy-spec : {M : Type 1} → statement M
 registration-energy-spec =
     tie.close
     (tie.spec
-    mul-get
-    add-get
-    add-get-2
-    get-requires
+    (λ c. search needs) (λ c. search needs) (λ c. search needs) (λ c κs. search needs)
     returns
-    (λ c κs. search needs)
-    add-start-in
-    (λ c κs. search needs)
+    (λ c κs. search needs) (λ c. search needs) (λ c κs. search needs)
     energy-between-requires
     returns-2)

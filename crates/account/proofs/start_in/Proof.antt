@@ -1,6 +1,5 @@
 use mathlib.Core.Path.{sym, ap, _∙_}
 use native.Mathlib.Omega.{arith}
-use Rattle.readings.proofs.Part.{part-counted}
 use Rattle.account.specs.InnerRegistrations.{movedInto}
 use Rattle.account.proofs.Registrations.{start-is, start-end}
 use borrow.Author.Needs.{needs}
@@ -11,12 +10,6 @@ returns : tie.Need-returns
 returns c =
     let s = c .before .before in
     sym (start-end (s .args .p .now) (s .args .x) (s .args .y) (s .args .j) (omega arith))
-
-add-get : tie.Need-add-get
-add-get c = let h = part-counted (c .before .before .pre .0) in search needs
-
-get-requires-2 : tie.Need-get-requires-2
-get-requires-2 c κs = let h = part-counted (c .before .before .pre .0) in search needs
 
 returns-2 : tie.Need-returns-2
 returns-2 c =
@@ -30,8 +23,5 @@ start-in-spec =
     (tie.spec
     (λ c κs. search needs)
     returns
-    (λ c. search needs)
-    add-get
-    get-requires-2
-    (λ c κs. search needs)
+    (λ c. search needs) (λ c. search needs) (λ c κs. search needs) (λ c κs. search needs)
     returns-2)

@@ -10,7 +10,6 @@ use borrow.Author.Needs.{needs, sfits-of}
 use Rattle.numbers.specs.Naturals.{natOf}
 use Rattle.numbers.proofs.Naturals.{natural-read}
 use Rattle.daybook.specs.Queries.{atLeast0, tdmOf, nslOf, split, users}
-use Rattle.daybook.specs.Book.{standard}
 use Rattle.layout.specs.Layout.{tableBook}
 use Rattle.table.proofs.Laws.{sound-long}
 use Rattle.allocate.specs.Allocate.{placed}
@@ -28,47 +27,45 @@ gasday-is : (c : tie.After-natural) → c .natural .result ≡ natOf (c .before 
 gasday-is c = c .natural .ensures .0 ∙ natural-read (c .before .before .before .args .q .gasday) (sfits-of (c .before .struct-told .given .0 .1))
 
 -- the load is the book's
-nsl-is : (c : tie.After-net-load) → c .net-load .result ≡ nslOf (start (c .before) .args .q) (tableBook standard (start (c .before) .args .t .now))
+nsl-is : (c : tie.After-net-load) → c .net-load .result ≡ nslOf (start (c .before) .args .q) (tableBook (start (c .before) .args .ed) (start (c .before) .args .t .now))
 nsl-is c =
     let s = start (c .before) in
     let n = c .before .get .ensures .0 in
     let tdm = c .before .before .metered .result in
     load-is (s .pre) tdm
     (c .net-load .ensures .0 ∙ ap (λ k. atLeast0 (loadOf (s .args .q) tdm (1000000 * k))) n)
-    (c .before .before .metered .ensures .0 ∙ ap (λ g. tdmOf g (tableBook standard (s .args .t .now))) (gasday-is (c .before .before .before)))
+    (c .before .before .metered .ensures .0 ∙ ap (λ g. tdmOf g (tableBook (s .args .ed) (s .args .t .now))) (gasday-is (c .before .before .before)))
 
-fros-is : (c : tie.After-fros) → c .fros .result ≡ padded (map (λ p. p .fro (natOf (start (c .before .before .before .before .before) .args .q .gasday))) (pointsOf (start (c .before .before .before .before .before) .args .t .now)))
+fros-is : (c : tie.After-fros)
+    → let s = start (c .before .before .before .before .before) in
+    c .fros .result ≡ padded (map (λ p. p .fro (natOf (s .args .q .gasday))) (pointsOf (s .args .ed) (s .args .t .now)))
 fros-is c =
     let after-get = c .before .before .before .before .before in
+    let s = start after-get in
     c .fros .ensures
-    ∙ ap (λ g. padded (map (λ p. p .fro g) (pointsOf (start after-get .args .t .now)))) (gasday-is (after-get .before .before))
+    ∙ ap (λ g. padded (map (λ p. p .fro g) (pointsOf (s .args .ed) (s .args .t .now)))) (gasday-is (after-get .before .before))
 
--- src/lib.rt:208:28
 metered-requires : tie.Need-metered-requires
 metered-requires c κs =
     let s = c .before .before .before in
     let ok = in-range (s .pre) in
-    (s .pre .isSound, rw (gasday-is c) (ok .gasdayLow), rw (gasday-is c) (ok .gasdayHigh))
+    (s .pre .fits, s .pre .isSound, rw (gasday-is c) (ok .gasdayLow), rw (gasday-is c) (ok .gasdayHigh))
 
--- src/lib.rt:208:43
 get-requires : tie.Need-get-requires
-get-requires c κs = omega (arith, sound-long (c .before .before .before .before .args .t .now) (c .before .before .before .before .pre .isSound) .0)
+get-requires c κs = omega (arith, sound-long _ _ (c .before .before .before .before .pre .isSound) .0)
 
--- src/lib.rt:208:9
 net-load-requires : tie.Need-net-load-requires
 net-load-requires c κs =
     let s = c .before .before .before .before .before in
     let ok = in-range (s .pre) in
-    let n = sound-long (s .args .t .now) (s .pre .isSound) .1 in
+    let n = sound-long _ _ (s .pre .isSound) .1 in
     (ok .tdqOk, ok .uagOk, ok .clpOk, omega (arith, c .get .ensures .0, n), rw (c .get .ensures .0) (c .before .metered .ensures .1))
 
--- src/lib.rt:209:5
 split-to-requires : tie.Need-split-to-requires
 split-to-requires c κs =
     let s = start (c .before .before) in
     (weigh-32 (s .pre), in-range-tells (s .args .q) (length (s .args .out .now)) (s .pre .inRange) .1, c .before .net-load .ensures .1, s .pre .some, s .pre .few, s .pre .sum)
 
--- src/lib.rt:211:9
 totals-requires : tie.Need-totals-requires
 totals-requires c κs =
     let after-split-to = c .before .before .before .before in
@@ -80,7 +77,6 @@ totals-requires c κs =
       subst (SharesBelow 3032000000) (sym out) (shares-small (s .pre) (nsl-is load) (load .net-load .ensures .1) (s .args .out .now)),
     )
 
--- src/lib.rt:202:1
 returns : tie.Need-returns
 unfolding givenOf
 returns c =

@@ -7,7 +7,6 @@ use Rattle.allocate.proofs.Loads.{isLoad, in-range-is}
 use Rattle.allocate.proofs.in_range.Statement.{statement}
 use Rattle.allocate.proofs.in_range.Tie as tie
 
--- src/lib.rt:33:1
 returns : tie.Need-returns
 returns c =
     let s = c .before .before .before .before .before in

@@ -37,11 +37,9 @@ load-is c =
     (c .before .raised-load .ensures .0 ∙ toZ-ofZ w64 (s .args .q .uag) (sfits-of (fits .1 .1 .1 .1 .0 .1)))
     (c .raised-load2 .ensures .0 ∙ toZ-ofZ w64 (s .args .q .clp) (sfits-of (fits .1 .1 .1 .1 .1 .0 .1)))
 
--- src/lib.rt:68:9
 returns : tie.Need-returns
 returns c = (omega (arith, c .if1 .taken) ∙ load-is (c .before), omega arith)
 
--- src/lib.rt:58:1
 returns-2 : tie.Need-returns-2
 returns-2 c = (load-is (c .before), omega (arith, tdq-is (c .before .before .before) .1))
 

@@ -28,34 +28,28 @@ more-small c =
     let k = c .before .before .loop in
     next-small (s .args .ws .now) (k .k) 32 (s .args .s) (k .sum) (omega arith) (s .pre .0) (s .pre .5) (k .inv .2)
 
--- src/lib.rt:95:5
 loop-holds : tie.Need-loop-holds Inv-loop μ-loop
 unfolding split
 loop-holds c = (omega arith, refl, sym (sum-none (c .before .args .ws .now)), sym (nothing-yet (c .before .args .load) (c .before .args .s)), refl)
 
--- src/lib.rt:96:9
 add-sum : tie.Need-add-sum Inv-loop μ-loop
 add-sum c = record { fits = omega (arith, more-small c, c .before .before .before .before .pre .4) }
 
--- src/lib.rt:97:20
 mul-high : tie.Need-mul-high Inv-loop μ-loop
 mul-high c =
     let s = c .before .before .before .before in
     let k = c .before .before .loop in
     record { fits = omega (arith, product-small (s .args .load) (k .sum + getD (s .args .ws .now) (k .k) 0) (s .pre .2) (omega (arith, more-small c, s .pre .4))) }
 
--- src/lib.rt:97:20
 div-high : tie.Need-div-high Inv-loop μ-loop
 div-high c = c .before .before .before .before .pre .3
 
--- src/lib.rt:98:30
 sub-put : tie.Need-sub-put Inv-loop μ-loop
 sub-put c =
     let s = c .before .before .before .before .before in
     let k = c .before .before .before .loop in
     rw (k .inv .3) (part-up (s .args .load) (k .sum) (getD (s .args .ws .now) (k .k) 0) (s .args .s) (s .pre .3))
 
--- src/lib.rt:98:9
 put-requires : tie.Need-put-requires Inv-loop μ-loop
 put-requires c κs =
     let s = c .before .before .before .before .before in
@@ -63,7 +57,6 @@ put-requires c κs =
     let small = part-small (s .args .load) (k .sum + getD (s .args .ws .now) (k .k) 0) (s .args .s) (s .pre .3) (more-small (c .before)) in
     (omega (arith, k .inv .1, s .pre .1), omega (arith, small, s .pre .2))
 
--- src/lib.rt:95:5
 loop-again : tie.Need-loop-again Inv-loop μ-loop
 loop-again c =
     let in-loop = c .before .before .before .before in
@@ -82,7 +75,6 @@ loop-again c =
           ∙ split-step (s .args .load) (s .args .s) ws (s .args .out .now) (k .out) (k .k) (s .pre .3) inside (omega (arith, s .pre .1)) (k .inv .4),
     )
 
--- src/lib.rt:88:1
 returns : tie.Need-returns Inv-loop μ-loop
 unfolding placed
 returns c =

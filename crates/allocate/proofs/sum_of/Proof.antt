@@ -15,11 +15,9 @@ Inv-loop ws sum₀ k₀ sum k = (k ≤ 32) × (sum ≡ total (take k ws))
 abbrev μ-loop : tie.MeasureT-loop
 μ-loop ws sum₀ k₀ sum k = 32 - k
 
--- src/lib.rt:80:5
 loop-holds : tie.Need-loop-holds Inv-loop μ-loop
 loop-holds c = (omega arith, sym (sum-none (c .args .ws .now)))
 
--- src/lib.rt:81:9
 add-sum : tie.Need-add-sum Inv-loop μ-loop
 add-sum c =
     let s = c .before .before .before in
@@ -28,7 +26,6 @@ add-sum c =
     let more = next-small ws (k .k) 32 (total ws) (k .sum) (omega arith) (s .pre .0) refl (k .inv .1) in
     search needs
 
--- src/lib.rt:80:5
 loop-again : tie.Need-loop-again Inv-loop μ-loop
 loop-again c =
     let s = c .before .before in (
@@ -36,7 +33,6 @@ loop-again c =
       ap (λ z. z + getD (s .before .args .ws .now) (s .loop .k) 0) (s .loop .inv .1) ∙ sym (sum-step (s .before .args .ws .now) (s .loop .k) (omega (arith, s .before .pre .0))),
     )
 
--- src/lib.rt:74:1
 returns : tie.Need-returns Inv-loop μ-loop
 returns c =
     let s = c .before in

@@ -33,22 +33,18 @@ own-is c =
     let is = c .own .ensures ∙ ap (λ x. cond (eqb (getD (s .args .us .now) k 0) (s .args .u)) x 0) (c .before .get .ensures .0) in
     (is, rw is (cond-small (eqb (getD (s .args .us .now) k 0) (s .args .u)) (numAt (s .args .xs .now) k) 0 3032000000 (s .pre .2 k (omega arith)) (omega arith)))
 
--- src/lib.rt:121:5
 loop-holds : tie.Need-loop-holds Inv-loop μ-loop
 loop-holds c = (omega arith, omega arith, sym (total-none _ _ _))
 
--- src/lib.rt:122:9
 add-sum : tie.Need-add-sum Inv-loop μ-loop
 add-sum c = record { fits = omega (arith, own-is c .1) }
 
--- src/lib.rt:121:5
 loop-again : tie.Need-loop-again Inv-loop μ-loop
 loop-again c =
     let s = at-loop c .before .before in
     let k = at-loop c .loop in
     (omega arith, omega (arith, own-is c .1), ap₂ _+_ (k .inv .2) (own-is c .0) ∙ sym (total-step (s .args .us .now) (s .args .xs .now) (s .args .u) (k .k)))
 
--- src/lib.rt:115:1
 returns : tie.Need-returns Inv-loop μ-loop
 returns c =
     let s = c .before .before .before in

@@ -20,11 +20,9 @@ Inv-loop us xs all₀ k₀ all k = (k ≤ 16) × (all ≡ map (λ u. pos (totalT
 abbrev μ-loop : tie.MeasureT-loop
 μ-loop us xs all₀ k₀ all k = 16 - k
 
--- src/lib.rt:42:5
 loop-holds : tie.Need-loop-holds Inv-loop μ-loop
 loop-holds c = (omega arith, refl)
 
--- src/lib.rt:42:5
 loop-again : tie.Need-loop-again Inv-loop μ-loop
 loop-again c =
     let s = c .before .before .before .before .before in
@@ -34,7 +32,6 @@ loop-again c =
           ∙ row-step (λ u. pos (totalTo (s .args .us .now) (s .args .xs .now) u 32)) (replicate 16 (pos 0)) (k .all) (k .k) (omega arith) refl (k .inv .1),
     )
 
--- src/lib.rt:36:1
 returns : tie.Need-returns Inv-loop μ-loop
 returns c =
     let s = c .before .before .before in

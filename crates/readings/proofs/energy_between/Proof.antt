@@ -7,7 +7,6 @@ use Rattle.numbers.proofs.Sums.{sum-none, sum-turn, sum-end}
 use Rattle.numbers.proofs.Integers.{raise}
 use Rattle.point.specs.InnerTests.{recRow}
 use Rattle.readings.specs.InnerRecords.{partBetween, partialOf}
-use Rattle.readings.proofs.Part.{part-counted}
 use Rattle.readings.proofs.Energy.{energy-by-rows}
 use borrow.Author.Needs.{needs}
 use Rattle.readings.proofs.energy_between.Statement.{statement}
@@ -23,29 +22,16 @@ abbrev μ-loop : tie.MeasureT-loop
 loop-holds : tie.Need-loop-holds Inv-loop μ-loop
 loop-holds c = (omega arith, omega arith, sum-none _ 0)
 
-add-sum : tie.Need-add-sum Inv-loop μ-loop
-add-sum c = let h = part-counted (c .before .before .before .before .pre .0) in search needs
-
 loop-again : tie.Need-loop-again Inv-loop μ-loop
 loop-again c =
     let l = c .before .before .loop in
     (search needs, search needs, sum-turn _ 1000000 (l .k) (l .sum) _ (l .inv .2) (c .record-energy .ensures .0))
-
-add-result : tie.Need-add-result Inv-loop μ-loop
-add-result c = let h = part-counted (c .before .before .before .pre .0) in search needs
-
-mul-result : tie.Need-mul-result Inv-loop μ-loop
-mul-result c = let h = part-counted (c .before .before .before .pre .0) in search needs
-
-sub-result : tie.Need-sub-result Inv-loop μ-loop
-sub-result c = let h = part-counted (c .before .before .before .pre .0) in search needs
 
 returns : tie.Need-returns Inv-loop μ-loop
 returns c =
     let s = c .before .before .before in
     let n = c .before .before .get .result in
     let l = c .before .loop in
-    let h = part-counted (s .pre .0) in
     let e : l .k ≡ n = omega arith in (
       raise (l .sum) (1000000 * n) 2000000000 (omega arith)
           ∙ sum-end _ 1000000 (l .k) (l .sum) n (l .inv .2) e
@@ -61,11 +47,7 @@ energy-between-spec =
     Inv-loop μ-loop
     (λ c κs. search needs)
     loop-holds
-    (λ c κs. search needs)
-    add-sum
-    (λ c. search needs) (λ c. search needs)
+    (λ c κs. search needs) (λ c. search needs) (λ c. search needs) (λ c. search needs)
     loop-again
-    add-result
-    mul-result
-    sub-result
+    (λ c. search needs) (λ c. search needs) (λ c. search needs)
     returns)

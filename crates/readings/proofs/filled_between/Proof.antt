@@ -7,7 +7,6 @@ use Rattle.numbers.proofs.Sums.{sum-none, count-turn}
 use Rattle.numbers.proofs.Integers.{pos-same}
 use Rattle.point.specs.InnerTests.{recRow}
 use Rattle.readings.specs.InnerRecords.{partBetween, dayCount}
-use Rattle.readings.proofs.Part.{part-counted}
 use Rattle.readings.proofs.Days.{filled-by-rows}
 use borrow.Author.Needs.{needs}
 use Rattle.readings.proofs.filled_between.Statement.{statement}
@@ -22,9 +21,6 @@ abbrev μ-loop : tie.MeasureT-loop
 
 loop-holds : tie.Need-loop-holds Inv-loop μ-loop
 loop-holds c = (omega arith, omega arith, sum-none _ 0)
-
-add-sum : tie.Need-add-sum Inv-loop μ-loop
-add-sum c = let h = part-counted (c .before .before .before .before .pre .0) in search needs
 
 loop-again : tie.Need-loop-again Inv-loop μ-loop
 loop-again c =
@@ -48,8 +44,6 @@ filled-between-spec =
     Inv-loop μ-loop
     (λ c κs. search needs)
     loop-holds
-    (λ c κs. search needs)
-    add-sum
-    (λ c. search needs) (λ c. search needs)
+    (λ c κs. search needs) (λ c. search needs) (λ c. search needs) (λ c. search needs)
     loop-again
     returns)

@@ -1,7 +1,6 @@
 use Prim.Native.Nat.{_-_, _≤_}
 use mathlib.Core.Path.{_≡_, refl, _∙_}
 use native.Mathlib.Omega.{arith}
-use Rattle.readings.proofs.Part.{part-counted}
 use Rattle.readings.proofs.Users.{userLeft, user-more, user-end, fro-few}
 use borrow.Author.Needs.{needs}
 use Rattle.readings.proofs.fro_on.Statement.{statement}
@@ -15,9 +14,6 @@ abbrev μ-loop : tie.MeasureT-loop
 
 loop-holds : tie.Need-loop-holds Inv-loop μ-loop
 loop-holds c = (omega arith, refl)
-
-user-since-requires : tie.Need-user-since-requires Inv-loop μ-loop
-user-since-requires c κs = let h = part-counted (c .before .before .before .pre) in search needs
 
 loop-again : tie.Need-loop-again Inv-loop μ-loop
 loop-again c =
@@ -39,7 +35,6 @@ fro-on-spec =
     Inv-loop μ-loop
     (λ c κs. search needs)
     loop-holds
-    user-since-requires
-    (λ c. search needs) (λ c. search needs)
+    (λ c κs. search needs) (λ c. search needs) (λ c. search needs)
     loop-again
     returns)

@@ -1,14 +1,10 @@
 use mathlib.Core.Path.{ap, _∙_}
 use mathlib.Core.Bool.{not}
 use Rattle.point.specs.InnerTests.{noOff}
-use Rattle.readings.proofs.Part.{part-counted}
 use Rattle.readings.proofs.Users.{off-is}
 use borrow.Author.Needs.{needs}
 use Rattle.readings.proofs.off_on.Statement.{statement}
 use Rattle.readings.proofs.off_on.Tie as tie
-
-no-off-requires : tie.Need-no-off-requires
-no-off-requires c κs = let h = part-counted (c .before .pre .0) in search needs
 
 returns : tie.Need-returns
 returns c =
@@ -17,4 +13,4 @@ returns c =
     ∙ off-is (s .pre .0) (s .args .g) (s .pre .1)
 
 pub off-on-spec : {M : Type 1} → statement M
-off-on-spec = tie.close (tie.spec (λ c κs. search needs) no-off-requires returns)
+off-on-spec = tie.close (tie.spec (λ c κs. search needs) (λ c κs. search needs) returns)

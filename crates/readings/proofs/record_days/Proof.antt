@@ -5,7 +5,7 @@ use lib.IntN.{pos}
 use Rattle.point.specs.InnerTests.{recRow}
 use Rattle.readings.specs.InnerReadings.{daysPassed}
 use Rattle.readings.specs.InnerRecords.{dayCount}
-use Rattle.readings.proofs.Part.{part-counted, RecordOk, record-ok}
+use Rattle.readings.proofs.Part.{RecordOk, record-ok}
 use Rattle.readings.proofs.Records.{before-up, before-apart, part-none}
 use Rattle.readings.proofs.Days.{count-is}
 use borrow.Author.Needs.{needs}
@@ -21,21 +21,6 @@ starts c = let h = row (c .before) in c .bits-at .ensures .same (omega arith)
 
 ends : (c : tie.After-bits-at2) → c .bits-at2 .result ≡ recRow (c .before .before .args .p .now) (c .before .before .args .k) .end
 ends c = let h = row (c .before .before) in c .bits-at2 .ensures .same (omega arith)
-
-mul-at : tie.Need-mul-at
-mul-at c = let h = part-counted (c .pre .0) in search needs
-
-add-at : tie.Need-add-at
-add-at c = let h = part-counted (c .pre .0) in search needs
-
-bits-at-requires : tie.Need-bits-at-requires
-bits-at-requires c κs = let h = part-counted (c .pre .0) in search needs
-
-add-bits-at : tie.Need-add-bits-at
-add-bits-at c = let h = part-counted (c .before .pre .0) in search needs
-
-bits-at-requires-2 : tie.Need-bits-at-requires-2
-bits-at-requires-2 c κs = let h = part-counted (c .before .pre .0) in search needs
 
 returns : tie.Need-returns
 returns c =
@@ -76,11 +61,7 @@ pub record-days-spec : {M : Type 1} → statement M
 record-days-spec =
     tie.close
     (tie.spec
-    mul-at
-    add-at
-    bits-at-requires
-    add-bits-at
-    bits-at-requires-2
+    (λ c. search needs) (λ c. search needs) (λ c κs. search needs) (λ c. search needs) (λ c κs. search needs)
     returns
     days-passed-requires
     days-passed-requires-2

@@ -5,7 +5,7 @@ use Rattle.daybook.specs.Book.{Entry}
 use Rattle.point.specs.InnerTests.{recRow}
 use Rattle.readings.specs.InnerReadings.{daysPassed}
 use Rattle.readings.specs.InnerRecords.{partialOf}
-use Rattle.readings.proofs.Part.{part-counted, RecordOk, record-ok}
+use Rattle.readings.proofs.Part.{RecordOk, record-ok}
 use Rattle.readings.proofs.Records.{before-apart, part-none}
 use Rattle.readings.proofs.Energy.{Parts, parts-near, parts-are}
 use borrow.Author.Needs.{needs}
@@ -39,21 +39,6 @@ before-y c =
     c .days-passed2 .ensures .0
     ∙ ap₂ (λ a b. daysPassed a b (c .before .before .before .before .before .args .y)) (starts (c .before .before .before .before)) (ends (c .before .before .before))
 
-mul-at : tie.Need-mul-at
-mul-at c = let h = part-counted (c .pre .0) in search needs
-
-add-at : tie.Need-add-at
-add-at c = let h = part-counted (c .pre .0) in search needs
-
-bits-at-requires : tie.Need-bits-at-requires
-bits-at-requires c κs = let h = part-counted (c .pre .0) in search needs
-
-add-bits-at : tie.Need-add-bits-at
-add-bits-at c = let h = part-counted (c .before .pre .0) in search needs
-
-bits-at-requires-2 : tie.Need-bits-at-requires-2
-bits-at-requires-2 c κs = let h = part-counted (c .before .pre .0) in search needs
-
 returns : tie.Need-returns
 returns c =
     let g = c .before in
@@ -69,12 +54,6 @@ days-passed-requires c κs = let h = row (c .before .before .before) in omega (a
 days-passed-requires-2 : tie.Need-days-passed-requires-2
 days-passed-requires-2 c κs =
     let h = row (c .before .before .before .before) in omega (arith, starts (c .before .before .before), ends (c .before .before))
-
-add-get-energy : tie.Need-add-get-energy
-add-get-energy c = let h = part-counted (c .before .before .before .before .before .pre .0) in search needs
-
-get-energy-requires : tie.Need-get-energy-requires
-get-energy-requires c κs = let h = part-counted (c .before .before .before .before .before .pre .0) in search needs
 
 add-n : tie.Need-add-n
 add-n c =
@@ -124,16 +103,11 @@ pub record-energy-spec : {M : Type 1} → statement M
 record-energy-spec =
     tie.close
     (tie.spec
-    mul-at
-    add-at
-    bits-at-requires
-    add-bits-at
-    bits-at-requires-2
+    (λ c. search needs) (λ c. search needs) (λ c κs. search needs) (λ c. search needs) (λ c κs. search needs)
     returns
     days-passed-requires
     days-passed-requires-2
-    add-get-energy
-    get-energy-requires
+    (λ c. search needs) (λ c κs. search needs)
     add-n
     (λ c. search needs)
     partial-energy-requires

@@ -6,7 +6,6 @@ use lib.Dec.{eqb}
 use Rattle.daybook.specs.Book.{Point}
 use Rattle.daybook.specs.Queries.{active, baseOver}
 use Rattle.readings.specs.InnerReadings.{pointAt}
-use Rattle.readings.proofs.Part.{part-counted}
 use Rattle.readings.proofs.Users.{kind-is, base-is, base-few}
 use Rattle.readings.proofs.Weights.{weight-none, weight-base, weight-measured, weight-shown}
 use borrow.Author.Needs.{needs}
@@ -32,8 +31,7 @@ returns-2 : tie.Need-returns-2
 returns-2 c =
     let m = c .before in
     let i = m .before in
-    let s = i .before .before .before in
-    let h = part-counted (s .pre .0) in (
+    let s = i .before .before .before in (
       m .measured .ensures .0
           ∙ weight-shown (point s) (s .args .g) (s .args .a) (s .args .b) (sym (test-is (i .before)) ∙ not-false _ (i .if1 .left))
           (λ z. c .if2 .taken (m .measured .ensures .0 ∙ z)),
