@@ -11,7 +11,8 @@ ghost use Rattle.numbers.specs.Answers.{refused};
 ghost use Rattle.calendar.specs.Calendar.{within, isDay};
 ghost use Rattle.daybook.specs.Notices.{isMirn, isFlag, isUser, factsOf};
 ghost use Rattle.daybook.specs.Calls.{noticeNumbers, noticeRefused};
-ghost use Rattle.layout.specs.Layout.{Fits};
+ghost use Rattle.layout.specs.Places.{nondailyPlace, dailyPlace};
+ghost use Rattle.layout.specs.Layout.{tableLength, Fits};
 ghost use Rattle.layout.specs.InnerWrites.{cleared, appendPoint};
 ghost use Rattle.opening.specs.Opening.{freshCall, openCall};
 use daybook::Edition;
@@ -28,19 +29,19 @@ fn is_range(u: u64) -> bool
 
 // No points, and the two ranges, each raised by 1,000,000.
 fn empty(t: &mut [i64], nondaily: u64, daily: u64)
-    requires { ⌜ (7688 ≤ length (now t)) × (nondaily < 2 ^ 63) × (daily < 2 ^ 63) ⌝ }
-    ensures { λ _. ⌜ now (t .exit) ≡ set (set (cleared (now (t .entry)) 0 7688) 1 (energyOf nondaily)) 2 (energyOf daily) ⌝ }
+    requires { ⌜ (tableLength ≤ length (now t)) × (nondaily < 2 ^ 63) × (daily < 2 ^ 63) ⌝ }
+    ensures { λ _. ⌜ now (t .exit) ≡ set (set (cleared (now (t .entry)) 0 tableLength) nondailyPlace (energyOf nondaily)) dailyPlace (energyOf daily) ⌝ }
 {
-    rows::clear(t, 0, 7688);
-    rows::put_energy(t, 1, nondaily);
-    rows::put_energy(t, 2, daily);
+    rows::clear(t, 0, places::TABLE_LENGTH);
+    rows::put_energy(t, places::NONDAILY, nondaily);
+    rows::put_energy(t, places::DAILY, daily);
 }
 
 // A register with no points, whatever numbers the table holds.
 pub fn fresh(t: &mut [i64], n: Ranges) -> NoticeAnswer
     ensures { λ r. ⌜ (noticeNumbers r ≡ freshCall (now (t .entry)) n .0) × (now (t .exit) ≡ freshCall (now (t .entry)) n .1) × (noticeRefused r ≡ refused (noticeNumbers r)) ⌝ }
 {
-    if t.len() < 7688 {
+    if t.len() < places::TABLE_LENGTH {
         return NoticeAnswer::Refused(1);
     }
     let x = n.nondaily;
@@ -88,7 +89,7 @@ fn base_load(n: Opening) -> u64
 
 // Point i, behind the others, and i + 1 points.
 fn append_point(t: &mut [i64], ed: Edition, i: usize, n: Opening)
-    requires { ⌜ Fits ed × (i < ed .points) × (7688 ≤ length (now t)) × (natOf (n .mirn) < 2 ^ 63) × (natOf (n .kind) < 2 ^ 63) × (natOf (n .user) < 2 ^ 63) × (natOf (n .install) < 2 ^ 63) × (factsOf n .base < 2 ^ 63) ⌝ }
+    requires { ⌜ Fits ed × (i < ed .points) × (tableLength ≤ length (now t)) × (natOf (n .mirn) < 2 ^ 63) × (natOf (n .kind) < 2 ^ 63) × (natOf (n .user) < 2 ^ 63) × (natOf (n .install) < 2 ^ 63) × (factsOf n .base < 2 ^ 63) ⌝ }
     ensures { λ _. ⌜ now (t .exit) ≡ appendPoint ed (now (t .entry)) i (factsOf n) (natOf (n .user)) ⌝ }
 {
     let m = n.mirn;
@@ -103,7 +104,7 @@ fn append_point(t: &mut [i64], ed: Edition, i: usize, n: Opening)
     let a = table::place(ed, i);
     let b = table::place(ed, i + 1);
     rows::open_point(&mut t[a..b], mirn, kind, install, base, user);
-    numbers::put(t, 0, i as u64 + 1);
+    numbers::put(t, places::POINTS, i as u64 + 1);
 }
 
 // A new point: 5 for a MIRN that the register has, 16 where all points are taken.
@@ -122,7 +123,7 @@ pub fn open(t: &mut [i64], n: Opening) -> NoticeAnswer
     if table::index_of(t, ed, mirn) != ed.points {
         return NoticeAnswer::Refused(5);
     }
-    let count = numbers::get(t, 0) as usize;
+    let count = places::points(t);
     if ed.points <= count {
         return NoticeAnswer::Refused(16);
     }

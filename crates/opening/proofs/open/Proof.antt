@@ -28,7 +28,7 @@ entry c = edition c .before .before
 abbrev tests : tie.After-index-of → tie.Else2
 tests c = c .before .before .before .before
 
-abbrev finds : tie.After-get → tie.After-index-of
+abbrev finds : tie.After-points → tie.After-index-of
 finds c = c .before .before .before .before
 
 -- ---- what is known after each test
@@ -81,8 +81,8 @@ returns-3 c =
     let s = entry e .args in
     tells (open-known _ (d .ensures .1) (s .t .now) (d .ensures .0) (s .n) (is-sound e) (is-ranged r) _ (index-is i) (c .if3 .taken)) refl
 
-get-requires : tie.Need-get-requires
-get-requires c κs =
+points-requires : tie.Need-points-requires
+points-requires c κs =
     let e = tests (c .before .before .before) .before .before in
     omega (arith, sound-long _ (entry e .args .t .now) (is-sound e))
 
@@ -94,7 +94,7 @@ returns-4 c =
     let e = r .before .before in
     let d = edition e .edition in
     let s = entry e .args in
-    tells (open-full _ (d .ensures .1) (s .t .now) (d .ensures .0) (s .n) (is-sound e) (is-ranged r) _ (index-is i) (g .before .before .if3 .left) (omega (arith, g .get .ensures .0))) refl
+    tells (open-full _ (d .ensures .1) (s .t .now) (d .ensures .0) (s .n) (is-sound e) (is-ranged r) _ (index-is i) (g .before .before .if3 .left) (omega (arith, g .points .ensures .0))) refl
 
 append-point-requires : tie.Need-append-point-requires
 append-point-requires c κs =
@@ -104,7 +104,7 @@ append-point-requires c κs =
     let e = r .before .before in
     let d = edition e .edition in
     let s = entry e .args in
-    let k = clear _ (d .ensures .1) (s .t .now) (d .ensures .0) (s .n) (is-sound e) (is-ranged r) _ (index-is i) (g .before .before .if3 .left) (omega (arith, g .get .ensures .0)) in
+    let k = clear _ (d .ensures .1) (s .t .now) (d .ensures .0) (s .n) (is-sound e) (is-ranged r) _ (index-is i) (g .before .before .if3 .left) (omega (arith, g .points .ensures .0)) in
     (d .ensures .1, omega arith, sound-long _ (s .t .now) (is-sound e) .0, omega (arith, k .mirnHigh), omega (arith, k .kindOk), omega (arith, k .userHigh), omega (arith, k .installOk), omega (arith, facts-ok k .baseOk))
 
 returns-5 : tie.Need-returns-5
@@ -115,8 +115,8 @@ returns-5 c =
     let e = r .before .before in
     let d = edition e .edition in
     let s = entry e .args in
-    let w = gives (open-entered _ (d .ensures .1) (s .t .now) (d .ensures .0) (s .n) (is-sound e) (is-ranged r) _ (index-is i) (g .before .before .if3 .left) (omega (arith, g .get .ensures .0))) in
-    (w .0, c .before .append-point .ensures ∙ ap (λ k. appendPoint (d .result) (s .t .now) k (factsOf (s .n)) (natOf (s .n .user))) (g .get .ensures .0) ∙ w .1, refl)
+    let w = gives (open-entered _ (d .ensures .1) (s .t .now) (d .ensures .0) (s .n) (is-sound e) (is-ranged r) _ (index-is i) (g .before .before .if3 .left) (omega (arith, g .points .ensures .0))) in
+    (w .0, c .before .append-point .ensures ∙ ap (λ k. appendPoint (d .result) (s .t .now) k (factsOf (s .n)) (natOf (s .n .user))) (g .points .ensures .0) ∙ w .1, refl)
 
 pub open-spec : {M : Type 1} → statement M
 open-spec =
@@ -130,7 +130,7 @@ open-spec =
     index-of-requires
     (λ c. search needs)
     returns-3
-    get-requires
+    points-requires
     (λ c. search needs)
     returns-4
     append-point-requires
