@@ -66,7 +66,7 @@ registers-room (pending {q = r} a b c d e f) latest end t = record { room = f; s
 
 -- ---- on the part
 
-module _ {p : List ℤ} (ok : SoundPart p) (x : RaisedNotice) (n user first last latest : ℕ) (en : n ≡ numAt p 4) (eu : user ≡ numAt p 7) (ef : first ≡ numAt p 8) (el : last ≡ numAt p 9) (es : latest ≡ numAt p (14 + 2 * n)) where
+module _ {p : List ℤ} (ok : SoundPart p) (x : RaisedNotice) (n user first last latest : ℕ) (en : n ≡ numAt p 4) (eu : user ≡ numAt p 7) (ef : first ≡ numAt p 8) (el : last ≡ numAt p 9) (es : latest ≡ numAt p (16 + 2 * (n - 1))) where
   abbrev q : Lists
   q = pointFrom p
 
@@ -88,8 +88,7 @@ module _ {p : List ℤ} (ok : SoundPart p) (x : RaisedNotice) (n user first last
   latest-is : latest ≡ latestOf (q .regs) .0
   latest-is =
       let some : 1 ≤ numAt p 4 = ok .someRegs in
-      let at : 14 + 2 * n ≡ 16 + 2 * (n - 1) = omega (arith, en) in
-      es ∙ ap₂ numAt (sym (part-laid ok)) at ∙ cell-reg-start fits (n - 1) (omega (arith, en, ok .fewRegs))
+      es ∙ ap (λ (l : List ℤ). numAt l (16 + 2 * (n - 1))) (sym (part-laid ok)) ∙ cell-reg-start fits (n - 1) (omega (arith, en, ok .fewRegs))
       ∙ ap (λ (r : ℕ × ℕ). r .0) (sym (latest-at (q .regs) (n - 1) (omega (arith, many, en))))
 
   abbrev first? : Bool

@@ -13,6 +13,7 @@ ghost use Rattle.daybook.specs.Notices.{least, beyond};
 ghost use Rattle.daybook.specs.Calls.{energyNumbers, energyRefused};
 ghost use Rattle.lists.specs.InnerSteps.{startingOn, appendDayOf};
 ghost use Rattle.lists.specs.InnerWell.{MayEnter};
+ghost use Rattle.layout.specs.Places.{recCount};
 ghost use Rattle.layout.specs.Layout.{pointFrom, numAt};
 ghost use Rattle.layout.specs.InnerParts.{roomOf, SoundPart};
 ghost use Rattle.point.specs.InnerTests.{dayIf};
@@ -76,12 +77,12 @@ fn in_range(x: RaisedNotice) -> bool
 // The record that starts on a day, by its index; the number of records if none does.
 fn row_of(p: &[i64], start: u64) -> usize
     requires { ⌜ SoundPart (now p) ⌝ }
-    ensures { λ r. ⌜ (r ≡ rowIn (pointFrom (now (p .entry)) .recs) start) × (r ≤ numAt (now (p .entry)) 6) ⌝ }
+    ensures { λ r. ⌜ (r ≡ rowIn (pointFrom (now (p .entry)) .recs) start) × (r ≤ numAt (now (p .entry)) recCount) ⌝ }
 {
-    let n = numbers::get(p, 6) as usize;
+    let n = places::records(p);
     let mut j: usize = 0;
     while j < n {
-        if numbers::get(p, 48 + 4 * j) == start {
+        if places::rec_start(p, j) == start {
             return j;
         }
         j += 1;
@@ -94,7 +95,7 @@ fn appends(p: &[i64], start: u64) -> bool
     requires { ⌜ SoundPart (now p) ⌝ }
     ensures { λ r. ⌜ r ≡ not (isSome (startingOn (pointFrom (now (p .entry)) .recs) start)) ⌝ }
 {
-    row_of(p, start) as u64 == numbers::get(p, 6)
+    row_of(p, start) == places::records(p)
 }
 
 // The first day that is not off, of those after the last record or, with no record, from install on; 40,001 if all are off.
@@ -102,13 +103,13 @@ fn append_day(p: &[i64]) -> u64
     requires { ⌜ SoundPart (now p) ⌝ }
     ensures { λ r. ⌜ dayIf r ≡ appendDayOf (pointFrom (now (p .entry))) ⌝ }
 {
-    let spans = numbers::get(p, 5) as usize;
-    let recs = numbers::get(p, 6) as usize;
+    let spans = places::spans(p);
+    let recs = places::records(p);
     if recs == 0 {
-        let install = numbers::get(p, 2);
+        let install = places::install(p);
         return point::first_on(p, spans, install);
     }
-    let end = numbers::get(p, 48 + 4 * (recs - 1) + 1);
+    let end = places::rec_end(p, recs - 1);
     point::first_on(p, spans, end + 1)
 }
 
@@ -136,7 +137,7 @@ fn check(p: &[i64], x: RaisedNotice, nondaily: u64, daily: u64) -> u64
     requires { ⌜ SoundPart (now p) × InRange x × (nondaily ≤ 2000000) × (daily ≤ 2000000) ⌝ }
     ensures { λ r. ⌜ r ≡ least (energyRowsOf x nondaily daily (roomOf (now (p .entry))) (pointFrom (now (p .entry)))) ⌝ }
 {
-    let kind = numbers::get(p, 1);
+    let kind = places::kind(p);
     if !point::fits_kind(kind, x.start, x.end) {
         return 6;
     }
@@ -144,15 +145,15 @@ fn check(p: &[i64], x: RaisedNotice, nondaily: u64, daily: u64) -> u64
     if append & (append_day(p) != x.start) {
         return 7;
     }
-    let spans = numbers::get(p, 5) as usize;
+    let spans = places::spans(p);
     if !point::no_off(p, spans, x.start, x.end) {
         return 8;
     }
     if unusual(kind, nondaily, daily, x.energy) & (x.confirmed == 0) {
         return 9;
     }
-    let room = (p.len() - 48) / 4;
-    if append & (room as u64 <= numbers::get(p, 6)) {
+    let room = (p.len() - places::RECS) / places::REC_LENGTH;
+    if append & (room <= places::records(p)) {
         return 16;
     }
     0
@@ -164,7 +165,7 @@ fn enter_record(p: &mut [i64], x: RaisedNotice) -> Kept
     requires { ⌜ SoundPart (now p) × InRange x × MayEnter (roomOf (now p)) (entryFrom x) (pointFrom (now p)) ⌝ }
     ensures { λ r. ⌜ Recorded (now (p .entry)) x r (now (p .exit)) ⌝ }
 {
-    let n = numbers::get(p, 6) as usize;
+    let n = places::records(p);
     let j = row_of(p, x.start);
     if j == n {
         rows::append_record(p, n, x.start, x.end, x.energy, x.type_);
@@ -173,7 +174,7 @@ fn enter_record(p: &mut [i64], x: RaisedNotice) -> Kept
             removed: 0,
         };
     }
-    let end = numbers::get(p, 48 + 4 * j + 1);
+    let end = places::rec_end(p, j);
     if end == x.end {
         rows::put_record(p, j, x.start, x.end, x.energy, x.type_);
         return Kept {
@@ -195,11 +196,11 @@ fn settle_request(p: &mut [i64], x: RaisedNotice) -> Settled
     requires { ⌜ SoundPart (now p) × InRange x ⌝ }
     ensures { λ r. ⌜ SettledTo (now (p .entry)) x r (now (p .exit)) ⌝ }
 {
-    let n = numbers::get(p, 4) as usize;
-    let user = numbers::get(p, 7);
-    let first = numbers::get(p, 8);
-    let last = numbers::get(p, 9);
-    let latest = numbers::get(p, 14 + 2 * n);
+    let n = places::registrations(p);
+    let user = places::pending_user(p);
+    let first = places::pending_first(p);
+    let last = places::pending_last(p);
+    let latest = places::reg_start(p, n - 1);
     let end = x.end;
     if (user != 0) & (first <= end) & (end <= last) & (latest < end + 1) {
         rows::append_registration(p, n, end + 1, user);
@@ -256,8 +257,8 @@ pub fn energy(t: &mut [i64], n: EnergyNotice) -> EnergyAnswer
     if i == ed.points {
         return EnergyAnswer::Refused(4);
     }
-    let nondaily = numbers::get_energy(t, 1);
-    let daily = numbers::get_energy(t, 2);
+    let nondaily = places::nondaily(t);
+    let daily = places::daily(t);
     let a = table::place(ed, i);
     let b = table::place(ed, i + 1);
     enter(&mut t[a..b], x, nondaily, daily)

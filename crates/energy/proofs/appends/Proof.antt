@@ -12,7 +12,7 @@ returns : tie.Need-returns
 returns c =
     let ok = c .before .before .pre in
     let recs = pointFrom (c .before .before .args .p .now) .recs in
-    ap₂ eqb (c .before .row-of .ensures .0) (c .get .ensures .0 ∙ place-recs (part-well ok) (part-laid ok)) ∙ appends-is recs (c .before .before .args .start)
+    ap₂ eqb (c .before .row-of .ensures .0) (c .records .ensures .0 ∙ place-recs (part-well ok) (part-laid ok)) ∙ appends-is recs (c .before .before .args .start)
 
 pub appends-spec : {M : Type 1} → statement M
 appends-spec = tie.close (tie.spec (λ c κs. search needs) (λ c κs. search needs) returns)

@@ -22,7 +22,7 @@ else3 c = c .before .before .before
 past-6 : (c : tie.Else1) → let s = start c in row6 (s .args .x) (s .args .p .now) ≡ false
 past-6 c =
     let s = start c in
-    sym (row6-is (s .pre .0) (s .args .x) _ (c .before .before .get .ensures .0) (c .before .fits-kind .ensures)) ∙ c .if1 .left
+    sym (row6-is (s .pre .0) (s .args .x) _ (c .before .before .kind .ensures .0) (c .before .fits-kind .ensures)) ∙ c .if1 .left
 
 past-7 : (c : tie.Else2) → let s = start (else1 c) in row7 (s .args .x) (s .args .p .now) ≡ false
 past-7 c =
@@ -33,7 +33,7 @@ past-8 : (c : tie.Else3) → let s = start (else1 (else2 c)) in row8 (s .args .x
 past-8 c =
     let e = else1 (else2 c) in
     let s = start e in
-    sym (row8-is (s .pre .0) (s .args .x) _ (past-6 e) (omega arith) (c .before .before .get2 .ensures .0) (c .before .no-off .ensures)) ∙ c .if3 .left
+    sym (row8-is (s .pre .0) (s .args .x) _ (past-6 e) (omega arith) (c .before .before .spans .ensures .0) (c .before .no-off .ensures)) ∙ c .if3 .left
 
 past-9 : (c : tie.Else4)
     → let s = start (else1 (else2 (else3 c))) in
@@ -41,13 +41,13 @@ past-9 : (c : tie.Else4)
 past-9 c =
     let e = else1 (else2 (else3 c)) in
     let s = start e in
-    sym (row9-is (s .pre .0) (s .args .x) (s .args .nondaily) (s .args .daily) _ (e .before .before .get .ensures .0) (c .before .before .unusual .ensures)) ∙ c .if4 .left
+    sym (row9-is (s .pre .0) (s .args .x) (s .args .nondaily) (s .args .daily) _ (e .before .before .kind .ensures .0) (c .before .before .unusual .ensures)) ∙ c .if4 .left
 
 returns : tie.Need-returns
 returns c =
     let s = c .before .before .before in
     sent-6 (s .args .x) (s .args .nondaily) (s .args .daily) (s .args .p .now)
-    (sym (row6-is (s .pre .0) (s .args .x) _ (c .before .before .get .ensures .0) (c .before .fits-kind .ensures)) ∙ c .if1 .taken)
+    (sym (row6-is (s .pre .0) (s .args .x) _ (c .before .before .kind .ensures .0) (c .before .fits-kind .ensures)) ∙ c .if1 .taken)
 
 returns-2 : tie.Need-returns-2
 returns-2 c =
@@ -62,7 +62,7 @@ returns-3 c =
     let e = else1 f in
     let s = start e in
     sent-8 (s .args .x) (s .args .nondaily) (s .args .daily) (s .args .p .now) (past-6 e) (past-7 f)
-    (sym (row8-is (s .pre .0) (s .args .x) _ (past-6 e) (omega arith) (c .before .before .get2 .ensures .0) (c .before .no-off .ensures)) ∙ c .if3 .taken)
+    (sym (row8-is (s .pre .0) (s .args .x) _ (past-6 e) (omega arith) (c .before .before .spans .ensures .0) (c .before .no-off .ensures)) ∙ c .if3 .taken)
 
 returns-4 : tie.Need-returns-4
 returns-4 c =
@@ -71,7 +71,7 @@ returns-4 c =
     let e = else1 f in
     let s = start e in
     sent-9 (s .args .x) (s .args .nondaily) (s .args .daily) (s .args .p .now) (past-6 e) (past-7 f) (past-8 g)
-    (sym (row9-is (s .pre .0) (s .args .x) (s .args .nondaily) (s .args .daily) _ (e .before .before .get .ensures .0) (c .before .before .unusual .ensures)) ∙ c .if4 .taken)
+    (sym (row9-is (s .pre .0) (s .args .x) (s .args .nondaily) (s .args .daily) _ (e .before .before .kind .ensures .0) (c .before .before .unusual .ensures)) ∙ c .if4 .taken)
 
 returns-5 : tie.Need-returns-5
 returns-5 c =
@@ -81,7 +81,7 @@ returns-5 c =
     let e = else1 f in
     let s = start e in
     sent-16 (s .args .x) (s .args .nondaily) (s .args .daily) (s .args .p .now) (past-6 e) (past-7 f) (past-8 g) (past-9 h)
-    (sym (row16-is (s .pre .0) (s .args .x) (f .before .before .before .appends .ensures) _ (c .before .get3 .ensures .0)) ∙ c .if5 .taken)
+    (sym (row16-is (s .pre .0) (s .args .x) (f .before .before .before .appends .ensures) _ (c .before .records .ensures .0)) ∙ c .if5 .taken)
 
 returns-6 : tie.Need-returns-6
 returns-6 c =
@@ -91,7 +91,7 @@ returns-6 c =
     let e = else1 f in
     let s = start e in
     sent-not (s .args .x) (s .args .nondaily) (s .args .daily) (s .args .p .now) (past-6 e) (past-7 f) (past-8 g) (past-9 h)
-    (sym (row16-is (s .pre .0) (s .args .x) (f .before .before .before .appends .ensures) _ (c .before .get3 .ensures .0)) ∙ c .if5 .left)
+    (sym (row16-is (s .pre .0) (s .args .x) (f .before .before .before .appends .ensures) _ (c .before .records .ensures .0)) ∙ c .if5 .left)
 
 pub check-spec : {M : Type 1} → statement M
 check-spec =

@@ -66,11 +66,11 @@ returns-3 c =
     let s = e .before .before in
     tells (energy-missing _ (e .edition .ensures .1) (s .args .t .now) (e .edition .ensures .0) (s .args .n) (sound-is (r .before)) _ (r .read .ensures) (in-range-here l) _ (f .index-of .ensures .0) (c .if3 .taken)) refl
 
-get-energy-requires : tie.Need-get-energy-requires
-get-energy-requires c κs = omega (arith, long (c .before))
+nondaily-requires : tie.Need-nondaily-requires
+nondaily-requires c κs = omega (arith, long (c .before))
 
-get-energy-requires-2 : tie.Need-get-energy-requires-2
-get-energy-requires-2 c κs = omega (arith, long (c .before .before .before))
+daily-requires : tie.Need-daily-requires
+daily-requires c κs = omega (arith, long (c .before .before .before))
 
 part-enter-end : tie.Need-part-enter-end
 part-enter-end c =
@@ -87,7 +87,7 @@ enter-requires c κs =
     let l = else2 o in
     let e = edition (else1 l) in
     let s = e .before .before in
-    let small = ranges-small _ (e .edition .ensures .1) (s .args .t .now) (e .edition .ensures .0) (s .args .n) (sound-is (else1 l)) _ _ (g1 .get-energy .ensures) (g2 .get-energy2 .ensures) in
+    let small = ranges-small _ (e .edition .ensures .1) (s .args .t .now) (e .edition .ensures .0) (s .args .n) (sound-is (else1 l)) _ _ (g1 .nondaily .ensures) (g2 .daily .ensures) in
     (lent-sound _ (e .edition .ensures .1) (s .args .t .now) (sound-is (else1 l)) _ _ (f .index-of .ensures .0) (o .if3 .left) _ _ (b .before .place .ensures .0) (b .place2 .ensures .0), in-range-tells _ (in-range-here l), small .0, small .1)
 
 returns-4 : tie.Need-returns-4
@@ -104,8 +104,8 @@ returns-4 c =
     let t = s .args .t .now in
     let n = s .args .n in
     answered-at _ (e .edition .ensures .1) t (f .index-of .result) _ _ (b .before .place .ensures .0) (b .place2 .ensures .0)
-    (energyCall t n) (energyPart (r .read .result) (g1 .get-energy .result) (g2 .get-energy2 .result))
-    (energy-point _ (e .edition .ensures .1) t (e .edition .ensures .0) n (sound-is (r .before)) _ (r .read .ensures) (in-range-here l) _ (f .index-of .ensures .0) _ _ (g1 .get-energy .ensures) (g2 .get-energy2 .ensures) (o .if3 .left)) _ _
+    (energyCall t n) (energyPart (r .read .result) (g1 .nondaily .result) (g2 .daily .result))
+    (energy-point _ (e .edition .ensures .1) t (e .edition .ensures .0) n (sound-is (r .before)) _ (r .read .ensures) (in-range-here l) _ (f .index-of .ensures .0) _ _ (g1 .nondaily .ensures) (g2 .daily .ensures) (o .if3 .left)) _ _
     (c .before .enter .ensures)
 
 pub energy-spec : {M : Type 1} → statement M
@@ -119,8 +119,8 @@ energy-spec =
     index-of-requires
     (λ c. search needs)
     returns-3
-    get-energy-requires
-    get-energy-requires-2
+    nondaily-requires
+    daily-requires
     (λ c κs. search needs) (λ c. search needs) (λ c κs. search needs) (λ c. search needs) (λ c. search needs)
     (λ c. search needs)
     part-enter-end

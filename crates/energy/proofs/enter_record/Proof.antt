@@ -10,7 +10,7 @@ append-record-requires c κs =
     let r = b .before in
     let g = r .before .before in
     let s = g .before .before in
-    let h = free-row (s .pre .0) (s .args .x) _ _ (g .get .ensures .0) (r .row-of .ensures .0) (s .pre .2) (b .if1 .taken) in
+    let h = free-row (s .pre .0) (s .args .x) _ _ (g .records .ensures .0) (r .row-of .ensures .0) (s .pre .2) (b .if1 .taken) in
     (omega arith, omega arith, omega arith, omega arith, omega arith)
 
 returns : tie.Need-returns
@@ -19,7 +19,7 @@ returns c =
     let r = b .before in
     let g = r .before .before in
     let s = g .before .before in
-    appended (s .pre .0) (s .args .x) _ _ (g .get .ensures .0) (r .row-of .ensures .0) (s .pre .2) (b .if1 .taken) (c .before .append-record .ensures)
+    appended (s .pre .0) (s .args .x) _ _ (g .records .ensures .0) (r .row-of .ensures .0) (s .pre .2) (b .if1 .taken) (c .before .append-record .ensures)
 
 returns-2 : tie.Need-returns-2
 returns-2 c =
@@ -29,7 +29,7 @@ returns-2 c =
     let r = b .before in
     let g = r .before .before in
     let s = g .before .before in
-    put-in (s .pre .0) (s .args .x) _ _ (g .get .ensures .0) (r .row-of .ensures .0) (b .if1 .left) _ (d .get2 .ensures .0) (f .if2 .taken) (c .before .put-record .ensures)
+    put-in (s .pre .0) (s .args .x) _ _ (g .records .ensures .0) (r .row-of .ensures .0) (b .if1 .left) _ (d .rec-end .ensures .0) (f .if2 .taken) (c .before .put-record .ensures)
 
 returns-3 : tie.Need-returns-3
 returns-3 c =
@@ -40,7 +40,7 @@ returns-3 c =
     let r = b .before in
     let g = r .before .before in
     let s = g .before .before in
-    recut-in (s .pre .0) (s .args .x) _ _ (g .get .ensures .0) (r .row-of .ensures .0) (b .if1 .left) _ (d .get2 .ensures .0) (f .if2 .left) (u .cut-records .ensures) (c .before .append-record2 .ensures)
+    recut-in (s .pre .0) (s .args .x) _ _ (g .records .ensures .0) (r .row-of .ensures .0) (b .if1 .left) _ (d .rec-end .ensures .0) (f .if2 .left) (u .cut-records .ensures) (c .before .append-record2 .ensures)
 
 pub enter-record-spec : {M : Type 1} → statement M
 enter-record-spec =
@@ -50,8 +50,7 @@ enter-record-spec =
     append-record-requires
     (λ c. search needs)
     returns
-    (λ c. search needs) (λ c. search needs) (λ c. search needs) (λ c κs. search needs) (λ c κs. search needs)
-    (λ c. search needs)
+    (λ c κs. search needs) (λ c κs. search needs) (λ c. search needs)
     returns-2
     (λ c κs. search needs) (λ c κs. search needs) (λ c. search needs) (λ c. search needs) (λ c. search needs)
     returns-3)

@@ -16,13 +16,13 @@ abbrev μ-loop : tie.MeasureT-loop
 μ-loop p start n j₀ j = n - j
 
 loop-holds : tie.Need-loop-holds Inv-loop μ-loop
-loop-holds c = (omega arith, c .get .ensures .0, omega arith)
+loop-holds c = (omega arith, c .records .ensures .0, omega arith)
 
 returns : tie.Need-returns Inv-loop μ-loop
-returns c = (row-hit (c .before .before .before .before .before .pre) (c .before .before .before .loop .j) _ _ (omega arith) (sym (c .before .get2 .ensures .0) ∙ c .if1 .taken) (c .before .before .before .loop .inv .2), omega arith)
+returns c = (row-hit (c .before .before .before .before .before .pre) (c .before .before .before .loop .j) _ _ (omega arith) (sym (c .before .rec-start .ensures .0) ∙ c .if1 .taken) (c .before .before .before .loop .inv .2), omega arith)
 
 loop-again : tie.Need-loop-again Inv-loop μ-loop
-loop-again c = (omega arith, search needs, row-miss (c .before .before .before .before .before .pre) (c .before .before .before .loop .j) _ _ (omega arith) (λ q. c .if1 .left (c .before .get2 .ensures .0 ∙ q)) (c .before .before .before .loop .inv .2))
+loop-again c = (omega arith, search needs, row-miss (c .before .before .before .before .before .pre) (c .before .before .before .loop .j) _ _ (omega arith) (λ q. c .if1 .left (c .before .rec-start .ensures .0 ∙ q)) (c .before .before .before .loop .inv .2))
 
 returns-2 : tie.Need-returns-2 Inv-loop μ-loop
 returns-2 c = (row-end (c .before .before .before .pre) (c .before .loop .j) _ _ (omega arith) (c .before .loop .inv .2), omega arith)
@@ -31,10 +31,11 @@ pub row-of-spec : {M : Type 1} → statement M
 row-of-spec =
     tie.close
     (tie.spec
-    Inv-loop μ-loop
+    Inv-loop
+    μ-loop
     (λ c κs. search needs)
     loop-holds
-    (λ c. search needs) (λ c. search needs) (λ c κs. search needs)
+    (λ c κs. search needs)
     returns
     (λ c. search needs) (λ c. search needs)
     loop-again

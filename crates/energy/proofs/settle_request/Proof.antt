@@ -12,7 +12,7 @@ append-registration-requires c κs =
     let g2 = g3 .before .before in
     let g1 = g2 .before .before in
     let s = g1 .before .before in
-    let h = reg-room (s .pre .0) (s .args .x) _ _ _ _ _ (g1 .get .ensures .0) (g2 .get2 .ensures .0) (g3 .get3 .ensures .0) (g4 .get4 .ensures .0) (g5 .get5 .ensures .0) (c .before .if1 .taken) in
+    let h = reg-room (s .pre .0) (s .args .x) _ _ _ _ _ (g1 .registrations .ensures .0) (g2 .pending-user .ensures .0) (g3 .pending-first .ensures .0) (g4 .pending-last .ensures .0) (g5 .reg-start .ensures .0) (c .before .if1 .taken) in
     (h .0, omega arith, omega arith, omega arith)
 
 returns : tie.Need-returns
@@ -25,7 +25,7 @@ returns c =
     let g2 = g3 .before .before in
     let g1 = g2 .before .before in
     let s = g1 .before .before in
-    registered (s .pre .0) (s .args .x) _ _ _ _ _ (g1 .get .ensures .0) (g2 .get2 .ensures .0) (g3 .get3 .ensures .0) (g4 .get4 .ensures .0) (g5 .get5 .ensures .0) (b .if1 .taken) (after-p .before .append-registration .ensures) (c .before .clear-pending .ensures)
+    registered (s .pre .0) (s .args .x) _ _ _ _ _ (g1 .registrations .ensures .0) (g2 .pending-user .ensures .0) (g3 .pending-first .ensures .0) (g4 .pending-last .ensures .0) (g5 .reg-start .ensures .0) (b .if1 .taken) (after-p .before .append-registration .ensures) (c .before .clear-pending .ensures)
 
 returns-2 : tie.Need-returns-2
 returns-2 c =
@@ -37,7 +37,7 @@ returns-2 c =
     let g2 = g3 .before .before in
     let g1 = g2 .before .before in
     let s = g1 .before .before in
-    lapsed (s .pre .0) (s .args .x) _ _ _ _ _ (g1 .get .ensures .0) (g2 .get2 .ensures .0) (g3 .get3 .ensures .0) (g4 .get4 .ensures .0) (g5 .get5 .ensures .0) (b .if1 .left) (d .if2 .taken) (c .before .clear-pending2 .ensures)
+    lapsed (s .pre .0) (s .args .x) _ _ _ _ _ (g1 .registrations .ensures .0) (g2 .pending-user .ensures .0) (g3 .pending-first .ensures .0) (g4 .pending-last .ensures .0) (g5 .reg-start .ensures .0) (b .if1 .left) (d .if2 .taken) (c .before .clear-pending2 .ensures)
 
 returns-3 : tie.Need-returns-3
 returns-3 c =
@@ -48,14 +48,14 @@ returns-3 c =
     let g2 = g3 .before .before in
     let g1 = g2 .before .before in
     let s = g1 .before .before in
-    stayed (s .pre .0) (s .args .x) _ _ _ _ _ (g1 .get .ensures .0) (g2 .get2 .ensures .0) (g3 .get3 .ensures .0) (g4 .get4 .ensures .0) (g5 .get5 .ensures .0) (b .if1 .left) (c .if2 .left)
+    stayed (s .pre .0) (s .args .x) _ _ _ _ _ (g1 .registrations .ensures .0) (g2 .pending-user .ensures .0) (g3 .pending-first .ensures .0) (g4 .pending-last .ensures .0) (g5 .reg-start .ensures .0) (b .if1 .left) (c .if2 .left)
 
 pub settle-request-spec : {M : Type 1} → statement M
 settle-request-spec =
     tie.close
     (tie.spec
     (λ c κs. search needs) (λ c κs. search needs) (λ c κs. search needs) (λ c κs. search needs) (λ c. search needs)
-    (λ c. search needs) (λ c κs. search needs) (λ c. search needs) (λ c. search needs)
+    (λ c κs. search needs) (λ c. search needs) (λ c. search needs)
     append-registration-requires
     (λ c κs. search needs) (λ c. search needs)
     returns
