@@ -32,11 +32,11 @@ fn cannot_off(p: &[i64], day: u64) -> bool
     requires { ⌜ SoundPart (now p) × (day ≤ 39999) ⌝ }
     ensures { λ r. ⌜ r ≡ cannotOff day (lastOf (pointFrom (now (p .entry)) .offs)) ⌝ }
 {
-    let n = numbers::get(p, 5) as usize;
+    let n = places::spans(p);
     if n == 0 {
         return false;
     }
-    day <= point::get_until(p, 32 + 2 * (n - 1) + 1)
+    day <= point::on_day(p, n - 1)
 }
 
 // By the last span: on while on, or not after the off day. An on day that is not there yet reads as 40,001.
@@ -44,12 +44,12 @@ fn cannot_on(p: &[i64], day: u64) -> bool
     requires { ⌜ SoundPart (now p) ⌝ }
     ensures { λ r. ⌜ r ≡ cannotOn day (lastOf (pointFrom (now (p .entry)) .offs)) ⌝ }
 {
-    let n = numbers::get(p, 5) as usize;
+    let n = places::spans(p);
     if n == 0 {
         return true;
     }
-    let at = 32 + 2 * (n - 1);
-    (point::get_until(p, at + 1) != 40001) | (day <= numbers::get(p, at))
+    let last = n - 1;
+    (point::on_day(p, last) != 40001) | (day <= places::off_day(p, last))
 }
 
 // Is this day or a later one filled?
@@ -57,11 +57,11 @@ fn filled_from(p: &[i64], day: u64) -> bool
     requires { ⌜ SoundPart (now p) ⌝ }
     ensures { λ r. ⌜ r ≡ filledFrom day (pointFrom (now (p .entry))) ⌝ }
 {
-    let n = numbers::get(p, 6) as usize;
+    let n = places::records(p);
     if n == 0 {
         return false;
     }
-    day <= numbers::get(p, 48 + 4 * (n - 1) + 1)
+    day <= places::rec_end(p, n - 1)
 }
 
 // Row 14.
@@ -72,7 +72,7 @@ fn cannot_switch(p: &[i64], day: u64, on: u64) -> bool
     if on == 1 {
         return cannot_on(p, day);
     }
-    cannot_off(p, day) | filled_from(p, day) | (day < numbers::get(p, 2))
+    cannot_off(p, day) | filled_from(p, day) | (day < places::install(p))
 }
 
 // The row that sends the notice back, 0 if none does.
@@ -83,7 +83,7 @@ fn refusal(p: &[i64], day: u64, on: u64) -> u64
     if cannot_switch(p, day, on) {
         return 14;
     }
-    if (on == 0) & (8 <= numbers::get(p, 5)) {
+    if (on == 0) & (8 <= places::spans(p)) {
         return 16;
     }
     0
@@ -94,7 +94,7 @@ fn switch(p: &mut [i64], day: u64, on: u64)
     requires { ⌜ SoundPart (now p) × (day ≤ 39999) × (on ≤ 1) × (least (statusRowsOf day on (pointFrom (now p))) ≡ 0) ⌝ }
     ensures { λ _. ⌜ now (p .exit) ≡ pointNumbers (roomOf (now (p .entry))) (switchedLists day on (pointFrom (now (p .entry)))) ⌝ }
 {
-    let n = numbers::get(p, 5) as usize;
+    let n = places::spans(p);
     if on == 0 {
         rows::open_span(p, n, day);
     } else {

@@ -3,7 +3,7 @@ use mathlib.Core.Path.{_≡_, refl, sym, _∙_, ap}
 use mathlib.Core.Bool.{true, false, not}
 use mathlib.Core.Option.{Option, none, some}
 use mathlib.Core.List.{List, [], _∷_}
-use Prim.Native.Nat.{ℕ, zero, suc, _+_, _*_, _≤_, _<_}
+use Prim.Native.Nat.{ℕ, zero, suc, _-_, _≤_, _<_}
 use native.Mathlib.Omega.{arith}
 use lib.Dec.{leb, eqb}
 use lib.ListN.{length}
@@ -23,7 +23,7 @@ use Rattle.layout.proofs.PartBlocks.{few-pending}
 use Rattle.layout.proofs.Numbers.{Few, few}
 use Rattle.layout.proofs.SoundParts.{part-well, part-laid}
 use Rattle.layout.proofs.RowWrites.{set-pending, clear-pending}
-use Rattle.point.specs.InnerTests.{regRow}
+use Rattle.point.specs.InnerTests.{regUser, regRow}
 use Rattle.point.proofs.Rows.{regs-read, length-rows}
 use Rattle.point.proofs.Registrations.{latest-user}
 use Rattle.table.proofs.OnPart.{part-entered, part-refused}
@@ -68,7 +68,7 @@ count-is : (p : List ℤ) → length (pointFrom p .regs) ≡ numAt p 4
 unfolding pointFrom
 count-is p = ap length (regs-read p (numAt p 4) 0) ∙ length-rows (regRow p) 0 (numAt p 4)
 
-latest-is : (p : List ℤ) → 1 ≤ numAt p 4 → latestOf (pointFrom p .regs) .1 ≡ numAt p (15 + 2 * numAt p 4)
+latest-is : (p : List ℤ) → 1 ≤ numAt p 4 → latestOf (pointFrom p .regs) .1 ≡ regUser p (numAt p 4 - 1)
 unfolding pointFrom
 latest-is p h = ap (λ l. latestOf l .1) (regs-read p (numAt p 4) 0) ∙ latest-user p (numAt p 4) h
 
@@ -91,14 +91,14 @@ module _ {p : List ℤ} (s : SoundPart p) (user : ℕ) (period : Option (ℕ × 
     unfolding requestRows
     past-10 = least-skip 10 _ _ (waiting-is p ∙ ap not (eq-eqb (numAt p 7) 0 idle))
 
-    latest : latestOf regs .1 ≡ numAt p (15 + 2 * numAt p 4)
+    latest : latestOf regs .1 ≡ regUser p (numAt p 4 - 1)
     latest = latest-is p (s .someRegs)
 
-    pub request-same : numAt p (15 + 2 * numAt p 4) ≡ user → requestPart user period p ≡ (pos 12 ∷ pos 0 ∷ pos 0 ∷ [], p)
+    pub request-same : regUser p (numAt p 4 - 1) ≡ user → requestPart user period p ≡ (pos 12 ∷ pos 0 ∷ pos 0 ∷ [], p)
     unfolding above
     request-same e = answers 11 (past-10 ∙ least-first 12 _ _ refl (eq-eqb _ _ (latest ∙ e)))
 
-    module _ (other : numAt p (15 + 2 * numAt p 4) ≡ user → ⊥) where
+    module _ (other : regUser p (numAt p 4 - 1) ≡ user → ⊥) where
       past-12 : least (requestRowsOf user period (pointFrom p)) ≡ least ((13, not (isSome period)) ∷ (16, leb 8 (length regs)) ∷ [])
       past-12 = past-10 ∙ least-skip 12 _ _ (ne-eqb _ _ (λ e. other (sym latest ∙ e)))
 

@@ -32,7 +32,7 @@ fn withdraw_at(p: &mut [i64], user: u64) -> NoticeAnswer
     requires { ⌜ SoundPart (now p) × (1 ≤ user) ⌝ }
     ensures { λ r. ⌜ (noticeNumbers r ≡ withdrawPart user (now (p .entry)) .0) × (now (p .exit) ≡ withdrawPart user (now (p .entry)) .1) × (noticeRefused r ≡ refused (noticeNumbers r)) ⌝ }
 {
-    if numbers::get(p, 7) != user {
+    if places::pending_user(p) != user {
         return NoticeAnswer::Refused(11);
     }
     rows::clear_pending(p);
@@ -77,7 +77,7 @@ fn request_in_range(n: TransferRequest) -> bool
     ((1 <= m) & (m <= 9999999999)) & ((1 <= u) & (u <= 16)) & (day <= 39999) & (flag <= 1)
 }
 
-// The latest User stands at the place of the last registration.
+// The latest User is that of the last registration.
 fn request_at(
     p: &mut [i64],
     user: u64,
@@ -88,11 +88,11 @@ fn request_at(
     requires { ⌜ SoundPart (now p) × (user ≤ 16) × (proposed .0 ≤ 39999) ⌝ }
     ensures { λ r. ⌜ (requestNumbers r ≡ requestPart user (allowablePeriod (now (holidays .entry)) (proposed .0) nochange) (now (p .entry)) .0) × (now (p .exit) ≡ requestPart user (allowablePeriod (now (holidays .entry)) (proposed .0) nochange) (now (p .entry)) .1) × (requestRefused r ≡ refused (requestNumbers r)) ⌝ }
 {
-    if numbers::get(p, 7) != 0 {
+    if places::pending_user(p) != 0 {
         return RequestAnswer::Refused(10);
     }
-    let count = numbers::get(p, 4) as usize;
-    if numbers::get(p, 15 + 2 * count) == user {
+    let count = places::registrations(p);
+    if places::reg_user(p, count - 1) == user {
         return RequestAnswer::Refused(12);
     }
     let period = calendar::allowable_period(holidays, proposed, nochange);

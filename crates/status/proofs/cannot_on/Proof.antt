@@ -8,13 +8,13 @@ returns : tie.Need-returns
 returns c =
     let s = c .before .before in
     let l = lays (s .pre) in
-    on-unswitched (l .0) (l .1) (s .args .day) _ (c .before .get .ensures .0) (c .if1 .taken)
+    on-unswitched (l .0) (l .1) (s .args .day) _ (c .before .spans .ensures .0) (c .if1 .taken)
 
 returns-2 : tie.Need-returns-2
 returns-2 c =
     let s = c .before .before .before .before in
     let l = lays (s .pre) in
-    on-switched (l .0) (l .1) (s .args .day) _ (c .before .before .before .get .ensures .0) (c .before .before .if1 .left) _ _ (c .before .get-until .ensures .0) (c .get2 .ensures .0)
+    on-switched (l .0) (l .1) (s .args .day) _ (c .before .before .before .spans .ensures .0) (c .before .before .if1 .left) _ _ (c .before .on-day .ensures .0) (c .off-day .ensures .0)
 
 pub cannot-on-spec : {M : Type 1} → statement M
 cannot-on-spec =
@@ -22,6 +22,5 @@ cannot-on-spec =
     (tie.spec
     (λ c κs. search needs)
     returns
-    (λ c. search needs) (λ c. search needs) (λ c. search needs) (λ c. search needs) (λ c κs. search needs)
-    (λ c κs. search needs)
+    (λ c. search needs) (λ c κs. search needs) (λ c κs. search needs)
     returns-2)

@@ -13,7 +13,7 @@ returns-2 : tie.Need-returns-2
 returns-2 c =
     let s = c .before .before .before .before in
     let l = lays (s .pre .0) in
-    rw (ne-eqb _ 1 (c .before .before .before .if1 .left), c .before .before .cannot-off .ensures, c .before .filled-from .ensures, c .get .ensures .0 ∙ place-install (l .0) (l .1))
+    rw (ne-eqb _ 1 (c .before .before .before .if1 .left), c .before .before .cannot-off .ensures, c .before .filled-from .ensures, c .install .ensures .0 ∙ place-install (l .0) (l .1))
 
 pub cannot-switch-spec : {M : Type 1} → statement M
 cannot-switch-spec =

@@ -8,13 +8,13 @@ returns : tie.Need-returns
 returns c =
     let s = c .before .before in
     let l = lays (s .pre) in
-    unfilled (l .0) (l .1) (s .args .day) _ (c .before .get .ensures .0) (c .if1 .taken)
+    unfilled (l .0) (l .1) (s .args .day) _ (c .before .records .ensures .0) (c .if1 .taken)
 
 returns-2 : tie.Need-returns-2
 returns-2 c =
     let s = c .before .before .before in
     let l = lays (s .pre) in
-    filled-to (l .0) (l .1) (s .args .day) _ (c .before .before .get .ensures .0) (c .before .if1 .left) _ (c .get2 .ensures .0)
+    filled-to (l .0) (l .1) (s .args .day) _ (c .before .before .records .ensures .0) (c .before .if1 .left) _ (c .rec-end .ensures .0)
 
 pub filled-from-spec : {M : Type 1} → statement M
 filled-from-spec =
@@ -22,5 +22,5 @@ filled-from-spec =
     (tie.spec
     (λ c κs. search needs)
     returns
-    (λ c. search needs) (λ c. search needs) (λ c. search needs) (λ c. search needs) (λ c κs. search needs)
+    (λ c. search needs) (λ c κs. search needs)
     returns-2)

@@ -29,7 +29,7 @@ returns c =
     let then1 = c .before .before .before in
     let s = then1 .before .before .before in
     let l = lays (s .pre .0) in
-    let g = then1 .before .get .ensures .0 in
+    let g = then1 .before .spans .ensures .0 in
     let e = place-offs (l .0) (l .1) in
     let h = room-to-open _ _ (pointFrom (s .args .p .now)) (s .pre .3) (then1 .if1 .taken) in
     c .before .open-span .ensures ∙ open-is (l .0) (l .1) (s .args .day) _ (s .args .on) g (omega arith) (then1 .if1 .taken)
@@ -39,7 +39,7 @@ returns-2 c =
     let else1 = c .before .before .before in
     let s = else1 .before .before .before in
     let l = lays (s .pre .0) in
-    let g = else1 .before .get .ensures .0 in
+    let g = else1 .before .spans .ensures .0 in
     let e = place-offs (l .0) (l .1) in
     let h = span-to-close _ _ (pointFrom (s .args .p .now)) (s .pre .3) (omega arith) in
     c .before .close-span .ensures ∙ close-is (l .0) (l .1) (s .args .day) _ (s .args .on) g (omega arith) (omega arith)

@@ -1,10 +1,11 @@
 use mathlib.Core.Path.{_≡_, refl, sym, ap, _∙_}
-use Prim.Native.Nat.{_+_, _*_}
+use Prim.Native.Nat.{_-_}
 use native.Mathlib.Omega.{arith}
 use borrow.Author.Needs.{needs}
 use Rattle.calendar.specs.Calendar.{allowablePeriod, periodDays}
 use Rattle.calendar.proofs.Business.{period-bound}
 use Rattle.layout.specs.Layout.{numAt}
+use Rattle.point.specs.InnerTests.{regUser}
 use Rattle.table.proofs.Calls.{gives, tells}
 use Rattle.transfer.proofs.Points.{request-waiting, request-same, request-outside, request-full, request-entered}
 use Rattle.transfer.proofs.request_at.Statement.{statement}
@@ -12,27 +13,27 @@ use Rattle.transfer.proofs.request_at.Tie as tie
 
 -- ---- the places on the way
 
-abbrev start : tie.After-get2 → tie.Start
+abbrev start : tie.After-registrations → tie.Start
 start c = c .before .before .before .before .before
 
 -- what the three places hold
 idle-is : (c : tie.Else1) → numAt (c .before .before .before .args .p .now) 7 ≡ 0
-idle-is c = sym (c .before .get .ensures .0) ∙ c .if1 .left
+idle-is c = sym (c .before .pending-user .ensures .0) ∙ c .if1 .left
 
-count-is : (c : tie.After-get2) → c .get2 .result ≡ numAt (c .before .before .before .before .before .args .p .now) 4
-count-is c = c .get2 .ensures .0
+count-is : (c : tie.After-registrations) → c .registrations .result ≡ numAt (c .before .before .before .before .before .args .p .now) 4
+count-is c = c .registrations .ensures .0
 
-latest-is : (c : tie.After-get3) → c .get3 .result ≡ numAt (start (c .before .before) .args .p .now) (15 + 2 * numAt (start (c .before .before) .args .p .now) 4)
+latest-is : (c : tie.After-reg-user) → c .reg-user .result ≡ regUser (start (c .before .before) .args .p .now) (numAt (start (c .before .before) .args .p .now) 4 - 1)
 latest-is c =
     let n = c .before .before in
-    c .get3 .ensures .0 ∙ ap (λ k. numAt (n .before .before .before .before .before .args .p .now) (15 + 2 * k)) (count-is n)
+    c .reg-user .ensures .0 ∙ ap (λ k. regUser (n .before .before .before .before .before .args .p .now) (k - 1)) (count-is n)
 
 returns : tie.Need-returns
 returns c =
     let s = c .before .before .before in
     let p = s .args .p .now in
     let d = allowablePeriod (s .args .holidays .now) (s .args .proposed .0) (s .args .nochange) in
-    tells (request-waiting (s .pre .0) (s .args .user) d (λ e. c .if1 .taken (c .before .get .ensures .0 ∙ e))) refl
+    tells (request-waiting (s .pre .0) (s .args .user) d (λ e. c .if1 .taken (c .before .pending-user .ensures .0 ∙ e))) refl
 
 returns-2 : tie.Need-returns-2
 returns-2 c =
@@ -93,7 +94,7 @@ request-at-spec =
     (tie.spec
     (λ c κs. search needs) (λ c. search needs)
     returns
-    (λ c κs. search needs) (λ c. search needs) (λ c. search needs) (λ c κs. search needs) (λ c. search needs)
+    (λ c κs. search needs) (λ c. search needs) (λ c κs. search needs) (λ c. search needs)
     returns-2
     (λ c κs. search needs) (λ c. search needs) (λ c. search needs) (λ c. search needs)
     returns-3

@@ -11,7 +11,7 @@ returns c =
     let s = c .before .before .before in
     let p = s .args .p .now in
     let u = s .args .user in
-    tells (withdraw-other p u (s .pre .1) (λ e. omega (arith, c .before .get .ensures .0))) refl
+    tells (withdraw-other p u (s .pre .1) (λ e. omega (arith, c .before .pending-user .ensures .0))) refl
 
 returns-2 : tie.Need-returns-2
 returns-2 c =
@@ -20,7 +20,7 @@ returns-2 c =
     let g = else1 in
     let p = s .args .p .now in
     let u = s .args .user in
-    let w = gives (withdraw-own p u (s .pre .1) (s .pre .0) (sym (g .before .get .ensures .0) ∙ g .if1 .left)) in
+    let w = gives (withdraw-own p u (s .pre .1) (s .pre .0) (sym (g .before .pending-user .ensures .0) ∙ g .if1 .left)) in
     (w .0, c .before .clear-pending .ensures ∙ w .1, refl)
 
 pub withdraw-at-spec : {M : Type 1} → statement M
