@@ -15,6 +15,7 @@ ghost use Rattle.daybook.specs.Book.{dayShare};
 ghost use Rattle.daybook.specs.Calls.{accountNumbers, accountRefused};
 ghost use Rattle.daybook.specs.Notices.{isUser};
 ghost use Rattle.daybook.specs.Queries.{ownShare, accountOf};
+ghost use Rattle.layout.specs.Places.{regCount};
 ghost use Rattle.layout.specs.Layout.{Fits, numAt, tableBook};
 ghost use Rattle.layout.specs.Sound.{sound};
 ghost use Rattle.layout.specs.InnerParts.{SoundPart};
@@ -54,19 +55,19 @@ fn start_in(p: &[i64], j: usize, x: u64, y: u64) -> u64
     requires { ⌜ SoundPart (now p) × (x ≤ y) ⌝ }
     ensures { λ r. ⌜ r ≡ startIn (now (p .entry)) x y j ⌝ }
 {
-    let n = numbers::get(p, 4) as usize;
+    let n = places::registrations(p);
     if n <= j {
         return y;
     }
-    moved_into(x, y, numbers::get(p, 16 + 2 * j))
+    moved_into(x, y, places::reg_start(p, j))
 }
 
 // The energy of registration j's days of x to y - 1 if it is the User's, raised by 2,000,000,000.
 fn registration_energy(p: &[i64], j: usize, user: u64, x: u64, y: u64) -> u64
-    requires { ⌜ SoundPart (now p) × (j < numAt (now p) 4) × (x ≤ y) ⌝ }
+    requires { ⌜ SoundPart (now p) × (j < numAt (now p) regCount) × (x ≤ y) ⌝ }
     ensures { λ r. ⌜ (subℕ r 2000000000 ≡ ownIn (dayShare (pointAt (now (p .entry)))) user (now (p .entry)) x y j) × (r ≤ 4000000000) ⌝ }
 {
-    if numbers::get(p, 16 + 2 * j + 1) != user {
+    if places::reg_user(p, j) != user {
         return 2000000000;
     }
     let start = start_in(p, j, x, y);
@@ -79,14 +80,14 @@ fn point_energy(p: &[i64], user: u64, x: u64, y: u64) -> u64
     requires { ⌜ SoundPart (now p) × (1 ≤ user) × (x ≤ y) ⌝ }
     ensures { λ r. ⌜ (subℕ r 16000000000 ≡ sumFrom (ownShare user (pointAt (now (p .entry)))) x (y - x)) × (r ≤ 32000000000) ⌝ }
 {
-    let n = numbers::get(p, 4);
+    let n = places::registrations(p);
     let mut sum: u64 = 0;
-    let mut j: u64 = 0;
+    let mut j: usize = 0;
     while j < n {
-        sum += registration_energy(p, j as usize, user, x, y);
+        sum += registration_energy(p, j, user, x, y);
         j += 1;
     }
-    sum + 16000000000 - 2000000000 * n
+    sum + 16000000000 - 2000000000 * n as u64
 }
 
 // The energy of the User's days of a to b at all points.
@@ -94,14 +95,14 @@ fn table_energy(t: &[i64], ed: Edition, user: u64, a: u64, b: u64) -> i64
     requires { ⌜ Fits ed × (sound ed (now t) ≡ true) × (1 ≤ user) × (a ≤ b) × (b ≤ 39999) ⌝ }
     ensures { λ r. ⌜ r ≡ accountOf user a b (tableBook ed (now (t .entry))) ⌝ }
 {
-    let n = numbers::get(t, 0);
+    let n = places::points(t);
     let mut sum: u64 = 0;
-    let mut i: u64 = 0;
+    let mut i: usize = 0;
     while i < n {
-        sum += point_energy(table::part(t, ed, i as usize), user, a, b + 1);
+        sum += point_energy(table::part(t, ed, i), user, a, b + 1);
         i += 1;
     }
-    numbers::difference(sum, 16000000000 * n)
+    numbers::difference(sum, 16000000000 * n as u64)
 }
 
 // On any table and any numbers.

@@ -13,6 +13,7 @@ ghost use lib.IntN.{pos, negsuc, subℕ};
 ghost use Rattle.calendar.specs.Calendar.{within};
 ghost use Rattle.daybook.specs.Queries.{allocationInRange, atLeast0, tdmOf, weight, total as totalWeight, split, users};
 ghost use Rattle.daybook.specs.Calls.{allocationNumbers};
+ghost use Rattle.layout.specs.Places.{pointsPlace};
 ghost use Rattle.layout.specs.Layout.{Fits, numAt, tableBook};
 ghost use Rattle.layout.specs.Sound.{sound};
 ghost use Rattle.allocate.specs.Allocate.{allocateCall, placed};
@@ -148,7 +149,7 @@ fn weights(t: &[i64], ed: Edition, g: u64, a: u64, b: u64) -> [u64; 32]
     requires { ⌜ Fits ed × (sound ed (now t) ≡ true) × (g ≤ 39999) × (a ≤ b + 1) × (b ≤ a + 399) × (b ≤ 39999) ⌝ }
     ensures { λ r. ⌜ (r ≡ padded (map (weight g a b) (pointsOf ed (now (t .entry))))) × (totalWeight r ≤ mostTotal) ⌝ }
 {
-    let n = numbers::get(t, 0) as usize;
+    let n = places::points(t);
     let mut ws = [0u64; 32];
     let mut i: usize = 0;
     while i < n {
@@ -163,7 +164,7 @@ fn fros(t: &[i64], ed: Edition, g: u64) -> [u64; 32]
     requires { ⌜ Fits ed × (sound ed (now t) ≡ true) ⌝ }
     ensures { λ r. ⌜ r ≡ padded (map (λ p. p .fro g) (pointsOf ed (now (t .entry)))) ⌝ }
 {
-    let n = numbers::get(t, 0) as usize;
+    let n = places::points(t);
     let mut us = [0u64; 32];
     let mut i: usize = 0;
     while i < n {
@@ -176,13 +177,13 @@ fn fros(t: &[i64], ed: Edition, g: u64) -> [u64; 32]
 // TDM, raised by 1,000,000 for each point.
 fn metered(t: &[i64], ed: Edition, g: u64) -> u64
     requires { ⌜ Fits ed × (sound ed (now t) ≡ true) × (1 ≤ g) × (g ≤ 39999) ⌝ }
-    ensures { λ r. ⌜ (subℕ r (1000000 * numAt (now (t .entry)) 0) ≡ tdmOf g (tableBook ed (now (t .entry)))) × (r ≤ 2000000 * numAt (now (t .entry)) 0) ⌝ }
+    ensures { λ r. ⌜ (subℕ r (1000000 * numAt (now (t .entry)) pointsPlace) ≡ tdmOf g (tableBook ed (now (t .entry)))) × (r ≤ 2000000 * numAt (now (t .entry)) pointsPlace) ⌝ }
 {
-    let n = numbers::get(t, 0);
+    let n = places::points(t);
     let mut sum: u64 = 0;
-    let mut i: u64 = 0;
+    let mut i: usize = 0;
     while i < n {
-        sum += readings::metered(table::part(t, ed, i as usize), g);
+        sum += readings::metered(table::part(t, ed, i), g);
         i += 1;
     }
     sum
@@ -213,7 +214,7 @@ fn apportion(
 {
     let gasday = q.gasday;
     let g = numbers::natural(gasday);
-    let load = net_load(q, metered(t, ed, g), numbers::get(t, 0));
+    let load = net_load(q, metered(t, ed, g), places::points(t) as u64);
     split_to(ws, load, s, out);
     let us = fros(t, ed, g);
     let all = totals(&us, out);

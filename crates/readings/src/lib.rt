@@ -10,6 +10,7 @@ ghost use lib.IntN.{pos, subℕ};
 ghost use Rattle.numbers.specs.Sums.{sumFrom, sumOver};
 ghost use Rattle.daybook.specs.Book.{dayShare, filled};
 ghost use Rattle.daybook.specs.Queries.{active as isActive, allFilled, atLeast0, baseOver, dailyGas, meteredOf, weight as weightOf};
+ghost use Rattle.layout.specs.Places.{recCount, recsPlace};
 ghost use Rattle.layout.specs.Layout.{numAt};
 ghost use Rattle.layout.specs.InnerParts.{SoundPart};
 ghost use Rattle.point.specs.InnerTests.{regStart, regUser, recRow};
@@ -32,10 +33,10 @@ fn days_passed(start: u64, end: u64, d: u64) -> u64
 
 // The energy of record k's days from x to y - 1, raised by 1,000,000.
 fn record_energy(p: &[i64], k: usize, x: u64, y: u64) -> u64
-    requires { ⌜ SoundPart (now p) × (k < numAt (now p) 6) × (x ≤ y) ⌝ }
+    requires { ⌜ SoundPart (now p) × (k < numAt (now p) recCount) × (x ≤ y) ⌝ }
     ensures { λ r. ⌜ (subℕ r 1000000 ≡ partBetween partialOf x y (recRow (now (p .entry)) k)) × (r ≤ 2000000) ⌝ }
 {
-    let at = 48 + 4 * k;
+    let at = places::RECS + places::REC_LENGTH * k;
     let start = point::bits_at(p, at);
     let end = point::bits_at(p, at + 1);
     if (y <= start) | (end < x) {
@@ -51,24 +52,24 @@ fn record_energy(p: &[i64], k: usize, x: u64, y: u64) -> u64
 // The energy of the days x to y - 1, raised by 2,000,000,000.
 pub fn energy_between(p: &[i64], x: u64, y: u64) -> u64
     requires { ⌜ SoundPart (now p) × (x ≤ y) ⌝ }
-    ensures { λ r. ⌜ (subℕ r 2000000000 ≡ sumFrom (dayShare (pointAt (now (p .entry)))) x (y - x)) × (r ≤ 2000000000 + 1000000 * numAt (now (p .entry)) 6) ⌝ }
+    ensures { λ r. ⌜ (subℕ r 2000000000 ≡ sumFrom (dayShare (pointAt (now (p .entry)))) x (y - x)) × (r ≤ 2000000000 + 1000000 * numAt (now (p .entry)) recCount) ⌝ }
 {
-    let n = numbers::get(p, 6);
+    let n = places::records(p);
     let mut sum: u64 = 0;
-    let mut k: u64 = 0;
+    let mut k: usize = 0;
     while k < n {
-        sum += record_energy(p, k as usize, x, y);
+        sum += record_energy(p, k, x, y);
         k += 1;
     }
-    sum + 2000000000 - 1000000 * n
+    sum + 2000000000 - 1000000 * n as u64
 }
 
 // How many of the days x to y - 1 record k has.
 fn record_days(p: &[i64], k: usize, x: u64, y: u64) -> u64
-    requires { ⌜ SoundPart (now p) × (k < numAt (now p) 6) × (x ≤ y) ⌝ }
+    requires { ⌜ SoundPart (now p) × (k < numAt (now p) recCount) × (x ≤ y) ⌝ }
     ensures { λ r. ⌜ (pos r ≡ partBetween dayCount x y (recRow (now (p .entry)) k)) × (r ≤ 40000) ⌝ }
 {
-    let at = 48 + 4 * k;
+    let at = places::RECS + places::REC_LENGTH * k;
     let start = point::bits_at(p, at);
     let end = point::bits_at(p, at + 1);
     if (y <= start) | (end < x) {
@@ -82,11 +83,11 @@ pub fn filled_between(p: &[i64], x: u64, y: u64) -> u64
     requires { ⌜ SoundPart (now p) × (x ≤ y) ⌝ }
     ensures { λ r. ⌜ r ≡ filledDays (pointAt (now (p .entry))) x (y - x) ⌝ }
 {
-    let n = numbers::get(p, 6);
+    let n = places::records(p);
     let mut sum: u64 = 0;
-    let mut k: u64 = 0;
+    let mut k: usize = 0;
     while k < n {
-        sum += record_days(p, k as usize, x, y);
+        sum += record_days(p, k, x, y);
         k += 1;
     }
     sum
@@ -94,11 +95,11 @@ pub fn filled_between(p: &[i64], x: u64, y: u64) -> u64
 
 // The User of registration j if it has begun on day g, else the one before it.
 fn user_since(p: &[i64], j: usize, g: u64, earlier: u64) -> u64
-    requires { ⌜ (j < 8) × (48 ≤ length (now p)) ⌝ }
+    requires { ⌜ (j < 8) × (recsPlace ≤ length (now p)) ⌝ }
     ensures { λ r. ⌜ r ≡ cond (leb (regStart (now (p .entry)) j) g) (regUser (now (p .entry)) j) earlier ⌝ }
 {
-    if numbers::get(p, 16 + 2 * j) <= g {
-        return numbers::get(p, 16 + 2 * j + 1);
+    if places::reg_start(p, j) <= g {
+        return places::reg_user(p, j);
     }
     earlier
 }
@@ -108,11 +109,11 @@ pub fn fro_on(p: &[i64], g: u64) -> u64
     requires { ⌜ SoundPart (now p) ⌝ }
     ensures { λ r. ⌜ (r ≡ pointAt (now (p .entry)) .fro g) × (r ≤ 16) ⌝ }
 {
-    let n = numbers::get(p, 4);
+    let n = places::registrations(p);
     let mut user: u64 = 0;
-    let mut j: u64 = 0;
+    let mut j: usize = 0;
     while j < n {
-        user = user_since(p, j as usize, g, user);
+        user = user_since(p, j, g, user);
         j += 1;
     }
     user
@@ -123,7 +124,7 @@ pub fn off_on(p: &[i64], g: u64) -> bool
     requires { ⌜ SoundPart (now p) × (g ≤ 39999) ⌝ }
     ensures { λ r. ⌜ r ≡ pointAt (now (p .entry)) .off g ⌝ }
 {
-    let n = numbers::get(p, 5) as usize;
+    let n = places::spans(p);
     !point::no_off(p, n, g, g)
 }
 
@@ -132,13 +133,13 @@ pub fn active(p: &[i64], g: u64) -> bool
     requires { ⌜ SoundPart (now p) × (g ≤ 39999) ⌝ }
     ensures { λ r. ⌜ r ≡ isActive g (pointAt (now (p .entry))) ⌝ }
 {
-    (numbers::get(p, 2) <= g) & !off_on(p, g)
+    (places::install(p) <= g) & !off_on(p, g)
 }
 
 // Shares over the days a to b that add up to less than 0 count 0.
 fn measured(p: &[i64], a: u64, b: u64) -> u64
     requires { ⌜ SoundPart (now p) × (a ≤ b + 1) × (b ≤ 39999) ⌝ }
-    ensures { λ r. ⌜ (r ≡ atLeast0 (sumOver (dayShare (pointAt (now (p .entry)))) a b)) × (r ≤ 1000000 * numAt (now (p .entry)) 6) ⌝ }
+    ensures { λ r. ⌜ (r ≡ atLeast0 (sumOver (dayShare (pointAt (now (p .entry)))) a b)) × (r ≤ 1000000 * numAt (now (p .entry)) recCount) ⌝ }
 {
     let energy = energy_between(p, a, b + 1);
     if energy < 2000000000 {
@@ -163,7 +164,7 @@ pub fn weight(p: &[i64], g: u64, a: u64, b: u64) -> u64
     requires { ⌜ SoundPart (now p) × (g ≤ 39999) × (a ≤ b + 1) × (b ≤ a + 399) × (b ≤ 39999) ⌝ }
     ensures { λ r. ⌜ (r ≡ weightOf g a b (pointAt (now (p .entry)))) × (r ≤ 4000000 + 250000 * length (now (p .entry))) ⌝ }
 {
-    if !(active(p, g) & (numbers::get(p, 1) == 0)) {
+    if !(active(p, g) & (places::kind(p) == 0)) {
         return 0;
     }
     let energy = measured(p, a, b);
@@ -171,7 +172,7 @@ pub fn weight(p: &[i64], g: u64, a: u64, b: u64) -> u64
         return energy;
     }
     if filled_between(p, a, b + 1) == 0 {
-        return base_over(numbers::get(p, 3), a, b);
+        return base_over(places::base(p), a, b);
     }
     0
 }
@@ -224,7 +225,7 @@ pub fn metered(p: &[i64], g: u64) -> u64
     requires { ⌜ SoundPart (now p) × (1 ≤ g) × (g ≤ 39999) ⌝ }
     ensures { λ r. ⌜ (subℕ r 1000000 ≡ meteredOf g (pointAt (now (p .entry)))) × (r ≤ 2000000) ⌝ }
 {
-    if active(p, g) & (numbers::get(p, 1) == 1) {
+    if active(p, g) & (places::kind(p) == 1) {
         return gas_on(p, g);
     }
     1000000

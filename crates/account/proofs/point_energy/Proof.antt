@@ -31,12 +31,12 @@ loop-again c =
 returns : tie.Need-returns Inv-loop μ-loop
 returns c =
     let s = c .before .before .before in
-    let n = c .before .before .get .result in
+    let n = c .before .before .registrations .result in
     let l = c .before .loop in
     let e : l .j ≡ n = omega arith in (
       raise (l .sum) (2000000000 * n) 16000000000 (omega arith)
           ∙ sum-end _ 2000000000 (l .j) (l .sum) n (l .inv .2) e
-          ∙ ap (sumFrom _ 0) (c .before .before .get .ensures .0)
+          ∙ ap (sumFrom _ 0) (c .before .before .registrations .ensures .0)
           ∙ own-by-rows (s .pre .0) (s .args .user) (s .args .x) (s .args .y) (s .pre .1) (s .pre .2),
       omega arith,
     )

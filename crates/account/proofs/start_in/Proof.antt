@@ -14,7 +14,7 @@ returns c =
 returns-2 : tie.Need-returns-2
 returns-2 c =
     let s = c .before .before .before .before in
-    c .moved-into .ensures ∙ ap (movedInto (s .args .x) (s .args .y)) (c .before .get2 .ensures .0)
+    c .moved-into .ensures ∙ ap (movedInto (s .args .x) (s .args .y)) (c .before .reg-start .ensures .0)
     ∙ sym (start-is (s .args .p .now) (s .args .x) (s .args .y) (s .args .j) (omega arith))
 
 pub start-in-spec : {M : Type 1} → statement M
@@ -23,5 +23,5 @@ start-in-spec =
     (tie.spec
     (λ c κs. search needs)
     returns
-    (λ c. search needs) (λ c. search needs) (λ c κs. search needs) (λ c κs. search needs)
+    (λ c κs. search needs) (λ c κs. search needs)
     returns-2)

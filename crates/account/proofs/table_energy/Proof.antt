@@ -26,12 +26,12 @@ Inv-loop t ed user a b n sum₀ i₀ sum i =
 abbrev μ-loop : tie.MeasureT-loop
 μ-loop t ed user a b n sum₀ i₀ sum i = n - i
 
-get-requires : tie.Need-get-requires Inv-loop μ-loop
-get-requires c κs = let k = sound-long _ _ (c .pre .1) in search needs
+points-requires : tie.Need-points-requires Inv-loop μ-loop
+points-requires c κs = let k = sound-long _ _ (c .pre .1) in search needs
 
 loop-holds : tie.Need-loop-holds Inv-loop μ-loop
 loop-holds c =
-    let k = sound-long _ _ (c .before .pre .1) in (omega arith, omega (arith, c .get .ensures .0), k .0, omega arith, sum-none _ 0)
+    let k = sound-long _ _ (c .before .pre .1) in (omega arith, omega (arith, c .points .ensures .0), k .0, omega arith, sum-none _ 0)
 
 point-energy-requires : tie.Need-point-energy-requires Inv-loop μ-loop
 point-energy-requires c κs =
@@ -58,11 +58,11 @@ returns : tie.Need-returns Inv-loop μ-loop
 returns c =
     let s = c .before .before .before .before in
     let l = c .before .before .loop in
-    let n = c .before .before .before .get .result in
+    let n = c .before .before .before .points .result in
     let e : l .i ≡ n = omega arith in
     toZ-ofZ w64 _ (sfits-of (c .difference .ok)) ∙ c .difference .ensures
     ∙ sum-end _ 16000000000 (l .i) (l .sum) n (l .inv .4) e
-    ∙ ap (sumFrom _ 0) (c .before .before .before .get .ensures .0)
+    ∙ ap (sumFrom _ 0) (c .before .before .before .points .ensures .0)
     ∙ table-sum (s .args .ed) (s .args .t .now) (s .args .user) (s .args .a) (s .args .b)
 
 pub table-energy-spec : {M : Type 1} → statement M
@@ -70,7 +70,7 @@ table-energy-spec =
     tie.close
     (tie.spec
     Inv-loop μ-loop
-    get-requires
+    points-requires
     loop-holds
     (λ c κs. search needs) (λ c. search needs)
     point-energy-requires

@@ -20,7 +20,7 @@ use Rattle.allocate.proofs.apportion.Tie as tie
 
 -- ---- the places on the way
 
-abbrev start : tie.After-get → tie.Start
+abbrev start : tie.After-points → tie.Start
 start c = c .before .before .before .before .before
 
 gasday-is : (c : tie.After-natural) → c .natural .result ≡ natOf (c .before .before .before .args .q .gasday)
@@ -30,7 +30,7 @@ gasday-is c = c .natural .ensures .0 ∙ natural-read (c .before .before .before
 nsl-is : (c : tie.After-net-load) → c .net-load .result ≡ nslOf (start (c .before) .args .q) (tableBook (start (c .before) .args .ed) (start (c .before) .args .t .now))
 nsl-is c =
     let s = start (c .before) in
-    let n = c .before .get .ensures .0 in
+    let n = c .before .points .ensures .0 in
     let tdm = c .before .before .metered .result in
     load-is (s .pre) tdm
     (c .net-load .ensures .0 ∙ ap (λ k. atLeast0 (loadOf (s .args .q) tdm (1000000 * k))) n)
@@ -40,10 +40,10 @@ fros-is : (c : tie.After-fros)
     → let s = start (c .before .before .before .before .before) in
     c .fros .result ≡ padded (map (λ p. p .fro (natOf (s .args .q .gasday))) (pointsOf (s .args .ed) (s .args .t .now)))
 fros-is c =
-    let after-get = c .before .before .before .before .before in
-    let s = start after-get in
+    let after-points = c .before .before .before .before .before in
+    let s = start after-points in
     c .fros .ensures
-    ∙ ap (λ g. padded (map (λ p. p .fro g) (pointsOf (s .args .ed) (s .args .t .now)))) (gasday-is (after-get .before .before))
+    ∙ ap (λ g. padded (map (λ p. p .fro g) (pointsOf (s .args .ed) (s .args .t .now)))) (gasday-is (after-points .before .before))
 
 metered-requires : tie.Need-metered-requires
 metered-requires c κs =
@@ -51,15 +51,15 @@ metered-requires c κs =
     let ok = in-range (s .pre) in
     (s .pre .fits, s .pre .isSound, rw (gasday-is c) (ok .gasdayLow), rw (gasday-is c) (ok .gasdayHigh))
 
-get-requires : tie.Need-get-requires
-get-requires c κs = omega (arith, sound-long _ _ (c .before .before .before .before .pre .isSound) .0)
+points-requires : tie.Need-points-requires
+points-requires c κs = omega (arith, sound-long _ _ (c .before .before .before .before .pre .isSound) .0)
 
 net-load-requires : tie.Need-net-load-requires
 net-load-requires c κs =
     let s = c .before .before .before .before .before in
     let ok = in-range (s .pre) in
     let n = sound-long _ _ (s .pre .isSound) .1 in
-    (ok .tdqOk, ok .uagOk, ok .clpOk, omega (arith, c .get .ensures .0, n), rw (c .get .ensures .0) (c .before .metered .ensures .1))
+    (ok .tdqOk, ok .uagOk, ok .clpOk, omega (arith, c .points .ensures .0, n), rw (c .points .ensures .0) (c .before .metered .ensures .1))
 
 split-to-requires : tie.Need-split-to-requires
 split-to-requires c κs =
@@ -95,7 +95,7 @@ apportion-spec =
     (tie.spec
     (λ c κs. search needs)
     metered-requires
-    get-requires
+    points-requires
     net-load-requires
     split-to-requires
     (λ c κs. search needs) (λ c. search needs)

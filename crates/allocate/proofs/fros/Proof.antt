@@ -20,18 +20,18 @@ Inv-loop t ed g n us₀ i₀ us i =
 abbrev μ-loop : tie.MeasureT-loop
 μ-loop t ed g n us₀ i₀ us i = n - i
 
-get-requires : tie.Need-get-requires Inv-loop μ-loop
-get-requires c κs = let k = sound-long _ _ (c .pre .1) in search needs
+points-requires : tie.Need-points-requires Inv-loop μ-loop
+points-requires c κs = let k = sound-long _ _ (c .pre .1) in search needs
 
 loop-holds : tie.Need-loop-holds Inv-loop μ-loop
 loop-holds c =
-    let k = sound-long _ _ (c .before .pre .1) in (omega arith, omega (arith, c .get .ensures .0), k .0, none-filled _)
+    let k = sound-long _ _ (c .before .pre .1) in (omega arith, omega (arith, c .points .ensures .0), k .0, none-filled _)
 
 fro-on-requires : tie.Need-fro-on-requires Inv-loop μ-loop
 fro-on-requires c κs =
     let s = c .before .before .before .before in
     let k = c .before .before .loop .i in
-    subst SoundPart (sym (c .part .ensures)) (sound-at (s .args .ed) (s .pre .0) (s .args .t .now) k (s .pre .1) (omega (arith, c .before .before .before .get .ensures .0)))
+    subst SoundPart (sym (c .part .ensures)) (sound-at (s .args .ed) (s .pre .0) (s .args .t .now) k (s .pre .1) (omega (arith, c .before .before .before .points .ensures .0)))
 
 loop-again : tie.Need-loop-again Inv-loop μ-loop
 loop-again c =
@@ -48,7 +48,7 @@ loop-again c =
 returns : tie.Need-returns Inv-loop μ-loop
 returns c =
     let s = c .before .before .before in
-    let e : c .before .loop .i ≡ numAt (s .args .t .now) 0 = omega (arith, c .before .before .get .ensures .0) in
+    let e : c .before .loop .i ≡ numAt (s .args .t .now) 0 = omega (arith, c .before .before .points .ensures .0) in
     c .before .loop .inv .3
     ∙ ap (filledTo (λ i. partPoint (s .args .ed) (s .args .t .now) i .fro (s .args .g))) e
     ∙ all-filled (λ p. p .fro (s .args .g)) (s .args .ed) (s .args .t .now)
@@ -58,7 +58,7 @@ fros-spec =
     tie.close
     (tie.spec
     Inv-loop μ-loop
-    get-requires
+    points-requires
     loop-holds
     (λ c κs. search needs)
     fro-on-requires

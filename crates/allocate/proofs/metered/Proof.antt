@@ -24,19 +24,19 @@ Inv-loop t ed g n sum₀ i₀ sum i =
 abbrev μ-loop : tie.MeasureT-loop
 μ-loop t ed g n sum₀ i₀ sum i = n - i
 
-get-requires : tie.Need-get-requires Inv-loop μ-loop
-get-requires c κs = let k = sound-long _ _ (c .pre .1) in search needs
+points-requires : tie.Need-points-requires Inv-loop μ-loop
+points-requires c κs = let k = sound-long _ _ (c .pre .1) in search needs
 
 loop-holds : tie.Need-loop-holds Inv-loop μ-loop
 loop-holds c =
     let k = sound-long _ _ (c .before .pre .1) in
-    (omega arith, omega (arith, c .get .ensures .0), k .0, omega arith, sum-none _ 0)
+    (omega arith, omega (arith, c .points .ensures .0), k .0, omega arith, sum-none _ 0)
 
 metered-requires : tie.Need-metered-requires Inv-loop μ-loop
 metered-requires c κs =
     let s = c .before .before .before .before in
     let k = c .before .before .loop .i in
-    let ok = sound-at (s .args .ed) (s .pre .0) (s .args .t .now) k (s .pre .1) (omega (arith, c .before .before .before .get .ensures .0)) in
+    let ok = sound-at (s .args .ed) (s .pre .0) (s .args .t .now) k (s .pre .1) (omega (arith, c .before .before .before .points .ensures .0)) in
     (subst SoundPart (sym (c .part .ensures)) ok, s .pre .2, s .pre .3)
 
 loop-again : tie.Need-loop-again Inv-loop μ-loop
@@ -56,7 +56,7 @@ unfolding tdmOf
 returns c =
     let s = c .before .before .before in
     let l = c .before .loop in
-    let e : l .i ≡ numAt (s .args .t .now) 0 = omega (arith, c .before .before .get .ensures .0) in
+    let e : l .i ≡ numAt (s .args .t .now) 0 = omega (arith, c .before .before .points .ensures .0) in
     let is = sym (l .inv .4) ∙ ap (sumFrom (λ i. meteredOf (s .args .g) (partPoint (s .args .ed) (s .args .t .now) i)) 0) e in
     (sym (ap (λ n. subℕ (l .sum) (1000000 * n)) e) ∙ is ∙ sym (points-sum (s .args .ed) (s .args .t .now) (meteredOf (s .args .g))), omega (arith, e))
 
@@ -65,7 +65,7 @@ metered-spec =
     tie.close
     (tie.spec
     Inv-loop μ-loop
-    get-requires
+    points-requires
     loop-holds
     (λ c κs. search needs)
     metered-requires

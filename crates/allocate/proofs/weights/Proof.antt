@@ -23,19 +23,19 @@ Inv-loop t ed g a b n ws₀ i₀ ws i =
 abbrev μ-loop : tie.MeasureT-loop
 μ-loop t ed g a b n ws₀ i₀ ws i = n - i
 
-get-requires : tie.Need-get-requires Inv-loop μ-loop
-get-requires c κs = let k = sound-long _ _ (c .pre .1) in search needs
+points-requires : tie.Need-points-requires Inv-loop μ-loop
+points-requires c κs = let k = sound-long _ _ (c .pre .1) in search needs
 
 loop-holds : tie.Need-loop-holds Inv-loop μ-loop
 loop-holds c =
     let k = sound-long _ _ (c .before .pre .1) in
-    (omega arith, omega (arith, c .get .ensures .0), k .0, none-filled _, omega (arith, total-zeros 32))
+    (omega arith, omega (arith, c .points .ensures .0), k .0, none-filled _, omega (arith, total-zeros 32))
 
 weight-requires : tie.Need-weight-requires Inv-loop μ-loop
 weight-requires c κs =
     let s = c .before .before .before .before in
     let k = c .before .before .loop .i in
-    let ok = sound-at (s .args .ed) (s .pre .0) (s .args .t .now) k (s .pre .1) (omega (arith, c .before .before .before .get .ensures .0)) in
+    let ok = sound-at (s .args .ed) (s .pre .0) (s .args .t .now) k (s .pre .1) (omega (arith, c .before .before .before .points .ensures .0)) in
     (subst SoundPart (sym (c .part .ensures)) ok, s .pre .2, s .pre .3, s .pre .4, s .pre .5)
 
 loop-again : tie.Need-loop-again Inv-loop μ-loop
@@ -56,7 +56,7 @@ returns : tie.Need-returns Inv-loop μ-loop
 returns c =
     let s = c .before .before .before in
     let l = c .before .loop in
-    let e : l .i ≡ numAt (s .args .t .now) 0 = omega (arith, c .before .before .get .ensures .0) in (
+    let e : l .i ≡ numAt (s .args .t .now) 0 = omega (arith, c .before .before .points .ensures .0) in (
       l .inv .3
           ∙ ap (filledTo (λ i. weight (s .args .g) (s .args .a) (s .args .b) (partPoint (s .args .ed) (s .args .t .now) i))) e
           ∙ all-filled (weight (s .args .g) (s .args .a) (s .args .b)) (s .args .ed) (s .args .t .now),
@@ -68,7 +68,7 @@ weights-spec =
     tie.close
     (tie.spec
     Inv-loop μ-loop
-    get-requires
+    points-requires
     loop-holds
     (λ c κs. search needs)
     weight-requires

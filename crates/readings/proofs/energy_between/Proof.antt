@@ -30,12 +30,12 @@ loop-again c =
 returns : tie.Need-returns Inv-loop μ-loop
 returns c =
     let s = c .before .before .before in
-    let n = c .before .before .get .result in
+    let n = c .before .before .records .result in
     let l = c .before .loop in
     let e : l .k ≡ n = omega arith in (
       raise (l .sum) (1000000 * n) 2000000000 (omega arith)
           ∙ sum-end _ 1000000 (l .k) (l .sum) n (l .inv .2) e
-          ∙ ap (sumFrom _ 0) (c .before .before .get .ensures .0)
+          ∙ ap (sumFrom _ 0) (c .before .before .records .ensures .0)
           ∙ energy-by-rows (s .pre .0) (s .args .x) (s .args .y) (s .pre .1),
       omega arith,
     )

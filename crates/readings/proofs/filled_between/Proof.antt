@@ -31,10 +31,10 @@ returns : tie.Need-returns Inv-loop μ-loop
 returns c =
     let s = c .before .before .before in
     let l = c .before .loop in
-    let e : l .k ≡ c .before .before .get .result = omega arith in
+    let e : l .k ≡ c .before .before .records .result = omega arith in
     pos-same
     (sym (l .inv .2)
-    ∙ ap (sumFrom _ 0) (e ∙ c .before .before .get .ensures .0)
+    ∙ ap (sumFrom _ 0) (e ∙ c .before .before .records .ensures .0)
     ∙ filled-by-rows (s .pre .0) (s .args .x) (s .args .y) (s .pre .1))
 
 pub filled-between-spec : {M : Type 1} → statement M

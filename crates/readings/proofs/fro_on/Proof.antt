@@ -25,7 +25,7 @@ returns : tie.Need-returns Inv-loop μ-loop
 returns c =
     let l = c .before .loop in
     let s = c .before .before .before in
-    let e = user-end (s .args .p .now) (s .args .g) _ (l .j) (l .user) (omega arith) (c .before .before .get .ensures .0) (l .inv .1) in
+    let e = user-end (s .args .p .now) (s .args .g) _ (l .j) (l .user) (omega arith) (c .before .before .registrations .ensures .0) (l .inv .1) in
     (e, omega (arith, e, fro-few (s .pre) (s .args .g)))
 
 pub fro-on-spec : {M : Type 1} → statement M

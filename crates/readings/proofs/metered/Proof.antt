@@ -14,10 +14,10 @@ use Rattle.readings.proofs.metered.Tie as tie
 abbrev point : tie.Start → Point
 point s = pointAt (s .args .p .now)
 
-test-is : (c : tie.After-get)
+test-is : (c : tie.After-kind)
     → let s : tie.Start = c .before .before in
-    (c .before .active .result && eqb (c .get .result) 1) ≡ (active (s .args .g) (point s) && eqb (point s .facts .kind) 1)
-test-is c = ap₂ (λ a k. a && eqb k 1) (c .before .active .ensures) (c .get .ensures .0 ∙ kind-is (c .before .before .args .p .now))
+    (c .before .active .result && eqb (c .kind .result) 1) ≡ (active (s .args .g) (point s) && eqb (point s .facts .kind) 1)
+test-is c = ap₂ (λ a k. a && eqb k 1) (c .before .active .ensures) (c .kind .ensures .0 ∙ kind-is (c .before .before .args .p .now))
 
 returns : tie.Need-returns
 returns c =

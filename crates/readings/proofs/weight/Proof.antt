@@ -16,10 +16,10 @@ use Rattle.readings.proofs.weight.Tie as tie
 abbrev point : tie.Start → Point
 point s = pointAt (s .args .p .now)
 
-test-is : (c : tie.After-get)
+test-is : (c : tie.After-kind)
     → let s : tie.Start = c .before .before in
-    (c .before .active .result && eqb (c .get .result) 0) ≡ (active (s .args .g) (point s) && eqb (point s .facts .kind) 0)
-test-is c = ap₂ (λ a k. a && eqb k 0) (c .before .active .ensures) (c .get .ensures .0 ∙ kind-is (c .before .before .args .p .now))
+    (c .before .active .result && eqb (c .kind .result) 0) ≡ (active (s .args .g) (point s) && eqb (point s .facts .kind) 0)
+test-is c = ap₂ (λ a k. a && eqb k 0) (c .before .active .ensures) (c .kind .ensures .0 ∙ kind-is (c .before .before .args .p .now))
 
 returns : tie.Need-returns
 returns c =
@@ -51,7 +51,7 @@ returns-3 c =
     let i = f .before .before .before in
     let s = i .before .before .before in (
       c .base-over .ensures .0
-          ∙ ap (λ base. baseOver base (s .args .a) (s .args .b)) (b .get2 .ensures .0 ∙ base-is (s .args .p .now))
+          ∙ ap (λ base. baseOver base (s .args .a) (s .args .b)) (b .base .ensures .0 ∙ base-is (s .args .p .now))
           ∙ weight-base (point s) (s .args .g) (s .args .a) (s .args .b) (sym (test-is (i .before)) ∙ not-false _ (i .if1 .left)) (sym (f .filled-between .ensures) ∙ b .before .if3 .taken),
       omega arith,
     )
