@@ -2,6 +2,7 @@
    or tables, never on a time. The library works on bytes, plain C on a table of numbers. */
 #define _POSIX_C_SOURCE 199309L /* clock_gettime */
 #include "chance.h"
+#include "places.h"
 #include "plain.h"
 #include "words.h"
 
@@ -11,7 +12,7 @@
 #include <string.h>
 #include <time.h>
 
-enum { BYTES = PETLUMAS_REGISTER_BYTES, POINTS = 32, RECORDS = 48, REGISTRATIONS = 8 };
+enum { BYTES = PETLUMAS_REGISTER_BYTES };
 
 /* Many short batches: the least time is then one that no other program disturbed. */
 enum { ROUNDS = 200, BATCH = 20, DAYS_BATCH = 2 };
@@ -308,7 +309,8 @@ static void time_against_c(const char *which, struct both *both) {
     int64_t notice[ARGS_MOST];
     memcpy(notice, energy, sizeof notice);
     /* A replacement of the last record of the last point but one, where there is one. */
-    size_t record = POINTS_START + POINT_NUMBERS * (POINTS - 2) + 48 + 4 * (RECORDS - 1);
+    size_t record = HEADER_NUMBERS + POINT_NUMBERS * (POINTS - 2) + RECORD_ROWS +
+                    RECORD_NUMBERS * (RECORDS - 1);
     notice[1] = both->table[record];
     notice[2] = both->table[record + 1];
     printf("%-44s %10s %10s %8s\n", which, "library", "plain C", "ratio");

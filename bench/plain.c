@@ -1,15 +1,10 @@
 #include "plain.h"
 
+#include "places.h"
+
 #include <string.h>
 
 enum {
-    TABLE = 7688,
-    HEADER = 8,
-    STRIDE = 240,
-    POINTS = 32,
-    REGISTRATIONS = 8,
-    SPANS = 8,
-    RECORDS = 48,
     LAST_DAY = 39999,
     ENERGY_MOST = 1000000,
     AMOUNT_MOST = 1000000000,
@@ -17,24 +12,6 @@ enum {
 };
 
 static const int64_t MIRN_MOST = 9999999999;
-
-/* Places of a point's numbers. */
-enum {
-    MIRN,
-    KIND,
-    INSTALL,
-    BASE,
-    REGISTRATION_COUNT,
-    SPAN_COUNT,
-    RECORD_COUNT,
-    PENDING,
-    FIRST,
-    LAST,
-    SPARE,
-    REGISTRATION_ROWS = 16, /* start, User */
-    SPAN_ROWS = 32,         /* off day, on day or -1 */
-    RECORD_ROWS = 48,       /* start, end, energy, type */
-};
 
 static bool within(int64_t x, int64_t least, int64_t most) {
     return least <= x && x <= most;
@@ -69,7 +46,7 @@ static const int64_t *registrations(const int64_t *p) {
 }
 
 static const int64_t *registrations_end(const int64_t *p) {
-    return p + REGISTRATION_ROWS + 2 * p[REGISTRATION_COUNT];
+    return p + REGISTRATION_ROWS + REGISTRATION_NUMBERS * p[REGISTRATION_COUNT];
 }
 
 static const int64_t *spans(const int64_t *p) {
@@ -77,7 +54,7 @@ static const int64_t *spans(const int64_t *p) {
 }
 
 static const int64_t *spans_end(const int64_t *p) {
-    return p + SPAN_ROWS + 2 * p[SPAN_COUNT];
+    return p + SPAN_ROWS + SPAN_NUMBERS * p[SPAN_COUNT];
 }
 
 static const int64_t *records(const int64_t *p) {
@@ -85,11 +62,11 @@ static const int64_t *records(const int64_t *p) {
 }
 
 static const int64_t *records_end(const int64_t *p) {
-    return p + RECORD_ROWS + 4 * p[RECORD_COUNT];
+    return p + RECORD_ROWS + RECORD_NUMBERS * p[RECORD_COUNT];
 }
 
 static const int64_t *points_end(const int64_t *table) {
-    return table + HEADER + STRIDE * table[0];
+    return table + HEADER_NUMBERS + POINT_NUMBERS * table[POINT_COUNT];
 }
 
 /* ---- soundness */
@@ -153,7 +130,7 @@ static bool records_sound(const int64_t *p) {
             return false;
         day = r[1] + 1;
     }
-    return all_zero(end, p + STRIDE);
+    return all_zero(end, p + POINT_NUMBERS);
 }
 
 static bool pending_sound(const int64_t *p) {
@@ -166,30 +143,31 @@ static bool pending_sound(const int64_t *p) {
 
 static bool mirns_differ(const int64_t *table) {
     const int64_t *end = points_end(table);
-    for (const int64_t *p = table + HEADER; p < end; p += STRIDE)
-        for (const int64_t *q = table + HEADER; q < p; q += STRIDE)
+    for (const int64_t *p = table + HEADER_NUMBERS; p < end; p += POINT_NUMBERS)
+        for (const int64_t *q = table + HEADER_NUMBERS; q < p; q += POINT_NUMBERS)
             if (p[MIRN] == q[MIRN])
                 return false;
     return true;
 }
 
 bool plain_sound(const int64_t *table, size_t length) {
-    if (length < TABLE || !within(table[0], 0, POINTS) || !within(table[1], -1, ENERGY_MOST) ||
-        !within(table[2], -1, ENERGY_MOST) || !all_zero(table + 3, table + HEADER))
+    if (length < REGISTER_NUMBERS || !within(table[POINT_COUNT], 0, POINTS) ||
+        !within(table[NONDAILY], -1, ENERGY_MOST) || !within(table[DAILY], -1, ENERGY_MOST) ||
+        !all_zero(table + HEADER_SPARE, table + HEADER_NUMBERS))
         return false;
     const int64_t *end = points_end(table);
-    for (const int64_t *p = table + HEADER; p < end; p += STRIDE)
+    for (const int64_t *p = table + HEADER_NUMBERS; p < end; p += POINT_NUMBERS)
         if (!facts_sound(p) || !registrations_sound(p) || !spans_sound(p) || !records_sound(p) ||
             !pending_sound(p))
             return false;
-    return mirns_differ(table) && all_zero(end, table + TABLE);
+    return mirns_differ(table) && all_zero(end, table + REGISTER_NUMBERS);
 }
 
 /* ---- energy */
 
 static int64_t *find_point(int64_t *table, int64_t mirn) {
-    int64_t *p = table + HEADER;
-    for (int64_t i = 0; i < table[0]; i++, p += STRIDE)
+    int64_t *p = table + HEADER_NUMBERS;
+    for (int64_t i = 0; i < table[POINT_COUNT]; i++, p += POINT_NUMBERS)
         if (p[MIRN] == mirn)
             return p;
     return NULL;
@@ -221,7 +199,7 @@ static int64_t append_day(const int64_t *p) {
 
 static int64_t refuse_record(const int64_t *table, const int64_t *p, int64_t row, int64_t start,
                              int64_t end, int64_t energy, int64_t confirmed) {
-    int64_t range = table[1 + p[KIND]];
+    int64_t range = table[NONDAILY + p[KIND]];
     bool append = row == p[RECORD_COUNT];
     if (p[KIND] == 0 ? start >= end : start != end)
         return 6;
@@ -241,7 +219,7 @@ static void settle(int64_t *p, int64_t end, struct plain_energy *answer) {
     if (p[PENDING] == 0)
         return;
     if (within(end, p[FIRST], p[LAST])) {
-        int64_t *next = p + REGISTRATION_ROWS + 2 * p[REGISTRATION_COUNT];
+        int64_t *next = p + REGISTRATION_ROWS + REGISTRATION_NUMBERS * p[REGISTRATION_COUNT];
         if (end + 1 <= next[-2])
             return;
         next[0] = end + 1;
@@ -259,7 +237,7 @@ static void settle(int64_t *p, int64_t end, struct plain_energy *answer) {
 static struct plain_energy enter(int64_t *p, int64_t row, int64_t start, int64_t end,
                                  int64_t energy, int64_t type) {
     struct plain_energy answer = {0, 1, 0, 0, 0};
-    int64_t *r = p + RECORD_ROWS + 4 * row;
+    int64_t *r = p + RECORD_ROWS + RECORD_NUMBERS * row;
     if (row == p[RECORD_COUNT]) {
         p[RECORD_COUNT]++;
     } else if (r[1] == end) {
@@ -337,7 +315,7 @@ struct plain_account plain_account(const int64_t *table, size_t length, int64_t 
     if (answer.refusal != 0)
         return answer;
     bool filled;
-    for (const int64_t *p = table + HEADER; p < points_end(table); p += STRIDE)
+    for (const int64_t *p = table + HEADER_NUMBERS; p < points_end(table); p += POINT_NUMBERS)
         for (const int64_t *r = registrations(p); r < registrations_end(p); r += 2)
             if (r[1] == user)
                 answer.sum += shares_between(p, most(from, r[0]),
@@ -365,7 +343,7 @@ struct plain_account plain_account_by_days(const int64_t *table, size_t length, 
     struct plain_account answer = {refuse_account(table, length, user, from, to), 0};
     if (answer.refusal != 0)
         return answer;
-    for (const int64_t *p = table + HEADER; p < points_end(table); p += STRIDE)
+    for (const int64_t *p = table + HEADER_NUMBERS; p < points_end(table); p += POINT_NUMBERS)
         answer.sum += point_by_days(p, user, from, to);
     return answer;
 }
@@ -427,9 +405,9 @@ static bool allocation_in_range(int64_t gasday, int64_t from, int64_t to, int64_
 /* Splits nsl among the points by their weights, which add up to total. */
 static void split(const int64_t *table, const int64_t *weights, int64_t total, int64_t gasday,
                   struct plain_allocation *answer, int64_t *shares) {
-    const int64_t *p = table + HEADER;
+    const int64_t *p = table + HEADER_NUMBERS;
     int64_t before = 0;
-    for (int64_t i = 0; i < POINTS; i++, p += STRIDE) {
+    for (int64_t i = 0; i < POINTS; i++, p += POINT_NUMBERS) {
         shares[i] = 0;
         if (weights[i] == 0)
             continue;
@@ -454,8 +432,8 @@ struct plain_allocation plain_allocate(const int64_t *table, size_t length, int6
         answer.refusal = 2;
         return answer;
     }
-    const int64_t *p = table + HEADER;
-    for (int64_t i = 0; i < table[0]; i++, p += STRIDE) {
+    const int64_t *p = table + HEADER_NUMBERS;
+    for (int64_t i = 0; i < table[POINT_COUNT]; i++, p += POINT_NUMBERS) {
         if (!is_active(p, gasday))
             continue;
         if (p[KIND] == 1)

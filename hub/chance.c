@@ -1,9 +1,8 @@
 #include "chance.h"
 
 #include "petlumas.h"
+#include "places.h"
 #include "words.h"
-
-enum { POINTS_MOST = 32 };
 
 static uint64_t next_random(struct chance *c) {
     c->random ^= c->random >> 12;
@@ -46,8 +45,8 @@ static int64_t mostly(struct chance *c, int64_t good) {
 /* ---- arguments */
 
 static size_t any_point(struct chance *c) {
-    int64_t points = get_number(c->reg, 0);
-    return POINTS_START + POINT_NUMBERS * (points == 0 ? 0 : (size_t)below(c, (uint64_t)points));
+    int64_t points = get_number(c->reg, POINT_COUNT);
+    return HEADER_NUMBERS + POINT_NUMBERS * (points == 0 ? 0 : (size_t)below(c, (uint64_t)points));
 }
 
 static int64_t number_at(const struct chance *c, size_t place) {
@@ -55,7 +54,7 @@ static int64_t number_at(const struct chance *c, size_t place) {
 }
 
 static int64_t choose_mirn(struct chance *c, size_t point) {
-    return one_in(c, 20) ? between(c, 1, 60) : mostly(c, number_at(c, point));
+    return one_in(c, 20) ? between(c, 1, 60) : mostly(c, number_at(c, point + MIRN));
 }
 
 static int64_t choose_user(struct chance *c) {
@@ -69,20 +68,21 @@ static int64_t choose_energy(struct chance *c) {
 
 /* The day after a point's last filled day, or its install day. */
 static int64_t next_day(const struct chance *c, size_t point) {
-    int64_t records = number_at(c, point + 6);
+    int64_t records = number_at(c, point + RECORD_COUNT);
     if (records == 0)
-        return number_at(c, point + 2);
-    return number_at(c, point + 48 + 4 * ((size_t)records - 1) + 1) + 1;
+        return number_at(c, point + INSTALL);
+    return number_at(c, point + RECORD_ROWS + RECORD_NUMBERS * ((size_t)records - 1) + 1) + 1;
 }
 
 static int64_t choose_start(struct chance *c, size_t point) {
-    int64_t records = number_at(c, point + 6);
-    int64_t spans = number_at(c, point + 5);
+    int64_t records = number_at(c, point + RECORD_COUNT);
+    int64_t spans = number_at(c, point + SPAN_COUNT);
     uint64_t way = below(c, 16);
     if (way < 3 && records > 0)
-        return number_at(c, point + 48 + 4 * (size_t)below(c, (uint64_t)records));
+        return number_at(c, point + RECORD_ROWS +
+                                RECORD_NUMBERS * (size_t)below(c, (uint64_t)records));
     if (way < 6 && spans > 0)
-        return number_at(c, point + 32 + 2 * ((size_t)spans - 1) + 1);
+        return number_at(c, point + SPAN_ROWS + SPAN_NUMBERS * ((size_t)spans - 1) + 1);
     return mostly(c, next_day(c, point));
 }
 
@@ -101,7 +101,7 @@ void choose_open(struct chance *c, int64_t *args) {
 
 void choose_energy_notice(struct chance *c, int64_t *args) {
     size_t point = any_point(c);
-    int64_t kind = one_in(c, 12) ? between(c, 0, 1) : number_at(c, point + 1);
+    int64_t kind = one_in(c, 12) ? between(c, 0, 1) : number_at(c, point + KIND);
     args[0] = choose_mirn(c, point);
     args[1] = choose_start(c, point);
     args[2] = args[1];
@@ -116,8 +116,8 @@ void choose_energy_notice(struct chance *c, int64_t *args) {
 /* On where the last span is open, else off after the last on day and the last filled day. */
 void choose_status(struct chance *c, int64_t *args) {
     size_t point = any_point(c);
-    int64_t spans = number_at(c, point + 5);
-    size_t last = point + 32 + 2 * (spans == 0 ? 0 : (size_t)spans - 1);
+    int64_t spans = number_at(c, point + SPAN_COUNT);
+    size_t last = point + SPAN_ROWS + SPAN_NUMBERS * (spans == 0 ? 0 : (size_t)spans - 1);
     bool open = spans > 0 && number_at(c, last + 1) == -1;
     int64_t after = number_at(c, last + (open ? 0 : 1));
     int64_t day = next_day(c, point);
@@ -136,7 +136,7 @@ void choose_request(struct chance *c, int64_t *args) {
 
 void choose_withdraw(struct chance *c, int64_t *args) {
     size_t point = any_point(c);
-    int64_t pending = number_at(c, point + 7);
+    int64_t pending = number_at(c, point + PENDING);
     args[0] = choose_mirn(c, point);
     args[1] = pending != 0 && !one_in(c, 3) ? pending : choose_user(c);
 }
@@ -172,8 +172,8 @@ static size_t any_place(struct chance *c) {
     if (one_in(c, 8))
         return (size_t)below(c, REGISTER_NUMBERS);
     if (one_in(c, 8))
-        return (size_t)below(c, POINTS_START);
-    size_t within = one_in(c, 2) ? (size_t)below(c, 48) : (size_t)below(c, POINT_NUMBERS);
+        return (size_t)below(c, HEADER_NUMBERS);
+    size_t within = one_in(c, 2) ? (size_t)below(c, RECORD_ROWS) : (size_t)below(c, POINT_NUMBERS);
     return any_point(c) + within;
 }
 
@@ -211,7 +211,7 @@ static void feed(struct chance *c, uint64_t ways) {
 
 void start_register(struct chance *c) {
     uint8_t answer[8];
-    int64_t points = one_in(c, 2) ? between(c, 1, POINTS_MOST) : between(c, 1, 3);
+    int64_t points = one_in(c, 2) ? between(c, 1, POINTS) : between(c, 1, 3);
     petlumas_fresh(c->reg, PETLUMAS_REGISTER_BYTES, answer, sizeof answer, -1,
                    between(c, -1, 1000000));
     for (int64_t i = 1; i <= points; i++) {

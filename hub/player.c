@@ -28,7 +28,7 @@ void start_player(struct player *player, FILE *out) {
     for (size_t k = 0; k < PAST_NUMBERS; k++)
         put_number(player->buffer, REGISTER_NUMBERS + k, 1000 + (int64_t)k);
     player->lent = REGISTER_NUMBERS;
-    player->shares = 32;
+    player->shares = POINTS;
     player->out = out;
 }
 
@@ -153,10 +153,10 @@ static bool is_sound(const struct player *p) {
 static size_t find_point(const struct player *p, int64_t mirn) {
     if (!is_sound(p))
         return 0;
-    int64_t points = get_number(p->buffer, 0);
-    size_t place = POINTS_START;
+    int64_t points = get_number(p->buffer, POINT_COUNT);
+    size_t place = HEADER_NUMBERS;
     for (int64_t i = 0; i < points; i++, place += POINT_NUMBERS)
-        if (get_number(p->buffer, place) == mirn)
+        if (get_number(p->buffer, place + MIRN) == mirn)
             return place;
     return 0;
 }

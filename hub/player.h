@@ -3,13 +3,14 @@
 #define HUB_PLAYER_H
 
 #include "line.h"
+#include "places.h"
 #include "words.h"
 
 enum {
     PAST_NUMBERS = 16, /* stand behind the register; no call may touch them */
     BUFFER_NUMBERS = REGISTER_NUMBERS + PAST_NUMBERS,
     BUFFER_BYTES = 8 * BUFFER_NUMBERS,
-    SHARES_MOST = 64,   /* numbers of the longest answer table */
+    SHARES_MOST = 64,  /* numbers of the longest answer table */
     REPLY_BYTES = 300, /* the longest answer or answer table of a hub line */
 };
 
