@@ -12,9 +12,8 @@ use Rattle.daybook.specs.declared.Edition.{Edition}
 use Rattle.daybook.specs.declared.Ranges.{Ranges}
 use Rattle.daybook.specs.Notices.{least, Numbers, decide, freshRows, fresh}
 use Rattle.daybook.specs.Calls.{Call, State, run, answers}
-use Rattle.lists.specs.Lists.{Register, bookOf}
-use Rattle.lists.specs.InnerWell.{nopoint, WellFormed}
-use Rattle.lists.proofs.OpenStep.{FreshClear, fresh-clear}
+use Rattle.lists.specs.Lists.{bookOf}
+use Rattle.lists.proofs.OpenStep.{no-points}
 use Rattle.layout.specs.Layout.{tableLength, editionOf, tableBook}
 use Rattle.layout.specs.Calls.{answerAndTable}
 use Rattle.layout.proofs.Editions.{edition-fits, edition-left}
@@ -44,14 +43,6 @@ fresh-begins t n = go (leb tableLength (length t)) (least (freshRows n)) refl
     ed : Edition
     ed = editionOf t
 
-    none : Register
-    none = record { nondaily = n .nondaily; daily = n .daily; points = [] }
-
-    ok : least (freshRows n) ≡ 0 → WellFormed ed none
-    ok z =
-        let c : FreshClear n = fresh-clear n z in
-        record { nondailyOk = c .nondailyOk; dailyOk = c .dailyOk; pointsFew = omega arith; pointsOk = nopoint }
-
     given : Bool → ℕ → Numbers × List ℤ
     given long row =
         cond long (answerAndTable ed t (decide row 0 (tableBook ed t) ([], freshState ed n .book))) (pos 1 ∷ [], t)
@@ -59,7 +50,7 @@ fresh-begins t n = go (leb tableLength (length t)) (least (freshRows n)) refl
     go : (long : Bool) (row : ℕ) → least (freshRows n) ≡ row → given long row .0 ≡ pos 0 ∷ []
         → StandsFor (record { table = given long row .1 }) (freshState ed n)
     go true zero z e =
-        let h : Holds ed (edition-fits t) _ (freshState ed n .book) = written-holds ed (edition-fits t) (ok z) t in
+        let h : Holds ed (edition-fits t) _ (freshState ed n .book) = written-holds ed (edition-fits t) (no-points ed n z) t in
         record { edition = edition-left t (freshState ed n .book); isSound = h .isSound; book = h .book }
     go true (suc r) z e = let k : _≡_ {A = ℕ} 0 1 = cc in absurd (omega arith)
     go false row z e = let k : _≡_ {A = ℕ} 0 1 = cc in absurd (omega arith)

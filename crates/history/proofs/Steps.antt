@@ -91,11 +91,14 @@ module _ (t : List ℤ) (s : sound (editionOf t) t ≡ true) where
   step-agrees (query! q) =
       record { answer = query-is t s q; standsFor = record { edition = refl; isSound = s; book = refl } }
 
--- the same from any state that is stood for
+-- it is the state that is stood for
+pub state-is : {L : Lent} {S : State} → StandsFor L S → stateOf (L .table) ≡ S
+state-is {L} {S} r =
+    ap {B = State} (λ ed. record { edition = ed; book = tableBook ed (L .table) }) (r .edition)
+    ∙ ap {B = State} (λ B. record { edition = S .edition; book = B }) (r .book)
+
+pub own-sound : {L : Lent} {S : State} → StandsFor L S → sound (editionOf (L .table)) (L .table) ≡ true
+own-sound r = rw (r .edition) (r .isSound)
+
 pub call-agrees : (L : Lent) (S : State) → StandsFor L S → (c : Call) → Follows (lentStep c L) (step c S)
-call-agrees L S r c = subst (λ S. Follows (lentStep c L) (step c S)) is (step-agrees (L .table) (rw (r .edition) (r .isSound)) c)
-  where
-    is : stateOf (L .table) ≡ S
-    is =
-        ap {B = State} (λ ed. record { edition = ed; book = tableBook ed (L .table) }) (r .edition)
-        ∙ ap {B = State} (λ B. record { edition = S .edition; book = B }) (r .book)
+call-agrees L S r c = subst (λ S. Follows (lentStep c L) (step c S)) (state-is r) (step-agrees (L .table) (own-sound r) c)

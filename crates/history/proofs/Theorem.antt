@@ -7,6 +7,7 @@ use Rattle.daybook.specs.Calls.{State}
 use Rattle.history.specs.Runs.{Lent}
 use Rattle.history.specs.Agreement.{StandsFor, AddsUp, Agrees}
 use Rattle.history.specs.Claim.{EveryList}
+use Rattle.history.proofs.Steps.{own-sound}
 use Rattle.history.proofs.Runs.{run-agrees, fresh-begins}
 use Rattle.history.proofs.SoundTables.{sound-adds-up}
 
@@ -17,7 +18,7 @@ stands-agrees L S r =
       standsFor = r;
       addsUp =
           subst (λ (B : Book). AddsUp (S .edition) (L .table) B) (r .book)
-          (rw (r .edition) at (sound-adds-up (L .table) (rw (r .edition) (r .isSound))));
+          (rw (r .edition) at (sound-adds-up (L .table) (own-sound r)));
     }
 
 pub every-list : EveryList
