@@ -39,10 +39,6 @@ module _ (x : ℤ) (e : isLoad x ≡ true) where
   pub load-small : raised x ≤ 2000000000
   load-small = omega (arith, bounds .1)
 
-pub load-natural : (x : ℤ) → within (pos 0) (pos 1000000000) x ≡ true → (x ≡ pos (natOf x)) × (natOf x ≤ 1000000000)
-load-natural (pos n) e = (refl, leb-true n 1000000000 (both (leb 0 n) (leb n 1000000000) e .1))
-load-natural (negsuc n) e = let z : _≡_ {A = ℕ} 0 1 = cc in absurd (omega arith)
-
 -- ---- the net section load
 
 module _ (q : AllocationQuery) (tdq tdm most uag clp : ℕ) (a : q .tdq ≡ pos tdq) (b : subℕ uag 1000000000 ≡ q .uag) (c : subℕ clp 1000000000 ≡ q .clp) where
