@@ -70,7 +70,8 @@ module _ (ed : Edition) (fits : Fits ed) (t : List ℤ) (g : ed ≡ editionOf t)
     unfolding energyEarly energyListsRows energyRows above
     energy-range e = here ∙ on-early ed fits t s call 1 (omega arith) (least-first 2 _ [] refl (ap not e)) (λ q. refl)
 
-    module _ (r : inRange n ≡ true) (x : RaisedNotice) (ex : x ≡ raisedNotice n) (i : ℕ) (e : i ≡ maybe (ed .points) (λ k. k) (indexOf ed t (x .mirn))) where
+    module _ (r : inRange n ≡ true) (x : RaisedNotice) (ex : x ≡ raisedNotice n)
+        (i : ℕ) (e : i ≡ maybe (ed .points) (λ k. k) (indexOf ed t (x .mirn))) where
       passed : least (energyEarly n) ≡ 0
       unfolding energyEarly least
       passed = least-skip 2 _ [] (ap not r)

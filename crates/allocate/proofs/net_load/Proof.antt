@@ -24,7 +24,8 @@ tdq-is : (c : tie.After-natural) → (c .before .before .before .before .args .q
 tdq-is c =
     let s = c .before .before .before .before in
     let tdq = s .args .q .tdq in
-    let is : c .natural .result ≡ natOf tdq = c .natural .ensures .0 ∙ natural-read tdq (sfits-of (c .before .struct-told3 .given .1 .1 .1 .0 .1)) in
+    let fits = sfits-of (c .before .struct-told3 .given .1 .1 .1 .0 .1) in
+    let is : c .natural .result ≡ natOf tdq = c .natural .ensures .0 ∙ natural-read tdq fits in
     (within-pos 0 1000000000 tdq (s .pre .0) ∙ ap pos (sym is), rw is (within-bounds 0 1000000000 tdq (s .pre .0) .1))
 
 load-is : (c : tie.After-raised-load2)

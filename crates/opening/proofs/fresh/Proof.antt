@@ -40,7 +40,8 @@ returns-3 c =
     let r = else1 i in
     let n = r .before .args .n in
     let told = i .before .before .struct-told2 .given in
-    let w = gives (fresh-entered (r .before .args .t .now) n (r .if1 .left) (sym (tested i) ∙ not-false _ (c .before .before .before .if2 .left))) in (
+    let passed = sym (tested i) ∙ not-false _ (c .before .before .before .if2 .left) in
+    let w = gives (fresh-entered (r .before .args .t .now) n (r .if1 .left) passed) in (
       w .0,
       rw (
         c .before .clear .ensures,

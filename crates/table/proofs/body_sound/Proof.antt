@@ -16,8 +16,10 @@ returns c =
     let s = nondaily .before .before .before in
     let t = s .args .t .now in
     body-is (s .args .ed) t (s .args .n) _ _ _ _ _ _ _ (s .pre .3)
-    (nondaily .is-range .ensures ∙ test-read (getD t 1 (pos 0)) (sfits-of (nondaily .before .is-range-arg .given)) isRange)
-    (daily .is-range2 .ensures ∙ test-read (getD t 2 (pos 0)) (sfits-of (daily .before .is-range-arg2 .given)) isRange)
+    (nondaily .is-range .ensures
+    ∙ test-read (getD t 1 (pos 0)) (sfits-of (nondaily .before .is-range-arg .given)) isRange)
+    (daily .is-range2 .ensures
+    ∙ test-read (getD t 2 (pos 0)) (sfits-of (daily .before .is-range-arg2 .given)) isRange)
     (zeros .zeros-in .ensures)
     (c .before .before .parts-sound .ensures)
     (c .before .mirns-differ .ensures)
