@@ -12,7 +12,7 @@ use Rattle.numbers.specs.Naturals.{natOf}
 use Rattle.numbers.proofs.Naturals.{natOf-is}
 use Rattle.words.specs.Words.{withNumber, withWord}
 use Rattle.words.specs.Tables.{encodedInto}
-use Rattle.daybook.specs.Notices.{Numbers}
+use Rattle.daybook.specs.Notices.{Numbers, highestRefusal}
 use Rattle.buffers.specs.InnerBuffers.{bitsOf}
 use Rattle.buffers.specs.Buffers.{withNumbers, replied, written}
 
@@ -33,7 +33,7 @@ encoded-bits b xs (suc n) =
 bits-length : (xs : List ℤ) → length (map pos (bitsOf xs)) ≡ length xs
 bits-length xs = length-map (bitsOf xs) pos ∙ length-map xs (ofZ w64)
 
-module _ (xs : Numbers) (h : refusalOf xs ≤ 16) where
+module _ (xs : Numbers) (h : refusalOf xs ≤ highestRefusal) where
   bits-first : getD (map pos (bitsOf xs)) 0 (pos 0) ≡ getD xs 0 (pos 0)
   bits-first = let e : getD xs 0 (pos 0) ≡ pos (refusalOf xs) = natOf-is (getD xs 0 (pos 0)) (omega arith) in bits-at xs 0 ∙ ap (λ z. pos (ofZ w64 z)) e ∙ sym e
 
@@ -43,8 +43,8 @@ module _ (xs : Numbers) (h : refusalOf xs ≤ 16) where
 
 -- ---- the end
 
-module _ (ns : List ℕ) (xs : Numbers) (p : ns ≡ bitsOf xs) (h : refusalOf xs ≤ 16) where
-  pub first-small : getD ns 0 0 ≤ 16
+module _ (ns : List ℕ) (xs : Numbers) (p : ns ≡ bitsOf xs) (h : refusalOf xs ≤ highestRefusal) where
+  pub first-small : getD ns 0 0 ≤ highestRefusal
   first-small =
       let e : getD ns 0 0 ≡ refusalOf xs =
       ap (λ l. getD l 0 0) p ∙ List·getD-map (ofZ w64) xs 0 (pos 0) ∙ ap (ofZ w64) (natOf-is (getD xs 0 (pos 0)) (omega arith)) in

@@ -6,6 +6,7 @@ ghost use Prim.Native.Nat.{_*_, _/_, _≤_, min};
 ghost use lib.IntN.{pos};
 ghost use lib.ListN.{length, getD};
 ghost use Rattle.calendar.specs.Calendar.{dateNumbers};
+ghost use Rattle.daybook.specs.Notices.{highestRefusal};
 ghost use Rattle.daybook.specs.Calls.{noticeNumbers, energyNumbers, requestNumbers, accountNumbers, allocationNumbers};
 ghost use Rattle.buffers.specs.Buffers.{numbersIn, withNumbers, tableIn, replied, written};
 ghost use Rattle.buffers.specs.InnerBuffers.{bitsOf};
@@ -85,8 +86,8 @@ fn put_numbers(b: &mut [u8], numbers: &[u64])
 
 // Writes an answer's numbers, unless their buffer is too short; the result is their refusal.
 pub fn reply(answer: &mut [u8], numbers: &[u64]) -> u64
-    requires { ⌜ (1 ≤ length (now numbers)) × (length (now numbers) ≤ 18) × (getD (now numbers) 0 0 ≤ 16) ⌝ }
-    ensures { λ r. ⌜ ((pos r, now (answer .exit)) ≡ replied (map pos (now (numbers .entry))) (now (answer .entry))) × (r ≤ 16) ⌝ }
+    requires { ⌜ (1 ≤ length (now numbers)) × (length (now numbers) ≤ 18) × (getD (now numbers) 0 0 ≤ highestRefusal) ⌝ }
+    ensures { λ r. ⌜ ((pos r, now (answer .exit)) ≡ replied (map pos (now (numbers .entry))) (now (answer .entry))) × (r ≤ highestRefusal) ⌝ }
 {
     let refusal = numbers[0];
     if answer.len() < 8 * numbers.len() {
@@ -101,7 +102,7 @@ pub fn reply(answer: &mut [u8], numbers: &[u64]) -> u64
 
 // The end of a call: its answer, and where the result is 0 its numbers for the lent buffer.
 pub fn finish(buffer: &mut [u8], answer: &mut [u8], t: &[i64], numbers: &[u64]) -> i64
-    requires { ⌜ (8 * length (now t) ≤ length (now buffer)) × (1 ≤ length (now numbers)) × (length (now numbers) ≤ 18) × (getD (now numbers) 0 0 ≤ 16) ⌝ }
+    requires { ⌜ (8 * length (now t) ≤ length (now buffer)) × (1 ≤ length (now numbers)) × (length (now numbers) ≤ 18) × (getD (now numbers) 0 0 ≤ highestRefusal) ⌝ }
     ensures { λ r. ⌜ (r, (now (buffer .exit), now (answer .exit))) ≡ written (map pos (now (numbers .entry)), now (t .entry)) (now (buffer .entry)) (now (answer .entry)) ⌝ }
 {
     let refusal = reply(answer, numbers);

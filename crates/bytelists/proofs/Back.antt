@@ -12,11 +12,11 @@ use borrow.Author.Tests.{le-leb, lt-leb}
 use Rattle.words.specs.Tables.{decodedInto, encodedInto}
 use Rattle.words.proofs.Tables.{length-decoded, length-encoded}
 use Rattle.words.proofs.Back.{decoded-encoded-at}
-use Rattle.daybook.specs.Book.{standard}
-use Rattle.layout.specs.Layout.{tableLength}
+use Rattle.layout.specs.Layout.{tableLength, editionOf}
 use Rattle.layout.specs.Sound.{sound}
+use Rattle.layout.proofs.Editions.{edition-fits}
+use Rattle.layout.proofs.Words.{AllFit, fit-at, sound-fits}
 use Rattle.buffers.specs.Buffers.{numbersIn, withNumbers, tableIn}
-use Rattle.bytelists.proofs.Fits.{AllFit, fit-at, sound-fits}
 
 pub bytes-length : (t : List ℤ) (b : List ℕ) → length (withNumbers t b) ≡ length b
 unfolding withNumbers
@@ -62,10 +62,10 @@ table-whole b h = subst (λ t. length t ≡ tableLength) (table-long b h) (read-
 pub table-none : (b : List ℕ) → length b < 61504 → length (tableIn b) ≡ 0
 table-none b h = subst (λ t. length t ≡ 0) (table-short b h) (read-length b 0)
 
-pub table-back : (t : List ℤ) (b : List ℕ) → sound standard t ≡ true → length t ≡ tableLength → 61504 ≤ length b → tableIn (withNumbers t b) ≡ t
+pub table-back : (t : List ℤ) (b : List ℕ) → sound (editionOf t) t ≡ true → length t ≡ tableLength → 61504 ≤ length b → tableIn (withNumbers t b) ≡ t
 table-back t b s e h =
     sym (table-long (withNumbers t b) (omega (arith, bytes-length t b)))
     ∙ subst (λ n. numbersIn (withNumbers t b) n ≡ t) e (numbers-back t b fits (omega arith))
   where
     fits : AllFit t
-    fits = subst AllFit (take-all tableLength t (omega arith)) (sound-fits t s)
+    fits = subst AllFit (take-all tableLength t (omega arith)) (sound-fits (editionOf t) (edition-fits t) t s)

@@ -9,19 +9,23 @@ use lib.IntN.{ℤ, pos}
 use lib.ListN.{length, getD}
 use borrow.Author.Tests.{leb-true, leb-false}
 use Rattle.numbers.specs.Naturals.{sameZ}
+use Rattle.daybook.specs.declared.Edition.{Edition}
 use Rattle.daybook.specs.declared.Ranges.{Ranges}
 use Rattle.daybook.specs.Notices.{Numbers, least, decide, freshRows, fresh}
-use Rattle.daybook.specs.Book.{standard}
-use Rattle.layout.specs.Layout.{tableLength, tableBook, withBook}
+use Rattle.lists.specs.Lists.{bookOf}
+use Rattle.lists.proofs.OpenStep.{no-points}
+use Rattle.layout.specs.Layout.{tableLength, editionOf, tableBook}
 use Rattle.layout.specs.Calls.{answerAndTable}
+use Rattle.layout.proofs.Editions.{edition-fits}
+use Rattle.layout.proofs.Notices.{written-length}
 use Rattle.opening.specs.Opening.{freshCall}
-use Rattle.history.specs.Runs.{freshState}
-use Rattle.history.proofs.Steps as OnTables
+use Rattle.history.specs.Runs.{noticeCall, freshState}
+use Rattle.history.specs.Agreement.{StandsFor}
+use Rattle.history.proofs.Steps.{state-is, own-sound}
 use Rattle.history.proofs.Runs.{fresh-begins}
 use Rattle.buffers.specs.Buffers.{withNumbers, tableIn, replied, written}
-use Rattle.bytelists.specs.ByteLists.{petlumas-fresh, byteStep}
+use Rattle.bytelists.specs.ByteLists.{petlumas-fresh, hub-notice, noticeIn, byteStep}
 use Rattle.bytelists.proofs.Back.{table-whole, table-none}
-use Rattle.bytelists.proofs.Left.{written-length}
 use Rattle.bytelists.proofs.Steps.{Holds, table-put}
 
 -- A result of 0 says that the refusal is 0 and that the bytes were written.
@@ -49,34 +53,41 @@ returned-zero w b answer = go (leb (8 * length (w .0)) (length answer))
 record Accepted (t : List ℤ) (w : Numbers × List ℤ) (n : Ranges) : Type 0 where
   answer : w .0 ≡ pos 0 ∷ []
   long : tableLength ≤ length t
-  is : w .1 ≡ withBook standard t (freshState n .book)
+  left : length t ≡ tableLength → length (w .1) ≡ tableLength
 
 accepted-is : (t : List ℤ) (n : Ranges) → getD (freshCall t n .0) 0 (pos 0) ≡ pos 0 → Accepted t (freshCall t n) n
-unfolding freshCall fresh decide
-accepted-is t n = go (leb tableLength (length t)) refl (least (freshRows n))
+unfolding freshCall fresh decide bookOf
+accepted-is t n = go (leb tableLength (length t)) refl (least (freshRows n)) refl
   where
+    ed : Edition
+    ed = editionOf t
+
     given : Bool → ℕ → Numbers × List ℤ
     given long row =
-        cond long (answerAndTable standard t (decide row 0 (tableBook standard t) ([], freshState n .book))) (pos 1 ∷ [], t)
+        cond long (answerAndTable ed t (decide row 0 (tableBook ed t) ([], freshState ed n .book))) (pos 1 ∷ [], t)
 
-    go : (long : Bool) → leb tableLength (length t) ≡ long → (row : ℕ) → getD (given long row .0) 0 (pos 0) ≡ pos 0
+    go : (long : Bool) → leb tableLength (length t) ≡ long → (row : ℕ) → least (freshRows n) ≡ row → getD (given long row .0) 0 (pos 0) ≡ pos 0
         → Accepted t (given long row) n
-    go true h zero e = record { answer = refl; long = leb-true tableLength (length t) h; is = refl }
-    go true h (suc r) e = let k : suc r ≡ 0 = cc in absurd (omega arith)
-    go false h row e = let k : _≡_ {A = ℕ} 1 0 = cc in absurd (omega arith)
+    go true h zero z e =
+        record {
+          answer = refl;
+          long = leb-true tableLength (length t) h;
+          left = written-length ed (edition-fits t) (no-points ed n z) t;
+        }
+    go true h (suc r) z e = let k : suc r ≡ 0 = cc in absurd (omega arith)
+    go false h row z e = let k : _≡_ {A = ℕ} 1 0 = cc in absurd (omega arith)
 
-pub fresh-holds : (b₀ answer : List ℕ) (n : Ranges) → byteStep (petlumas-fresh n) answer b₀ .0 .0 ≡ pos 0
-    → Holds (byteStep (petlumas-fresh n) answer b₀ .1) (freshState n)
-unfolding byteStep
-fresh-holds b₀ answer n returned =
+pub fresh-holds : (b₀ second answer : List ℕ) (n : Ranges)
+    → byteStep (hub-notice (petlumas-fresh n)) second answer (record { register = b₀ }) .0 .0 ≡ pos 0
+    → Holds (byteStep (hub-notice (petlumas-fresh n)) second answer (record { register = b₀ }) .1) (freshState (editionOf (tableIn b₀)) n)
+unfolding byteStep noticeIn noticeCall
+fresh-holds b₀ second answer n returned =
     let (refusal, bytes) = returned-zero (freshCall t n) b₀ answer returned in
     let a : Accepted t (freshCall t n) n = accepted-is t n refusal in
-    let h : OnTables.Holds (freshCall t n .1) (freshState n .book) = fresh-begins t n (a .answer) in
-    let long : length (freshCall t n .1) ≡ tableLength =
-    written-length t _ (freshState n .book) (h .isSound) (h .book) (a .is) (table-whole b₀ (enough (a .long))) in
-    subst (λ b. Holds b (freshState n)) (sym bytes)
-    (subst (λ B. Holds (withNumbers (freshCall t n .1) b₀) (record { edition = standard; book = B })) (h .book)
-    (table-put (freshCall t n .1) b₀ (h .isSound) long (enough (a .long))))
+    let r : StandsFor (record { table = freshCall t n .1 }) (freshState (editionOf t) n) = fresh-begins t n (a .answer) in
+    subst (λ b. Holds (record { register = b }) (freshState (editionOf t) n)) (sym bytes)
+    (subst (Holds (record { register = withNumbers (freshCall t n .1) b₀ })) (state-is r)
+    (table-put (freshCall t n .1) b₀ (own-sound r) (a .left (table-whole b₀ (enough (a .long)))) (enough (a .long))))
   where
     t : List ℤ
     t = tableIn b₀

@@ -13,100 +13,101 @@ use Rattle.daybook.specs.declared.TransferRequest.{TransferRequest}
 use Rattle.daybook.specs.declared.Withdrawal.{Withdrawal}
 use Rattle.daybook.specs.declared.AccountQuery.{AccountQuery}
 use Rattle.daybook.specs.declared.AllocationQuery.{AllocationQuery}
-use Rattle.daybook.specs.Calls.{Call, fresh!, open!, energy!, status!, request!, withdraw!, account!, allocate!, State, Answer, step}
-use Rattle.opening.specs.Opening.{freshCall, openCall}
-use Rattle.energy.specs.Energy.{energyCall}
-use Rattle.status.specs.Status.{statusCall}
-use Rattle.transfer.specs.Transfer.{requestCall, withdrawCall}
-use Rattle.account.specs.Account.{accountCall}
-use Rattle.allocate.specs.Allocate.{allocateCall}
-use Rattle.buffers.specs.Buffers.{tableIn, holidaysIn, replied, written}
+use Rattle.daybook.specs.Notices.{Numbers}
+use Rattle.daybook.specs.Calls.{Notice, fresh!, open!, energy!, status!, request!, withdraw!, Query, account!, allocate!, Call, notice!, query!, State, Answer, step}
+use Rattle.history.specs.Runs.{Lent, noticeCall, queryCall}
+use Rattle.buffers.specs.Buffers.{tableIn, holidaysIn, written}
 
--- The exported functions that take a register, each with its numbers. A request lends the bytes of its holidays, an
--- allocation those of its answer table.
+-- The exported functions that take a register, each with its numbers: those that may change it, and those that only read.
+pub data HubNotice : Type 0 where
+  petlumas-fresh : Ranges → HubNotice
+  petlumas-open : Opening → HubNotice
+  petlumas-energy : EnergyNotice → HubNotice
+  petlumas-status : StatusNotice → HubNotice
+  petlumas-request : TransferRequest → HubNotice
+  petlumas-withdraw : Withdrawal → HubNotice
+
+pub data HubQuery : Type 0 where
+  petlumas-account : AccountQuery → HubQuery
+  petlumas-allocate : AllocationQuery → HubQuery
+
 pub data HubCall : Type 0 where
-  petlumas-fresh : Ranges → HubCall
-  petlumas-open : Opening → HubCall
-  petlumas-energy : EnergyNotice → HubCall
-  petlumas-status : StatusNotice → HubCall
-  petlumas-request : TransferRequest → List ℕ → HubCall
-  petlumas-withdraw : Withdrawal → HubCall
-  petlumas-account : AccountQuery → HubCall
-  petlumas-allocate : AllocationQuery → List ℕ → HubCall
+  hub-notice : HubNotice → HubCall
+  hub-query : HubQuery → HubCall
 
--- A call, and the bytes of the answer buffer that it lends.
+-- A call, and the bytes that it lends beside the register: its second buffer, a request's holidays or an allocation's
+-- answer table (no other call has one: its bytes do not matter and stay), and its answer buffer.
 pub record LentCall : Type 0 where
   pub call : HubCall
+  pub second : List ℕ
   pub answer : List ℕ
-
--- The bytes that a call lends beside the register and the answer buffer.
-unfoldable pub secondBuffer : HubCall → List ℕ
-secondBuffer (petlumas-fresh n) = []
-secondBuffer (petlumas-open n) = []
-secondBuffer (petlumas-energy n) = []
-secondBuffer (petlumas-status n) = []
-secondBuffer (petlumas-request n holidays) = holidays
-secondBuffer (petlumas-withdraw n) = []
-secondBuffer (petlumas-account n) = []
-secondBuffer (petlumas-allocate n shares) = shares
 
 -- What a call returns, and the bytes that it leaves of its second buffer and of its answer buffer.
 abbrev pub Reply : Type 0
 Reply = ℤ × (List ℕ × List ℕ)
 
+-- ---- the calls, by the bytes that they lend
+
+-- A request's holidays are those that its bytes spell.
+unfoldable pub noticeIn : HubNotice → List ℕ → Notice
+noticeIn (petlumas-fresh n) second = fresh! n
+noticeIn (petlumas-open n) second = open! n
+noticeIn (petlumas-energy n) second = energy! n
+noticeIn (petlumas-status n) second = status! n
+noticeIn (petlumas-request n) second = request! n (holidaysIn second)
+noticeIn (petlumas-withdraw n) second = withdraw! n
+
+-- An answer table has 8 bytes a number.
+unfoldable pub queryIn : HubQuery → List ℕ → Query
+queryIn (petlumas-account n) second = account! n
+queryIn (petlumas-allocate n) second = allocate! n (length second / 8)
+
+abbrev pub callIn : HubCall → List ℕ → Call
+callIn (hub-notice c) second = notice! (noticeIn c second)
+callIn (hub-query q) second = query! (queryIn q second)
+
 -- ---- on bytes
 
--- The reply to a call that writes the register and leaves its second buffer, and the register's bytes.
-abbrev pub registerWritten : List ℕ → ℤ × (List ℕ × List ℕ) → Reply × List ℕ
-registerWritten second w = ((w .0, (second, w .1 .1)), w .1 .0)
+-- What is lent from call to call.
+pub record LentBytes : Type 0 where
+  pub register : List ℕ
 
--- The reply to a call with this answer buffer, and what it leaves of the register's bytes b: the very definitions that
--- the hub's contracts equate the code with. The two queries only read the register.
-unfoldable pub byteStep : HubCall → List ℕ → List ℕ → Reply × List ℕ
-byteStep (petlumas-fresh n) answer b = registerWritten [] (written (freshCall (tableIn b) n) b answer)
-byteStep (petlumas-open n) answer b = registerWritten [] (written (openCall (tableIn b) n) b answer)
-byteStep (petlumas-energy n) answer b = registerWritten [] (written (energyCall (tableIn b) n) b answer)
-byteStep (petlumas-status n) answer b = registerWritten [] (written (statusCall (tableIn b) n) b answer)
-byteStep (petlumas-request n holidays) answer b =
-    registerWritten holidays (written (requestCall (tableIn b) n (holidaysIn holidays)) b answer)
-byteStep (petlumas-withdraw n) answer b = registerWritten [] (written (withdrawCall (tableIn b) n) b answer)
-byteStep (petlumas-account n) answer b =
-    let r : ℤ × List ℕ = replied (accountCall (tableIn b) n) answer in ((r .0, ([], r .1)), b)
-byteStep (petlumas-allocate n shares) answer b =
-    (written (allocateCall (tableIn b) n (length shares / 8)) shares answer, b)
+-- The same as tables.
+abbrev pub lentIn : LentBytes → Lent
+lentIn L = record { table = tableIn (L .register) }
 
--- The register's bytes that a list of calls leaves, and the replies.
-unfoldable pub byteRun : List LentCall → List ℕ → List ℕ
-byteRun [] b = b
-byteRun (h ∷ hs) b = byteRun hs (byteStep (h .call) (h .answer) b .1)
+-- The reply to a call, and what it leaves of what it is lent: the definitions that the hub's contracts equate the code
+-- with. A notice writes the register and leaves its second buffer; a query only reads the register. (An account has no
+-- numbers for a second buffer: `written` with none of them leaves that, and is `replied`.)
+unfoldable pub byteStep : HubCall → List ℕ → List ℕ → LentBytes → Reply × LentBytes
+byteStep (hub-notice c) second answer L =
+    let w : ℤ × (List ℕ × List ℕ) = written (noticeCall (noticeIn c second) (tableIn (L .register))) (L .register) answer in
+    ((w .0, (second, w .1 .1)), record { register = w .1 .0 })
+byteStep (hub-query q) second answer L = (written (queryCall (queryIn q second) (tableIn (L .register))) second answer, L)
 
-unfoldable pub replies : List LentCall → List ℕ → List Reply
-replies [] b = []
-replies (h ∷ hs) b = let r : Reply × List ℕ = byteStep (h .call) (h .answer) b in r .0 ∷ replies hs (r .1)
+-- What a list of calls leaves of what is lent, and the replies.
+unfoldable pub byteRun : List LentCall → LentBytes → LentBytes
+byteRun [] L = L
+byteRun (h ∷ hs) L = byteRun hs (byteStep (h .call) (h .second) (h .answer) L .1)
+
+unfoldable pub replies : List LentCall → LentBytes → List Reply
+replies [] L = []
+replies (h ∷ hs) L =
+    let r : Reply × LentBytes = byteStep (h .call) (h .second) (h .answer) L in r .0 ∷ replies hs (r .1)
 
 -- ---- in the day book, by its own answers alone
 
--- The book's call: a request's holidays are those that its bytes spell, and an answer table has 8 bytes a number.
-unfoldable pub callIn : HubCall → Call
-callIn (petlumas-fresh n) = fresh! n
-callIn (petlumas-open n) = open! n
-callIn (petlumas-energy n) = energy! n
-callIn (petlumas-status n) = status! n
-callIn (petlumas-request n holidays) = request! n (holidaysIn holidays)
-callIn (petlumas-withdraw n) = withdraw! n
-callIn (petlumas-account n) = account! n
-callIn (petlumas-allocate n shares) = allocate! n (length shares / 8)
-
 -- An answer buffer that is too short for the book's answer, 8 bytes a number, leaves the book as it was.
-unfoldable pub bookStep : HubCall → List ℕ → State → Reply × State
-bookStep h answer S =
-    let r : Answer × State = step (callIn h) S in
-    (written (r .0) (secondBuffer h) answer, cond (leb (8 * length (r .0 .0)) (length answer)) (r .1) S)
+unfoldable pub bookStep : HubCall → List ℕ → List ℕ → State → Reply × State
+bookStep h second answer S =
+    let r : Answer × State = step (callIn h second) S in
+    (written (r .0) second answer, cond (leb (8 * length (r .0 .0)) (length answer)) (r .1) S)
 
 unfoldable pub bookRun : List LentCall → State → State
 bookRun [] S = S
-bookRun (h ∷ hs) S = bookRun hs (bookStep (h .call) (h .answer) S .1)
+bookRun (h ∷ hs) S = bookRun hs (bookStep (h .call) (h .second) (h .answer) S .1)
 
 unfoldable pub bookReplies : List LentCall → State → List Reply
 bookReplies [] S = []
-bookReplies (h ∷ hs) S = let r : Reply × State = bookStep (h .call) (h .answer) S in r .0 ∷ bookReplies hs (r .1)
+bookReplies (h ∷ hs) S =
+    let r : Reply × State = bookStep (h .call) (h .second) (h .answer) S in r .0 ∷ bookReplies hs (r .1)

@@ -4,15 +4,17 @@ use mathlib.Core.List.{List}
 use Prim.Native.Nat.{ℕ}
 use lib.IntN.{pos}
 use Rattle.daybook.specs.declared.Ranges.{Ranges}
+use Rattle.daybook.specs.Calls.{State}
+use Rattle.layout.specs.Layout.{editionOf}
 use Rattle.history.specs.Runs.{freshState}
 use Rattle.history.specs.Agreement.{Agrees}
 use Rattle.buffers.specs.Buffers.{tableIn}
-use Rattle.bytelists.specs.ByteLists.{LentCall, petlumas-fresh, byteStep, byteRun, replies, bookRun, bookReplies}
+use Rattle.bytelists.specs.ByteLists.{petlumas-fresh, hub-notice, LentCall, LentBytes, lentIn, byteStep, byteRun, replies, bookRun, bookReplies}
 
 -- Lend any bytes b₀ and any answer buffer to petlumas_fresh, with any two ranges n. If it returns 0, then lend the
--- bytes that it left, b, to any calls of the hub, one after the other, with any numbers and with buffers of any bytes.
--- Of the table in the register's bytes after the last call and the day book given the same calls all that `Agrees` says
--- holds.
+-- bytes that it left to any calls of the hub, one after the other, with any numbers and with buffers of any bytes.
+-- Of the table in the register's bytes after the last call and the state of the day book given the same calls all that
+-- `Agrees` says holds.
 -- Each call returns what the book's answer begins with, and leaves the bytes of the book's numbers in its answer buffer
 -- and, for an allocation, in its answer table; the book decides a request by the holidays that its bytes spell. A call
 -- whose answer buffer is too short for the book's answer returns 2, and leaves the book and its buffers as they were.
@@ -23,6 +25,9 @@ use Rattle.bytelists.specs.ByteLists.{LentCall, petlumas-fresh, byteStep
 -- borrows its holidays, an account and an allocation the register, without changing them.
 abbrev pub EveryHubList : Type 0
 EveryHubList =
-    (b₀ answer : List ℕ) (n : Ranges) → byteStep (petlumas-fresh n) answer b₀ .0 .0 ≡ pos 0 → (hs : List LentCall)
-    → let b : List ℕ = byteStep (petlumas-fresh n) answer b₀ .1 in
-    Agrees (tableIn (byteRun hs b)) (bookRun hs (freshState n) .book) × (replies hs b ≡ bookReplies hs (freshState n))
+    (b₀ second answer : List ℕ) (n : Ranges)
+    → byteStep (hub-notice (petlumas-fresh n)) second answer (record { register = b₀ }) .0 .0 ≡ pos 0
+    → (hs : List LentCall)
+    → let L : LentBytes = byteStep (hub-notice (petlumas-fresh n)) second answer (record { register = b₀ }) .1 in
+    let S : State = freshState (editionOf (tableIn b₀)) n in
+    Agrees (lentIn (byteRun hs L)) (bookRun hs S) × (replies hs L ≡ bookReplies hs S)

@@ -3,7 +3,7 @@ use mathlib.Core.Path.{_≡_, refl, ap}
 use mathlib.Core.List.{_++_}
 use lib.ListN.{take, drop}
 use Rattle.calendar.specs.Calendar.{dateCall, isDate, dayOf, newYear, daysBefore}
-use Rattle.daybook.specs.Book.{standard}
+use Rattle.layout.specs.Layout.{standard}
 use Rattle.cases.specs.Journal.{answersFrom, answersOf}
 use Rattle.cases.specs.Marked.{Marked, story, accountsAnswers, recutAnswers}
 

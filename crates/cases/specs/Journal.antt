@@ -11,36 +11,37 @@ use Rattle.daybook.specs.declared.Edition.{Edition}
 use Rattle.daybook.specs.Book.{fromOn, fill, withEntries, withOff, withFro, withPending, lastOf, gather, recordAt, records, begins, registrationAt, registrations, latest, spanAt, spans, lastFilled, appendDay, dayShare}
 use Rattle.daybook.specs.Notices.{least, Numbers, decide, find, put, withPoint, onPoint, freshRows, fresh, factsOf, opened, openingRows, opening, which, entryOf, energyEarly, offWithin, energyRows, laterStarts, entered, enter, energyRowsAt, energy, statusEarly, statusRows, switched, status, requestEarly, requestRows, request, withdrawEarly, withdrawRows, withdraw}
 use Rattle.daybook.specs.Queries.{sumOf, ownShare, accountOf, accountRows, account, someFilled, allFilled, dailyGas, meteredOf, tdmOf, nslOf, weight, weights, total, split, pointShares, totalOf, allocateRows, allocate}
-use Rattle.daybook.specs.Calls.{Call, fresh!, open!, energy!, status!, request!, withdraw!, account!, allocate!, State, Answer, step, answers}
+use Rattle.daybook.specs.Calls.{fresh!, open!, energy!, status!, request!, withdraw!, account!, allocate!, Call, notice!, query!, Answer, noted, given, State, step, answers}
 
 abbrev pub Fresh : ℤ → ℤ → Call
-Fresh r s = fresh! (record { nondaily = r; daily = s })
+Fresh r s = notice! (fresh! (record { nondaily = r; daily = s }))
 
 abbrev pub Open : ℕ → ℕ → ℕ → ℕ → ℤ → Call
-Open m k u i b = open! (record { mirn = pos m; kind = pos k; user = pos u; install = pos i; base = b })
+Open m k u i b = notice! (open! (record { mirn = pos m; kind = pos k; user = pos u; install = pos i; base = b }))
 
 -- an actual reading, not confirmed
 abbrev pub Energy : ℕ → ℕ → ℕ → ℤ → Call
 Energy m s e x =
-    energy! (record { mirn = pos m; start = pos s; end = pos e; energy = x; «type_» = pos 0; confirmed = pos 0 })
+    notice! (energy! (record { mirn = pos m; start = pos s; end = pos e; energy = x; «type_» = pos 0; confirmed = pos 0 }))
 
 abbrev pub Status : ℕ → ℕ → ℕ → Call
-Status m d on = status! (record { mirn = pos m; day = pos d; on = pos on })
+Status m d on = notice! (status! (record { mirn = pos m; day = pos d; on = pos on }))
 
 -- without a no-change statement; an empty list means weekends only
 abbrev pub Request : ℕ → ℕ → ℕ → List ℤ → Call
-Request m u d holidays = request! (record { mirn = pos m; user = pos u; proposed = pos d; nochange = pos 0 }) holidays
+Request m u d holidays =
+    notice! (request! (record { mirn = pos m; user = pos u; proposed = pos d; nochange = pos 0 }) holidays)
 
 abbrev pub Withdraw : ℕ → ℕ → Call
-Withdraw m u = withdraw! (record { mirn = pos m; user = pos u })
+Withdraw m u = notice! (withdraw! (record { mirn = pos m; user = pos u }))
 
 abbrev pub Account : ℕ → ℕ → ℕ → Call
-Account u a b = account! (record { user = pos u; from = pos a; to = pos b })
+Account u a b = query! (account! (record { user = pos u; from = pos a; to = pos b }))
 
 -- with no unaccounted gas or linepack change, and an answer table of 32 numbers
 abbrev pub Allocate : ℕ → ℕ → ℕ → ℕ → Call
 Allocate g a b tdq =
-    allocate! (record { gasday = pos g; from = pos a; to = pos b; tdq = pos tdq; uag = pos 0; clp = pos 0 }) 32
+    query! (allocate! (record { gasday = pos g; from = pos a; to = pos b; tdq = pos tdq; uag = pos 0; clp = pos 0 }) 32)
 
 abbrev numbers : List Answer → List Numbers
 numbers [] = []
@@ -48,7 +49,7 @@ numbers (a ∷ l) = a .0 ∷ numbers l
 
 -- Each call's numbers, the refusal first. To unfold this definition is to unfold the whole day book.
 unfoldable pub answersFrom : State → List Call → List Numbers
-unfolding all firstFrom lastBelow sumFrom floorPart ceilPart partialEnergy share allowablePeriod businessDayBefore businessDayAfter listed holidayList fromOn fill withEntries withOff withFro withPending lastOf gather recordAt records begins registrationAt registrations latest spanAt spans lastFilled appendDay dayShare least decide find put withPoint onPoint freshRows fresh factsOf opened openingRows opening which entryOf energyEarly offWithin energyRows laterStarts entered enter energyRowsAt energy statusEarly statusRows switched status requestEarly requestRows request withdrawEarly withdrawRows withdraw sumOf ownShare accountOf accountRows account someFilled allFilled dailyGas meteredOf tdmOf nslOf weight weights total split pointShares totalOf allocateRows allocate step answers
+unfolding all firstFrom lastBelow sumFrom floorPart ceilPart partialEnergy share allowablePeriod businessDayBefore businessDayAfter listed holidayList fromOn fill withEntries withOff withFro withPending lastOf gather recordAt records begins registrationAt registrations latest spanAt spans lastFilled appendDay dayShare least decide find put withPoint onPoint freshRows fresh factsOf opened openingRows opening which entryOf energyEarly offWithin energyRows laterStarts entered enter energyRowsAt energy statusEarly statusRows switched status requestEarly requestRows request withdrawEarly withdrawRows withdraw sumOf ownShare accountOf accountRows account someFilled allFilled dailyGas meteredOf tdmOf nslOf weight weights total split pointShares totalOf allocateRows allocate noted given step answers
 answersFrom S calls = numbers (answers calls S)
 
 -- From nothing: what stands in the book before fresh does not matter.

@@ -7,7 +7,7 @@ use lib.IntN.{pos, negsuc}
 use lib.ListN.{take, drop}
 use Rattle.numbers.specs.Shares.{share}
 use Rattle.calendar.specs.Calendar.{dateCall, allowablePeriod}
-use Rattle.daybook.specs.Book.{standard}
+use Rattle.layout.specs.Layout.{standard}
 use Rattle.daybook.specs.Notices.{Numbers}
 use Rattle.daybook.specs.Queries.{split}
 use Rattle.daybook.specs.Calls.{Call}

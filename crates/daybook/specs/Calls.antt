@@ -13,7 +13,7 @@ use Rattle.daybook.specs.declared.Withdrawal.{Withdrawal}
 use Rattle.daybook.specs.declared.AccountQuery.{AccountQuery}
 use Rattle.daybook.specs.declared.AllocationQuery.{AllocationQuery}
 use Rattle.daybook.specs.declared.NoticeAnswer.{NoticeAnswer}
-use Rattle.daybook.specs.declared.NoticeAnswer.the-variants as Notice
+use Rattle.daybook.specs.declared.NoticeAnswer.the-variants as Notice·
 use Rattle.daybook.specs.declared.EnergyAnswer.{EnergyAnswer}
 use Rattle.daybook.specs.declared.EnergyAnswer.the-variants as Energy
 use Rattle.daybook.specs.declared.RequestAnswer.{RequestAnswer}
@@ -29,8 +29,8 @@ use Rattle.daybook.specs.Queries.{account, allocate}
 -- ---- the numbers of an answer: the refusal first, then the fields, every one 0 on a refusal
 
 abbrev pub noticeNumbers : NoticeAnswer → Numbers
-noticeNumbers Notice.Entered = pos 0 ∷ []
-noticeNumbers (Notice.Refused r) = pos r ∷ []
+noticeNumbers Notice·.Entered = pos 0 ∷ []
+noticeNumbers (Notice·.Refused r) = pos r ∷ []
 
 abbrev pub energyNumbers : EnergyAnswer → Numbers
 energyNumbers (Energy.Entered which removed user lapsed) = pos 0 ∷ pos which ∷ pos removed ∷ pos user ∷ pos lapsed ∷ []
@@ -51,8 +51,8 @@ allocationNumbers a = pos (a .refusal) ∷ a .nsl ∷ a .totals
 -- contract says this too
 
 abbrev pub noticeRefused : NoticeAnswer → Bool
-noticeRefused Notice.Entered = false
-noticeRefused (Notice.Refused r) = true
+noticeRefused Notice·.Entered = false
+noticeRefused (Notice·.Refused r) = true
 
 abbrev pub energyRefused : EnergyAnswer → Bool
 energyRefused (Energy.Entered which removed user lapsed) = false
@@ -66,39 +66,55 @@ abbrev pub accountRefused : AccountAnswer → Bool
 accountRefused (Account.Given sum) = false
 accountRefused (Account.Refused r) = true
 
--- ---- lists of calls
+-- ---- calls
 
--- A call's numbers, with the holidays that a request lends and the length of the answer table that an allocation lends.
+-- A call that may change the book: its numbers, and the holidays that a request lends.
+pub data Notice : Type 0 where
+  fresh! : Ranges → Notice
+  open! : Opening → Notice
+  energy! : EnergyNotice → Notice
+  status! : StatusNotice → Notice
+  request! : TransferRequest → List ℤ → Notice
+  withdraw! : Withdrawal → Notice
+
+-- A call that only reads: its numbers, and the length of the answer table that an allocation lends.
+pub data Query : Type 0 where
+  account! : AccountQuery → Query
+  allocate! : AllocationQuery → ℕ → Query
+
 pub data Call : Type 0 where
-  fresh! : Ranges → Call
-  open! : Opening → Call
-  energy! : EnergyNotice → Call
-  status! : StatusNotice → Call
-  request! : TransferRequest → List ℤ → Call
-  withdraw! : Withdrawal → Call
-  account! : AccountQuery → Call
-  allocate! : AllocationQuery → ℕ → Call
-
-pub record State : Type 0 where
-  pub edition : Edition
-  pub book : Book
+  notice! : Notice → Call
+  query! : Query → Call
 
 -- An answer's numbers, and those for the first places of the answer table.
 abbrev pub Answer : Type 0
 Answer = Numbers × List ℤ
 
-abbrev answerAndState : State → Numbers × Book → Answer × State
-answerAndState S w = ((w .0, []), record { edition = S .edition; book = w .1 })
+-- What a notice answers and leaves of the book, in an edition of the table.
+unfoldable pub noted : Notice → Edition → Book → Numbers × Book
+noted (fresh! n) ed B = fresh n B
+noted (open! n) ed B = opening ed n B
+noted (energy! n) ed B = energy ed n B
+noted (status! n) ed B = status n B
+noted (request! n holidays) ed B = request n holidays B
+noted (withdraw! n) ed B = withdraw n B
+
+-- What the book answers to a query.
+unfoldable pub given : Query → Book → Answer
+given (account! n) B = (account n B, [])
+given (allocate! n room) B = allocate n room B
+
+-- ---- lists of calls, from state to state
+
+pub record State : Type 0 where
+  pub edition : Edition
+  pub book : Book
 
 unfoldable pub step : Call → State → Answer × State
-step (fresh! n) S = answerAndState S (fresh n (S .book))
-step (open! n) S = answerAndState S (opening (S .edition) n (S .book))
-step (energy! n) S = answerAndState S (energy (S .edition) n (S .book))
-step (status! n) S = answerAndState S (status n (S .book))
-step (request! n holidays) S = answerAndState S (request n holidays (S .book))
-step (withdraw! n) S = answerAndState S (withdraw n (S .book))
-step (account! n) S = ((account n (S .book), []), S)
-step (allocate! n room) S = (allocate n room (S .book), S)
+step (notice! c) S =
+    let w : Numbers × Book = noted c (S .edition) (S .book) in
+    ((w .0, []), record { edition = S .edition; book = w .1 })
+step (query! q) S = (given q (S .book), S)
 
 -- What a list of calls leaves, and what it answers.
 unfoldable pub run : List Call → State → State

@@ -23,6 +23,10 @@ use Rattle.daybook.specs.Book.{Entry, Pending, Facts, Point, Book, fromO
 abbrev pub Row : Type 0
 Row = ℕ × Bool
 
+-- The highest number of a row.
+abbrev pub highestRefusal : ℕ
+highestRefusal = 16
+
 -- The lowest number of a row that applies; 0 if none does.
 abbrev pub smaller : ℕ → ℕ → ℕ
 smaller n zero = n

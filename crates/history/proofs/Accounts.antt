@@ -14,7 +14,8 @@ use Rattle.numbers.specs.Sums.{sumFrom, sumOver}
 use Rattle.numbers.proofs.Bools.{cond-same}
 use Rattle.numbers.proofs.Integers.{add-swap}
 use Rattle.numbers.proofs.Sums.{sum-same, sum-zero, sum-plus, sum-swap, sum-over-split}
-use Rattle.daybook.specs.Book.{Entry, Point, Book, filled, dayShare, standard}
+use Rattle.daybook.specs.declared.Edition.{Edition}
+use Rattle.daybook.specs.Book.{Entry, Point, Book, filled, dayShare}
 use Rattle.daybook.specs.Queries.{sumOf, ownShare, accountOf}
 use Rattle.lists.specs.Lists.{Lists, Register, entryOn, pointOf, bookOf}
 use Rattle.lists.specs.InnerWell.{Well, Points, nopoint, point, WellFormed}
@@ -96,7 +97,7 @@ module _ {room : ℕ} {q : Lists} (ok : Well room q) where
   point-adds-up a c =
       sum-swap (λ u. ownShare u (pointOf q)) 1 16 a (suc c - a) ∙ sum-same _ _ a (suc c - a) (λ d i j. counted-once (share-owned d))
 
-pub accounts-add-up : {R : Register} → WellFormed standard R → (a c : ℕ)
+pub accounts-add-up : {ed : Edition} {R : Register} → WellFormed ed R → (a c : ℕ)
     → sumFrom (λ u. accountOf u a c (bookOf R)) 1 16 ≡ sumOf (λ p. sumOver (dayShare p) a c) (bookOf R .points)
 unfolding accountOf bookOf sumOf
 accounts-add-up ok a c = go (ok .pointsOk)

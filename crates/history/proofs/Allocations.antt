@@ -17,13 +17,15 @@ use Rattle.numbers.proofs.Bools.{both}
 use Rattle.numbers.proofs.Sums.{sum-zero, sum-plus, sum-shift, telescope}
 use Rattle.numbers.proofs.Floor.{floor-all, floor-none}
 use Rattle.daybook.specs.declared.AllocationQuery.{AllocationQuery}
-use Rattle.daybook.specs.Book.{Point, Book, standard}
+use Rattle.daybook.specs.declared.Edition.{Edition}
+use Rattle.daybook.specs.Book.{Point, Book}
 use Rattle.daybook.specs.Notices.{Numbers, least, decide}
 use Rattle.daybook.specs.Queries.{sumOf, active, nslOf, weight, weights, total, split, pointShares, totalOf, users, allocateRows, allocate}
 use Rattle.lists.specs.Lists.{Lists, Register, pointOf, bookOf}
 use Rattle.lists.specs.InnerWell.{Well, Points, nopoint, point, WellFormed}
 use Rattle.lists.proofs.Splits.{split-length}
 use Rattle.lists.proofs.Rows.{least-none}
+use Rattle.layout.specs.Layout.{Fits}
 use Rattle.history.specs.Agreement.{loadIn, totalsIn, added}
 use Rattle.history.proofs.Accounts.{Owned, nothing, owned, counted-once, installed-user}
 
@@ -129,7 +131,7 @@ module _ (n : AllocationQuery) (room : ℕ) (B : Book) (h : refused (allocate n 
   unfolding pointShares
   shares-load = split-whole (nslOf n B) (weights n B) some-weight
 
-module _ {R : Register} (ok : WellFormed standard R) (n : AllocationQuery) (room : ℕ)
+module _ {ed : Edition} (fits : Fits ed) {R : Register} (ok : WellFormed ed R) (n : AllocationQuery) (room : ℕ)
     (h : refused (allocate n room (bookOf R) .0) ≡ false)
   where
     pub totals-add-up : added (totalsIn (allocate n room (bookOf R) .0)) ≡ loadIn (allocate n room (bookOf R) .0)
@@ -146,4 +148,4 @@ module _ {R : Register} (ok : WellFormed standard R) (n : AllocationQuery) (room
     pub shares-32 : length (allocate n room (bookOf R) .1) ≡ 32
     unfolding allocate decide bookOf weights pointShares
     shares-32 =
-        rw (no-row n room (bookOf R) h) (simp (length-append, split-length, length-map, length-replicate) (omega (arith, ok .pointsFew)))
+        rw (no-row n room (bookOf R) h) (simp (length-append, split-length, length-map, length-replicate) (omega (arith, ok .pointsFew, fits .few)))

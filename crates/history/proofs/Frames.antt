@@ -15,33 +15,39 @@ use Rattle.numbers.specs.Search.{maybe}
 use Rattle.numbers.specs.Answers.{refused}
 use Rattle.numbers.proofs.Bools.{neither}
 use Rattle.numbers.proofs.Search.{from-bound}
+use Rattle.daybook.specs.declared.Edition.{Edition}
 use Rattle.daybook.specs.declared.Opening.{Opening}
-use Rattle.daybook.specs.Book.{Book, Facts, standard}
+use Rattle.daybook.specs.Book.{Facts}
 use Rattle.daybook.specs.Notices.{Row, Numbers, factsOf}
+use Rattle.daybook.specs.Calls.{Notice, fresh!, open!, energy!, status!, request!, withdraw! }
 use Rattle.lists.specs.Lists.{Lists, Register}
-use Rattle.lists.specs.InnerSteps.{findLists, putLists, withLists, onLists, openedLists, openingLists, energyLists, statusLists, requestLists, withdrawLists}
+use Rattle.lists.specs.InnerSteps.{findLists, putLists, withLists, onLists, openedLists, openingLists, energyLists, statusLists, requestLists, withdrawLists, listed}
 use Rattle.lists.specs.InnerWell.{Points, WellFormed}
 use Rattle.lists.proofs.Rows.{decide-keeps}
-use Rattle.layout.specs.Layout.{tableLength, placeOf, partOf, pointNumbers, layout, numAt, registerOf, tableBook}
+use Rattle.lists.proofs.Notices.{notice-step, notice-keeps}
+use Rattle.layout.specs.Layout.{tableLength, stride, placeOf, editionOf, partOf, pointNumbers, layout, numAt, registerOf, tableBook}
 use Rattle.layout.specs.InnerWrites.{withPart, appendRegistration, openPoint, appendPoint}
 use Rattle.layout.specs.Sound.{sound}
-use Rattle.layout.specs.Calls.{answerAndTable, onTable}
+use Rattle.layout.specs.Calls.{answerAndTable, onEdition}
 use Rattle.layout.proofs.Numbers.{Few, few, length-point}
 use Rattle.layout.proofs.Parts.{part-ends, with-part-length, with-part-front, with-part-past}
 use Rattle.layout.proofs.PartBlocks.{snoc-length}
 use Rattle.layout.proofs.PointParts.{all-few-of, withPoints, table-split}
 use Rattle.layout.proofs.NewPoint.{freshPoint, append-point}
-use Rattle.layout.proofs.TableSound.{points-count, sound-lays, standard-fits}
+use Rattle.layout.proofs.TableSound.{points-count, sound-lays}
+use Rattle.layout.proofs.Editions.{edition-fits}
+use Rattle.layout.proofs.SoundParts.{part-length}
 use Rattle.table.specs.Lookup.{indexOf}
-use Rattle.table.proofs.Laws.{sound-long, mirnAt, part-is, part-long}
+use Rattle.table.proofs.Laws.{sound-long, mirnAt}
 use Rattle.table.proofs.Found.{found, missing}
-use Rattle.table.proofs.Calls.{call-unsound, leaves-is}
+use Rattle.table.proofs.Calls.{leaves-is}
 use Rattle.opening.specs.Opening.{openCall}
 use Rattle.energy.specs.Energy.{energyCall}
 use Rattle.status.specs.Status.{statusCall}
 use Rattle.transfer.specs.Transfer.{requestCall, withdrawCall}
 use Rattle.history.specs.Frame.{inPart, ofPoint, ofNewPoint, Framed, Frames}
-use Rattle.history.proofs.Steps.{Notice, open-notice, energy-notice, status-notice, request-notice, withdraw-notice, on-sound}
+use Rattle.history.specs.Runs.{noticeCall}
+use Rattle.history.proofs.Steps.{notice-is}
 use Rattle.history.proofs.Points.{first-well, others}
 
 -- ---- another part in a table
@@ -49,30 +55,30 @@ use Rattle.history.proofs.Points.{first-well, others}
 unchanged : (own : ℕ → Bool) (t : List ℤ) → Framed own t t
 unchanged own t = record { sameLength = refl; outside = λ k h. refl }
 
-module _ (t : List ℤ) (i : ℕ) (p : List ℤ) (e : length p ≡ 240) (h : placeOf standard i + 240 ≤ length t) where
+module _ (ed : Edition) (t : List ℤ) (i : ℕ) (p : List ℤ) (e : length p ≡ stride ed) (h : placeOf ed i + stride ed ≤ length t) where
   abbrev past : ℕ
-  past = placeOf standard i + 240
+  past = placeOf ed i + stride ed
 
-  at : (k : ℕ) (a : Bool) → leb (placeOf standard i) k ≡ a → (b : Bool) → ltb k past ≡ b → (a && b) ≡ false
-      → getD (withPart standard t i p) k (pos 0) ≡ getD t k (pos 0)
+  at : (k : ℕ) (a : Bool) → leb (placeOf ed i) k ≡ a → (b : Bool) → ltb k past ≡ b → (a && b) ≡ false
+      → getD (withPart ed t i p) k (pos 0) ≡ getD t k (pos 0)
   at k false l b r o =
-      let before : k < placeOf standard i = leb-false (placeOf standard i) k l in
-      sym (getD-take (placeOf standard i) (withPart standard t i p) k (pos 0) before)
-      ∙ ap (λ u. getD u k (pos 0)) (with-part-front standard t i p e h (placeOf standard i) (omega arith))
-      ∙ getD-take (placeOf standard i) t k (pos 0) before
+      let before : k < placeOf ed i = leb-false (placeOf ed i) k l in
+      sym (getD-take (placeOf ed i) (withPart ed t i p) k (pos 0) before)
+      ∙ ap (λ u. getD u k (pos 0)) (with-part-front ed t i p e h (placeOf ed i) (omega arith))
+      ∙ getD-take (placeOf ed i) t k (pos 0) before
   at k true l false r o =
       let z : past + (k - past) ≡ k = omega (arith, ltb-false k past r) in
-      subst (λ k. getD (withPart standard t i p) k (pos 0) ≡ getD t k (pos 0)) z
-      (sym (getD-drop past (withPart standard t i p) (k - past) (pos 0))
-      ∙ ap (λ u. getD u (k - past) (pos 0)) (with-part-past standard t i p e h past (omega arith))
+      subst (λ k. getD (withPart ed t i p) k (pos 0) ≡ getD t k (pos 0)) z
+      (sym (getD-drop past (withPart ed t i p) (k - past) (pos 0))
+      ∙ ap (λ u. getD u (k - past) (pos 0)) (with-part-past ed t i p e h past (omega arith))
       ∙ getD-drop past t (k - past) (pos 0))
   at k true l true r o = absurd (false≢true (sym o))
 
-  part-framed : Framed (inPart i) t (withPart standard t i p)
+  part-framed : Framed (inPart ed i) t (withPart ed t i p)
   part-framed =
       record {
-        sameLength = with-part-length standard t i p e h;
-        outside = λ k. at k (leb (placeOf standard i) k) refl (ltb k past) refl;
+        sameLength = with-part-length ed t i p e h;
+        outside = λ k. at k (leb (placeOf ed i) k) refl (ltb k past) refl;
       }
 
 -- lists put in the place of a point's fit its part, where the points are well-formed with them
@@ -89,45 +95,48 @@ put-few {room} m q q′ (x ∷ xs) f r = go (eqb m (x .facts .mirn)) f r (put-fe
 
 -- ---- a sound table, with the register after the call laid over it
 
-module _ (t : List ℤ) (s : sound standard t ≡ true) where
-  abbrev R : Register
-  R = registerOf standard t
+module _ (t : List ℤ) (s : sound (editionOf t) t ≡ true) where
+  abbrev ed : Edition
+  ed = editionOf t
 
-  ok : WellFormed standard R
-  ok = sound-lays standard standard-fits t s .0
+  abbrev R : Register
+  R = registerOf ed t
+
+  ok : WellFormed ed R
+  ok = sound-lays ed (edition-fits t) t s .0
 
   abbrev laid : Register → List ℤ
-  laid R′ = layout standard R′ ++ drop tableLength t
+  laid R′ = layout ed R′ ++ drop tableLength t
 
   as-found : t ≡ laid R
-  as-found = table-split standard R t (sym (sound-lays standard standard-fits t s .1))
+  as-found = table-split ed R t (sym (sound-lays ed (edition-fits t) t s .1))
 
   -- What is to be shown of the register that a call leaves.
   abbrev Kept : (ℕ → Bool) → Register → Type 0
-  Kept own R′ = WellFormed standard R′ → Framed own t (laid R′)
+  Kept own R′ = WellFormed ed R′ → Framed own t (laid R′)
 
   as-is : (own : ℕ → Bool) → Kept own R
   as-is own w = subst (Framed own t) as-found (unchanged own t)
 
-  ends : (i : ℕ) → i < 32 → placeOf standard i + 240 ≤ length t
-  ends i h = omega (arith, part-ends standard i standard-fits h, sound-long t s .0)
+  ends : (i : ℕ) → i < ed .points → placeOf ed i + stride ed ≤ length t
+  ends i h = omega (arith, part-ends ed i (edition-fits t) h, sound-long ed t s .0)
 
   -- a call on the point of a MIRN
 
-  point-laid : (m : ℤ) (q q′ : Lists) → findLists (natOf m) (R .points) ≡ some q → Few 48 q′
+  point-laid : (m : ℤ) (q q′ : Lists) → findLists (natOf m) (R .points) ≡ some q → Few (ed .records) q′
       → Framed (ofPoint t m) t (laid (withLists (natOf m) q′ R))
-  point-laid m q q′ f g = go (indexOf standard t (natOf m)) refl
+  point-laid m q q′ f g = go (indexOf ed t (natOf m)) refl
     where
-      go : (o : Option ℕ) → indexOf standard t (natOf m) ≡ o
-          → Framed (λ k. maybe false (λ i. inPart i k) o) t (laid (withLists (natOf m) q′ R))
+      go : (o : Option ℕ) → indexOf ed t (natOf m) ≡ o
+          → Framed (λ k. maybe false (λ i. inPart ed i k) o) t (laid (withLists (natOf m) q′ R))
       go none e =
-          let h : findLists (natOf m) (R .points) ≡ none = missing standard standard-fits t s (natOf m) e in
+          let h : findLists (natOf m) (R .points) ≡ none = missing ed (edition-fits t) t s (natOf m) e in
           let z : _≡_ {A = ℕ} 0 1 = cc in
           absurd (omega arith)
       go (some i) e =
-          let low : i < 0 + numAt t 0 = unfold indexOf in from-bound (mirnAt t (natOf m)) 0 (numAt t 0) i e .1 in
-          subst (Framed (inPart i) t) (found standard standard-fits t s (natOf m) i e .put q′ g)
-          (part-framed t i (pointNumbers 48 q′) (length-point g) (ends i (omega (arith, low, sound-long t s .1))))
+          let low : i < 0 + numAt t 0 = unfold indexOf in from-bound (mirnAt ed t (natOf m)) 0 (numAt t 0) i e .1 in
+          subst (Framed (inPart ed i) t) (found ed (edition-fits t) t s (natOf m) i e .put q′ g)
+          (part-framed ed t i (pointNumbers (ed .records) q′) (length-point g) (ends i (omega (arith, low, sound-long ed t s .1))))
 
   on-lists : (k : ℕ) (m : ℤ) (early : List Row) (rows : Lists → List Row) (effect : Lists → Numbers × Lists)
       → Kept (ofPoint t m) (onLists k m early rows effect R .1)
@@ -145,24 +154,24 @@ module _ (t : List ℤ) (s : sound standard t ≡ true) where
 
   -- an opening
 
-  new-point : (c : ℕ) → c < 32 → (f : Facts) (u : ℕ)
-      → Framed (λ k. eqb k 0 || inPart c k) t (appendPoint standard t c f u)
+  new-point : (c : ℕ) → c < ed .points → (f : Facts) (u : ℕ)
+      → Framed (λ k. eqb k 0 || inPart ed c k) t (appendPoint ed t c f u)
   unfolding appendPoint openPoint appendRegistration
   new-point c h f u =
       record {
         sameLength = length-set v 0 (pos (c + 1)) ∙ w .sameLength;
         outside = λ k o.
-            let (other, out) = neither (eqb k 0) (inPart c k) o in
+            let (other, out) = neither (eqb k 0) (inPart ed c k) o in
             getD-set-other v 0 k (pos (c + 1)) (pos 0) (eqb-false k 0 other) ∙ w .outside k out;
       }
     where
       v : List ℤ
-      v = withPart standard t c (openPoint (partOf standard t c) f u)
+      v = withPart ed t c (openPoint (partOf ed t c) f u)
 
-      w : Framed (inPart c) t v
-      w = part-framed t c _ (simp length-set (ap length (sym (part-is t c)) ∙ part-long t c (ends c h))) (ends c h)
+      w : Framed (inPart ed c) t v
+      w = part-framed ed t c _ (simp length-set (part-length ed (edition-fits t) t c h (sound-long ed t s .0))) (ends c h)
 
-  on-opening : (n : Opening) → Kept (ofNewPoint t) (openingLists standard n R .1)
+  on-opening : (n : Opening) → Kept (ofNewPoint t) (openingLists ed n R .1)
   unfolding openingLists openedLists freshPoint factsOf withPoints
   on-opening n = decide-keeps 0 R _ (Kept (ofNewPoint t)) _ (as-is (ofNewPoint t)) (λ z. opened)
     where
@@ -171,47 +180,62 @@ module _ (t : List ℤ) (s : sound standard t ≡ true) where
 
       opened : Kept (ofNewPoint t) (withPoints (R .points ++ (openedLists n ∷ [])) R)
       opened w =
-          let h : length (R .points) < 32 = omega (arith, w .pointsFew, snoc-length (R .points) (openedLists n)) in
+          let h : length (R .points) < ed .points = omega (arith, w .pointsFew, snoc-length (R .points) (openedLists n)) in
           subst (Framed (ofNewPoint t) t)
-          (ap₂ (λ v c. appendPoint standard v c (factsOf n) u) as-found (sym (points-count standard t))
-          ∙ append-point standard R (drop tableLength t) (all-few-of (ok .pointsOk)) standard-fits h (factsOf n) u)
-          (new-point (numAt t 0) (omega (arith, h, points-count standard t)) (factsOf n) u)
+          (ap₂ (λ v c. appendPoint ed v c (factsOf n) u) as-found (sym (points-count ed t))
+          ∙ append-point ed R (drop tableLength t) (all-few-of (ok .pointsOk)) (edition-fits t) h (factsOf n) u)
+          (new-point (numAt t 0) (omega (arith, h, points-count ed t)) (factsOf n) u)
 
-  -- any call
+  -- any notice
 
-  notice-framed : {step : Book → Numbers × Book} {lists : Register → Numbers × Register} → Notice step lists
-      → (k : ℕ) (own : ℕ → Bool) → Kept own (lists R .1) → Framed own t (onTable k step standard t .1)
+  notice-framed : (c : Notice) (own : ℕ → Bool) → Kept own (listed c ed R .1) → Framed own t (noticeCall c t .1)
   unfolding tableBook
-  notice-framed {step} {lists} c k own f =
+  notice-framed c own f =
       subst (λ (w : Numbers × List ℤ). Framed own t (w .1))
-      (sym (on-sound t s k step ∙ ap (answerAndTable standard t) (c .is R ok) ∙ leaves-is standard t (lists R) (c .keeps R ok)))
-      (go (refused (lists R .0)))
+      (sym (notice-is t s c ∙ ap (answerAndTable ed t) (notice-step c ed R ok) ∙ leaves-is ed t (listed c ed R) (notice-keeps c ed ok)))
+      (go (refused (listed c ed R .0)))
     where
-      go : (b : Bool) → Framed own t (cond b t (laid (lists R .1)))
+      go : (b : Bool) → Framed own t (cond b t (laid (listed c ed R .1)))
       go true = unchanged own t
-      go false = f (c .keeps R ok)
+      go false = f (notice-keeps c ed ok)
 
 -- ---- any table
 
-framed : {step : Book → Numbers × Book} {lists : Register → Numbers × Register} → Notice step lists
-    → (k : ℕ) (t : List ℤ) (own : ℕ → Bool)
-    → ((s : sound standard t ≡ true) → Kept t s own (lists (registerOf standard t) .1))
-    → Framed own t (onTable k step standard t .1)
-framed {step} c k t own f = go (sound standard t) refl
+-- fresh alone writes over an unsound one
+abbrev isFresh : Notice → Bool
+isFresh (fresh! n) = true
+isFresh (open! n) = false
+isFresh (energy! n) = false
+isFresh (status! n) = false
+isFresh (request! n holidays) = false
+isFresh (withdraw! n) = false
+
+left-alone : (t : List ℤ) → sound (editionOf t) t ≡ false → (c : Notice) → isFresh c ≡ false → noticeCall c t .1 ≡ t
+unfolding noticeCall openCall energyCall statusCall requestCall withdrawCall onEdition
+left-alone t s (fresh! n) e = absurd (false≢true (sym e))
+left-alone t s (open! n) e = rw s refl
+left-alone t s (energy! n) e = rw s refl
+left-alone t s (status! n) e = rw s refl
+left-alone t s (request! n holidays) e = rw s refl
+left-alone t s (withdraw! n) e = rw s refl
+
+framed : (c : Notice) → isFresh c ≡ false → (t : List ℤ) (own : ℕ → Bool)
+    → ((s : sound (editionOf t) t ≡ true) → Kept t s own (listed c (editionOf t) (registerOf (editionOf t) t) .1))
+    → Framed own t (noticeCall c t .1)
+framed c e t own f = go (sound (editionOf t) t) refl
   where
-    go : (b : Bool) → sound standard t ≡ b → Framed own t (onTable k step standard t .1)
-    go true s = notice-framed t s c k own (f s)
-    go false s =
-        subst (λ (w : Numbers × List ℤ). Framed own t (w .1)) (sym (call-unsound k step standard t s)) (unchanged own t)
+    go : (b : Bool) → sound (editionOf t) t ≡ b → Framed own t (noticeCall c t .1)
+    go true s = notice-framed t s c own (f s)
+    go false s = subst (Framed own t) (sym (left-alone t s c e)) (unchanged own t)
 
 pub frames : Frames
-unfolding openCall energyCall statusCall requestCall withdrawCall energyLists statusLists requestLists withdrawLists
+unfolding noticeCall listed energyLists statusLists requestLists withdrawLists
 frames =
     record {
-      opening = λ t n. framed (open-notice n) 0 t (ofNewPoint t) (λ s. on-opening t s n);
-      energy = λ t n. framed (energy-notice n) 4 t (ofPoint t (n .mirn)) (λ s. on-lists t s 4 (n .mirn) _ _ _);
-      status = λ t n. framed (status-notice n) 0 t (ofPoint t (n .mirn)) (λ s. on-lists t s 0 (n .mirn) _ _ _);
+      opening = λ t n. framed (open! n) refl t (ofNewPoint t) (λ s. on-opening t s n);
+      energy = λ t n. framed (energy! n) refl t (ofPoint t (n .mirn)) (λ s. on-lists t s 4 (n .mirn) _ _ _);
+      status = λ t n. framed (status! n) refl t (ofPoint t (n .mirn)) (λ s. on-lists t s 0 (n .mirn) _ _ _);
       request = λ t n holidays.
-          framed (request-notice n holidays) 2 t (ofPoint t (n .mirn)) (λ s. on-lists t s 2 (n .mirn) _ _ _);
-      withdraw = λ t n. framed (withdraw-notice n) 0 t (ofPoint t (n .mirn)) (λ s. on-lists t s 0 (n .mirn) _ _ _);
+          framed (request! n holidays) refl t (ofPoint t (n .mirn)) (λ s. on-lists t s 2 (n .mirn) _ _ _);
+      withdraw = λ t n. framed (withdraw! n) refl t (ofPoint t (n .mirn)) (λ s. on-lists t s 0 (n .mirn) _ _ _);
     }

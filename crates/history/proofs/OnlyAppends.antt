@@ -11,22 +11,25 @@ use lib.ListN.{take}
 use borrow.Author.Tests.{ne-eqb}
 use Rattle.numbers.specs.Naturals.{natOf}
 use Rattle.numbers.specs.Search.{maybe}
+use Rattle.daybook.specs.declared.Edition.{Edition}
 use Rattle.daybook.specs.declared.EnergyNotice.{EnergyNotice}
-use Rattle.daybook.specs.Book.{Entry, Pending, Point, Book, withEntries, records, latest, standard}
+use Rattle.daybook.specs.Book.{Entry, Pending, Point, Book, withEntries, records, latest}
 use Rattle.daybook.specs.Notices.{least, Numbers, decide, find, withPoint, onPoint, Which, append, replacement, recut, whichNumber, which, entryOf, energyEarly, energyRowsAt, removed, Outcome, registers, lapses, stays, outcomeOf, outcomeNumbers, entered, enter, energy}
-use Rattle.daybook.specs.Calls.{Call, fresh!, open!, energy!, status!, request!, withdraw!, account!, allocate!, step}
+use Rattle.daybook.specs.Calls.{Notice, fresh!, open!, energy!, status!, request!, withdraw!, Call, notice!, query!, noted}
 use Rattle.lists.specs.Lists.{Lists, pointOf, bookOf}
 use Rattle.lists.specs.InnerSteps.{findLists}
 use Rattle.lists.specs.InnerWell.{PendingOk, nopending, pending, WellFormed}
 use Rattle.lists.proofs.Points.{find-is, find-put, find-well}
-use Rattle.layout.specs.Layout.{registerOf, tableBook}
+use Rattle.layout.specs.Layout.{editionOf, registerOf, tableBook}
 use Rattle.layout.specs.Sound.{sound}
-use Rattle.layout.specs.Calls.{answerAndTable, onTable}
-use Rattle.layout.proofs.TableSound.{sound-lays, standard-fits}
+use Rattle.layout.specs.Calls.{answerAndTable, onEdition}
+use Rattle.layout.proofs.TableSound.{sound-lays}
+use Rattle.layout.proofs.Editions.{edition-fits}
+use Rattle.layout.proofs.Notices.{Holds, notice-holds}
 use Rattle.energy.specs.Energy.{energyCall}
-use Rattle.history.specs.Runs.{changed, tableStep}
-use Rattle.history.specs.OnlyAppends.{outcomeBefore, enterBefore, energyBefore, energyCallBefore, tableStepBefore, named, correctedPoint, CorrectsAlone, OnlyAppendsSettle}
-use Rattle.history.proofs.Steps.{stateOf, Follows, on-sound, step-agrees}
+use Rattle.history.specs.Runs.{Lent, noticeCall, lentStep}
+use Rattle.history.specs.OnlyAppends.{outcomeBefore, enterBefore, energyBefore, energyCallBefore, noticeBefore, lentStepBefore, named, correctedPoint, CorrectsAlone, OnlyAppendsSettle}
+use Rattle.history.proofs.Steps.{notice-is}
 
 -- ---- what the request came to, and comes to
 
@@ -124,19 +127,22 @@ module _ (n : EnergyNotice) (B : Book) where
 
 -- ---- on the table
 
-module _ (t : List ℤ) (s : sound standard t ≡ true) where
+module _ (t : List ℤ) (s : sound (editionOf t) t ≡ true) where
+  abbrev ed : Edition
+  ed = editionOf t
+
   abbrev B : Book
-  B = tableBook standard t
+  B = tableBook ed t
 
   -- a request of a sound table is one beside its point's registrations
   pending-ok : (m : ℕ) (p : Point) → find m (B .points) ≡ some p → (regs : List (ℕ × ℕ)) × PendingOk regs (p .pending)
   unfolding tableBook bookOf pointOf
-  pending-ok m p e = go (findLists m (registerOf standard t .points)) refl
+  pending-ok m p e = go (findLists m (registerOf ed t .points)) refl
     where
-      ok : WellFormed standard (registerOf standard t)
-      ok = sound-lays standard standard-fits t s .0
+      ok : WellFormed ed (registerOf ed t)
+      ok = sound-lays ed (edition-fits t) t s .0
 
-      go : (o : Option Lists) → findLists m (registerOf standard t .points) ≡ o → (regs : List (ℕ × ℕ)) × PendingOk regs (p .pending)
+      go : (o : Option Lists) → findLists m (registerOf ed t .points) ≡ o → (regs : List (ℕ × ℕ)) × PendingOk regs (p .pending)
       go none f = absurd (Option·none-ne-some p (sym (ap (maybe none (λ q. some (pointOf q))) f) ∙ sym (find-is m _) ∙ e))
       go (some q) f =
           let is : pointOf q ≡ p = Option·some-injective _ p (sym (ap (maybe none (λ q. some (pointOf q))) f) ∙ sym (find-is m _) ∙ e) in
@@ -147,24 +153,24 @@ module _ (t : List ℤ) (s : sound standard t ≡ true) where
     found = find (natOf (n .mirn)) (B .points)
 
     abbrev row : ℕ
-    row = least (energyEarly n ++ maybe ((4, true) ∷ []) (energyRowsAt standard n B) found)
+    row = least (energyEarly n ++ maybe ((4, true) ∷ []) (energyRowsAt ed n B) found)
 
-    now-is : energyCall t n ≡ answerAndTable standard t (stepBy n B (enter (entryOf n)) found row)
-    unfolding energyCall energy onPoint
-    now-is = on-sound t s 4 (energy standard n)
+    now-is : energyCall t n ≡ answerAndTable ed t (stepBy n B (enter (entryOf n)) found row)
+    unfolding noticeCall noted energy onPoint
+    now-is = notice-is t s (energy! n)
 
-    before-is : energyCallBefore t n ≡ answerAndTable standard t (stepBy n B (enterBefore (entryOf n)) found row)
-    unfolding energyCallBefore energyBefore onPoint
-    before-is = on-sound t s 4 (energyBefore n)
+    before-is : energyCallBefore t n ≡ answerAndTable ed t (stepBy n B (enterBefore (entryOf n)) found row)
+    unfolding energyCallBefore energyBefore onPoint onEdition
+    before-is = rw s
 
     sound-same : named (energyCallBefore t n .0) ≡ false → energyCall t n ≡ energyCallBefore t n
     sound-same e =
         now-is
-        ∙ ap (answerAndTable standard t) (book-same n B found row (pending-ok (natOf (n .mirn))) (sym (ap (λ v. named (v .0)) before-is) ∙ e))
+        ∙ ap (answerAndTable ed t) (book-same n B found row (pending-ok (natOf (n .mirn))) (sym (ap (λ v. named (v .0)) before-is) ∙ e))
         ∙ sym before-is
 
-    sound-alone : named (energyCallBefore t n .0) ≡ true → CorrectsAlone t n
-    unfolding tableStep step energy onPoint withPoint withEntries
+    sound-alone : named (energyCallBefore t n .0) ≡ true → CorrectsAlone ed t n
+    unfolding noticeCall noted energy onPoint withPoint withEntries
     sound-alone e =
         record {
           answer = ap (λ v. v .0) now-is ∙ a .numbers ∙ sym (ap (λ v. take 3 (v .0) ++ (pos 0 ∷ pos 0 ∷ [])) before-is);
@@ -177,49 +183,58 @@ module _ (t : List ℤ) (s : sound standard t ≡ true) where
           point = a .point;
           found = a .found;
           dayBook = a .book;
-          isSound = f .isSound;
+          isSound = ap (λ (w : Numbers × List ℤ). sound ed (w .1)) is ∙ h .isSound;
           follows = follows;
         }
       where
         a : OnBook n B found row
         a = book-alone n B found row (sym (ap (λ v. named (v .0)) before-is) ∙ e)
 
-        f : Follows (tableStep (energy! n) t) (step (energy! n) (stateOf t))
-        f = step-agrees t s (energy! n)
+        is : energyCall t n ≡ answerAndTable ed t (energy ed n B)
+        is = notice-is t s (energy! n)
 
-        follows : tableBook standard (energyCall t n .1) ≡ energy standard n B .1
-        follows = ap (λ v. v .1 .book) (f .same)
+        h : Holds ed (edition-fits t) (answerAndTable ed t (energy ed n B) .1) (energy ed n B .1)
+        h = notice-holds ed (edition-fits t) t s (energy! n)
+
+        follows : tableBook ed (energyCall t n .1) ≡ energy ed n B .1
+        follows = ap (λ (w : Numbers × List ℤ). tableBook ed (w .1)) is ∙ h .book
 
 -- an unsound table gets 1, as it did
-unsound : (t : List ℤ) (n : EnergyNotice) → sound standard t ≡ false → (energyCall t n ≡ energyCallBefore t n) × (named (energyCallBefore t n .0) ≡ false)
-unfolding energyCall energyCallBefore onTable
+unsound : (t : List ℤ) (n : EnergyNotice) → sound (editionOf t) t ≡ false → (energyCall t n ≡ energyCallBefore t n) × (named (energyCallBefore t n .0) ≡ false)
+unfolding energyCall energyCallBefore onEdition
 unsound t n s = rw s (refl, refl)
 
 energy-same : (t : List ℤ) (n : EnergyNotice) → named (energyCallBefore t n .0) ≡ false → energyCall t n ≡ energyCallBefore t n
-energy-same t n e = go (sound standard t) refl
+energy-same t n e = go (sound (editionOf t) t) refl
   where
-    go : (b : Bool) → sound standard t ≡ b → energyCall t n ≡ energyCallBefore t n
+    go : (b : Bool) → sound (editionOf t) t ≡ b → energyCall t n ≡ energyCallBefore t n
     go true s = sound-same t s n e
     go false s = unsound t n s .0
 
-energy-alone : (t : List ℤ) (n : EnergyNotice) → named (energyCallBefore t n .0) ≡ true → CorrectsAlone t n
-energy-alone t n e = go (sound standard t) refl
+energy-alone : (t : List ℤ) (n : EnergyNotice) → named (energyCallBefore t n .0) ≡ true → CorrectsAlone (editionOf t) t n
+energy-alone t n e = go (sound (editionOf t) t) refl
   where
-    go : (b : Bool) → sound standard t ≡ b → CorrectsAlone t n
+    go : (b : Bool) → sound (editionOf t) t ≡ b → CorrectsAlone (editionOf t) t n
     go true s = sound-alone t s n e
     go false s = absurd (false≢true (sym (unsound t n s .1) ∙ e))
 
-call-same : (t : List ℤ) (c : Call) → ((n : EnergyNotice) → c ≡ energy! n → named (energyCallBefore t n .0) ≡ false)
-    → tableStep c t ≡ tableStepBefore c t
-unfolding tableStep tableStepBefore
-call-same t (fresh! n) h = refl
-call-same t (open! n) h = refl
-call-same t (energy! n) h = ap changed (energy-same t n (h n refl))
-call-same t (status! n) h = refl
-call-same t (request! n holidays) h = refl
-call-same t (withdraw! n) h = refl
-call-same t (account! n) h = refl
-call-same t (allocate! n room) h = refl
+notice-same : (t : List ℤ) (c : Notice) → ((n : EnergyNotice) → c ≡ energy! n → named (energyCallBefore t n .0) ≡ false)
+    → noticeCall c t ≡ noticeBefore c t
+unfolding noticeCall noticeBefore
+notice-same t (fresh! n) h = refl
+notice-same t (open! n) h = refl
+notice-same t (energy! n) h = energy-same t n (h n refl)
+notice-same t (status! n) h = refl
+notice-same t (request! n holidays) h = refl
+notice-same t (withdraw! n) h = refl
+
+call-same : (L : Lent) (c : Call)
+    → ((n : EnergyNotice) → c ≡ notice! (energy! n) → named (energyCallBefore (L .table) n .0) ≡ false)
+    → lentStep c L ≡ lentStepBefore c L
+unfolding lentStep lentStepBefore
+call-same L (notice! c) h =
+    ap (λ (w : Numbers × List ℤ). ((w .0, []), record { table = w .1 })) (notice-same (L .table) c (λ n e. h n (ap notice! e)))
+call-same L (query! q) h = refl
 
 pub only-appends : OnlyAppendsSettle
 only-appends = record { asBefore = call-same; alone = energy-alone }

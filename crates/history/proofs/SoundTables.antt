@@ -12,30 +12,35 @@ use Rattle.numbers.specs.Sums.{sumFrom, sumOver}
 use Rattle.numbers.specs.Answers.{refused}
 use Rattle.numbers.proofs.Bools.{join}
 use Rattle.numbers.proofs.Sums.{sum-same}
+use Rattle.daybook.specs.declared.Edition.{Edition}
 use Rattle.daybook.specs.declared.AllocationQuery.{AllocationQuery}
-use Rattle.daybook.specs.Book.{Entry, Point, Book, dayShare, standard}
+use Rattle.daybook.specs.Book.{Entry, Point, Book, dayShare}
 use Rattle.daybook.specs.Notices.{least, Numbers, decide}
 use Rattle.daybook.specs.Queries.{sumOf, accountOf, accountRows, account, allocate}
 use Rattle.lists.specs.InnerWell.{WellFormed}
 use Rattle.lists.proofs.Rows.{least-skip, decide-taken}
-use Rattle.layout.specs.Layout.{registerOf, tableBook}
+use Rattle.layout.specs.Layout.{editionOf, registerOf, tableBook}
 use Rattle.layout.specs.Sound.{sound}
-use Rattle.layout.proofs.TableSound.{sound-lays, standard-fits}
+use Rattle.layout.proofs.Editions.{edition-fits}
+use Rattle.layout.proofs.TableSound.{sound-lays}
 use Rattle.table.proofs.Calls.{query-sound}
 use Rattle.account.specs.Account.{accountCall}
 use Rattle.allocate.specs.Allocate.{allocateCall}
-use Rattle.history.specs.Agreement.{pointNo, query, accountFrom, loadIn, totalsIn, added, Stands, Allocated, Agrees}
+use Rattle.history.specs.Agreement.{pointNo, query, accountFrom, loadIn, totalsIn, added, Stands, Allocated, AddsUp}
 use Rattle.history.proofs.Accounts.{account-splits, accounts-add-up}
 use Rattle.history.proofs.Entries.{entry-stands}
 use Rattle.history.proofs.Allocations.{totals-add-up, shares-add-up, shares-32}
 use Rattle.history.proofs.Points.{point-at, one-user}
 
-module _ (t : List ℤ) (s : sound standard t ≡ true) where
-  abbrev B : Book
-  B = tableBook standard t
+module _ (t : List ℤ) (s : sound (editionOf t) t ≡ true) where
+  abbrev ed : Edition
+  ed = editionOf t
 
-  ok : WellFormed standard (registerOf standard t)
-  ok = sound-lays standard standard-fits t s .0
+  abbrev B : Book
+  B = tableBook ed t
+
+  ok : WellFormed ed (registerOf ed t)
+  ok = sound-lays ed (edition-fits t) t s .0
 
   -- ---- accounts
 
@@ -51,7 +56,7 @@ module _ (t : List ℤ) (s : sound standard t ≡ true) where
     account-given : accountCall t (query u a c) ≡ pos 0 ∷ accountOf u a c B ∷ []
     unfolding accountCall account
     account-given =
-        query-sound _ _ standard t s ∙ ap (λ r. decide r 1 B (accountOf u a c B ∷ [], B) .0) no-row
+        query-sound _ _ ed t s ∙ ap (λ r. decide r 1 B (accountOf u a c B ∷ [], B) .0) no-row
         ∙ ap (λ w. w .0) (decide-taken 1 B (accountOf u a c B ∷ [], B))
 
     account-from : accountFrom t u a c ≡ accountOf u a c B
@@ -74,7 +79,7 @@ module _ (t : List ℤ) (s : sound standard t ≡ true) where
 
   entries-stand : (i : ℕ) (p : Point) (d : ℕ) (e : Entry) → pointNo i (B .points) ≡ some p → p .entry d ≡ some e → Stands p d e
   entries-stand i p d e at =
-      let (w, is) = point-at t s i p at in
+      let (w, is) = point-at ed t (edition-fits t) s i p at in
       subst (λ p. p .entry d ≡ some e → Stands p d e) is (entry-stands w d e)
 
   -- ---- allocations
@@ -84,23 +89,21 @@ module _ (t : List ℤ) (s : sound standard t ≡ true) where
   allocated n room =
       record {
         asBook = is;
-        overUsers = subst (Given (λ w. added (totalsIn (w .0)) ≡ loadIn (w .0))) (sym is) (totals-add-up ok n room);
-        overPoints = subst (Given (λ w. added (w .1) ≡ loadIn (w .0))) (sym is) (shares-add-up ok n room);
-        all32 = subst (Given (λ w. length (w .1) ≡ 32)) (sym is) (shares-32 ok n room);
+        overUsers = subst (Given (λ w. added (totalsIn (w .0)) ≡ loadIn (w .0))) (sym is) (totals-add-up (edition-fits t) ok n room);
+        overPoints = subst (Given (λ w. added (w .1) ≡ loadIn (w .0))) (sym is) (shares-add-up (edition-fits t) ok n room);
+        all32 = subst (Given (λ w. length (w .1) ≡ 32)) (sym is) (shares-32 (edition-fits t) ok n room);
       }
     where
       is : allocateCall t n room ≡ allocate n room B
-      is = query-sound _ _ standard t s
+      is = query-sound _ _ ed t s
 
       Given : (Numbers × List ℤ → Type 0) → Numbers × List ℤ → Type 0
       Given P w = refused (w .0) ≡ false → P w
 
-  pub sound-agrees : Agrees t B
-  sound-agrees =
+  pub sound-adds-up : AddsUp ed t B
+  sound-adds-up =
       record {
-        isSound = s;
-        book = refl;
-        oneUser = λ i p d e. one-user t s i p e d;
+        oneUser = λ i p d e. one-user ed t (edition-fits t) s i p e d;
         accounts = account-given;
         accountsSplit = accounts-split;
         accountsAddUp = accounts-sum;

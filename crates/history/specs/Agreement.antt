@@ -1,4 +1,4 @@
--- What is claimed of the table t that a list of calls left and the day book B given the same calls (demand 3).
+-- What is claimed of what a list of calls left and of the state that the day book is in after the same calls (demand 3).
 use mathlib.Core.Path.{_≡_}
 use mathlib.Core.Bool.{true, false}
 use mathlib.Core.Option.{Option, none, some}
@@ -8,16 +8,19 @@ use lib.IntN.{ℤ, pos, _+ℤ_}
 use lib.ListN.{length, getD, drop}
 use Rattle.numbers.specs.Sums.{sumFrom, sumOver}
 use Rattle.numbers.specs.Answers.{refused}
+use Rattle.daybook.specs.declared.Edition.{Edition}
 use Rattle.daybook.specs.declared.AccountQuery.{AccountQuery}
 use Rattle.daybook.specs.declared.AllocationQuery.{AllocationQuery}
-use Rattle.daybook.specs.Book.{Entry, Point, Book, filled, dayShare, standard}
+use Rattle.daybook.specs.Book.{Entry, Point, Book, filled, dayShare}
 use Rattle.daybook.specs.Notices.{Numbers}
+use Rattle.daybook.specs.Calls.{State}
 use Rattle.daybook.specs.Queries.{sumOf, accountOf, allocate}
 use Rattle.lists.specs.Lists.{covering}
-use Rattle.layout.specs.Layout.{partOf, pointFrom, tableBook}
+use Rattle.layout.specs.Layout.{editionOf, partOf, pointFrom, tableBook}
 use Rattle.layout.specs.Sound.{sound}
 use Rattle.account.specs.Account.{accountCall}
 use Rattle.allocate.specs.Allocate.{allocateCall}
+use Rattle.history.specs.Runs.{Lent}
 
 -- Point i, in order of opening.
 unfoldable pub pointNo : ℕ → List Point → Option Point
@@ -44,12 +47,12 @@ added l = sumOf (λ z. z) l
 
 -- 2. On a filled day one User of 1 to 16 is FRO, and exactly one registration row of the table covers the day: it has
 -- started by then and the next one, if any, has not. It is the FRO's.
-pub record OneUser (t : List ℤ) (i : ℕ) (p : Point) (d : ℕ) : Type 0 where
+pub record OneUser (ed : Edition) (t : List ℤ) (i : ℕ) (p : Point) (d : ℕ) : Type 0 where
   pub userLow : 1 ≤ p .fro d
   pub userHigh : p .fro d ≤ 16
   pub since : ℕ
   pub started : since ≤ d
-  pub oneRow : covering d (pointFrom (partOf standard t i) .regs) ≡ (since, p .fro d) ∷ []
+  pub oneRow : covering d (pointFrom (partOf ed t i) .regs) ≡ (since, p .fro d) ∷ []
 
 -- 5. An entry that stands on day d stands on all of its days, d among them, and their shares add up to its energy.
 pub record Stands (p : Point) (d : ℕ) (e : Entry) : Type 0 where
@@ -70,11 +73,15 @@ pub record Allocated (t : List ℤ) (B : Book) (n : AllocationQuery) (room : ℕ
       → added (allocateCall t n room .1) ≡ loadIn (allocateCall t n room .0)
   pub all32 : refused (allocateCall t n room .0) ≡ false → length (allocateCall t n room .1) ≡ 32
 
-pub record Agrees (t : List ℤ) (B : Book) : Type 0 where
-  -- 1. The table is sound, and its book is B.
-  pub isSound : sound standard t ≡ true
-  pub book : tableBook standard t ≡ B
-  pub oneUser : (i : ℕ) (p : Point) (d : ℕ) → pointNo i (B .points) ≡ some p → filled p d ≡ true → OneUser t i p d
+-- 1. What is lent stands for the state: the table is sound in the state's edition, and its book is the state's.
+pub record StandsFor (L : Lent) (S : State) : Type 0 where
+  pub edition : editionOf (L .table) ≡ S .edition
+  pub isSound : sound (S .edition) (L .table) ≡ true
+  pub book : tableBook (S .edition) (L .table) ≡ S .book
+
+-- The rest, of the table t of an edition and the day book B that it stands for.
+pub record AddsUp (ed : Edition) (t : List ℤ) (B : Book) : Type 0 where
+  pub oneUser : (i : ℕ) (p : Point) (d : ℕ) → pointNo i (B .points) ≡ some p → filled p d ≡ true → OneUser ed t i p d
   -- 3. A User's account from the table is the sum of the shares of its days in B, and splits between any two days.
   pub accounts :
       (u a c : ℕ) → 1 ≤ u → u ≤ 16 → a ≤ c → c ≤ 39999
@@ -89,3 +96,7 @@ pub record Agrees (t : List ℤ) (B : Book) : Type 0 where
   pub entries :
       (i : ℕ) (p : Point) (d : ℕ) (e : Entry) → pointNo i (B .points) ≡ some p → p .entry d ≡ some e → Stands p d e
   pub allocations : (n : AllocationQuery) (room : ℕ) → Allocated t B n room
+
+pub record Agrees (L : Lent) (S : State) : Type 0 where
+  pub standsFor : StandsFor L S
+  pub addsUp : AddsUp (S .edition) (L .table) (S .book)

@@ -3,15 +3,17 @@ use mathlib.Core.Path.{_≡_}
 use mathlib.Core.List.{List, [], _∷_}
 use lib.IntN.{ℤ, pos}
 use Rattle.daybook.specs.declared.Ranges.{Ranges}
-use Rattle.daybook.specs.Calls.{Call, run, answers}
+use Rattle.daybook.specs.Calls.{Call, State, run, answers}
+use Rattle.layout.specs.Layout.{editionOf}
 use Rattle.opening.specs.Opening.{freshCall}
-use Rattle.history.specs.Runs.{tableRun, tableAnswers, freshState}
+use Rattle.history.specs.Runs.{Lent, lentRun, lentAnswers, freshState}
 use Rattle.history.specs.Agreement.{Agrees}
 
 -- Lend any table t₀ to fresh, with any two ranges n. If it answers 0, then lend the table to any calls, one after the
 -- other, with any numbers, each call on the table that the one before left. Every call answers what the day book
--- answers to the same calls, and of the table and the book after the last of them all that `Agrees` says holds: the
--- table is sound and stands for that book, each filled day has one User, and accounts, entries and allocations add up.
+-- answers to the same calls, and of what is lent and the state after the last of them all that `Agrees` says holds: the
+-- table is sound and stands for the state's book, each filled day has one User, and accounts, entries and allocations
+-- add up.
 --
 -- The calls here are definitions. The contracts of the code equate each function with one of them, for every table and
 -- all numbers: opening::fresh with freshCall, opening::open with openCall, energy::energy with energyCall,
@@ -20,5 +22,6 @@ use Rattle.history.specs.Agreement.{Agrees}
 abbrev pub EveryList : Type 0
 EveryList =
     (t₀ : List ℤ) (n : Ranges) → freshCall t₀ n .0 ≡ pos 0 ∷ [] → (cs : List Call)
-    → Agrees (tableRun cs (freshCall t₀ n .1)) (run cs (freshState n) .book)
-    × (tableAnswers cs (freshCall t₀ n .1) ≡ answers cs (freshState n))
+    → let L : Lent = record { table = freshCall t₀ n .1 } in
+    let S : State = freshState (editionOf t₀) n in
+    Agrees (lentRun cs L) (run cs S) × (lentAnswers cs L ≡ answers cs S)

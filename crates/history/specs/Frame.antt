@@ -8,13 +8,13 @@ use lib.IntN.{ℤ, pos}
 use lib.ListN.{length, getD}
 use Rattle.numbers.specs.Naturals.{natOf}
 use Rattle.numbers.specs.Search.{maybe}
+use Rattle.daybook.specs.declared.Edition.{Edition}
 use Rattle.daybook.specs.declared.Opening.{Opening}
 use Rattle.daybook.specs.declared.EnergyNotice.{EnergyNotice}
 use Rattle.daybook.specs.declared.StatusNotice.{StatusNotice}
 use Rattle.daybook.specs.declared.TransferRequest.{TransferRequest}
 use Rattle.daybook.specs.declared.Withdrawal.{Withdrawal}
-use Rattle.daybook.specs.Book.{standard}
-use Rattle.layout.specs.Layout.{stride, placeOf, numAt}
+use Rattle.layout.specs.Layout.{stride, placeOf, editionOf, numAt}
 use Rattle.table.specs.Lookup.{indexOf}
 use Rattle.opening.specs.Opening.{openCall}
 use Rattle.energy.specs.Energy.{energyCall}
@@ -22,16 +22,16 @@ use Rattle.status.specs.Status.{statusCall}
 use Rattle.transfer.specs.Transfer.{requestCall, withdrawCall}
 
 -- Does place k lie in the part of point i?
-abbrev pub inPart : ℕ → ℕ → Bool
-inPart i k = leb (placeOf standard i) k && ltb k (placeOf standard i + stride standard)
+abbrev pub inPart : Edition → ℕ → ℕ → Bool
+inPart ed i k = leb (placeOf ed i) k && ltb k (placeOf ed i + stride ed)
 
 -- In the part of the point of this MIRN, if there is one?
 abbrev pub ofPoint : List ℤ → ℤ → ℕ → Bool
-ofPoint t mirn k = maybe false (λ i. inPart i k) (indexOf standard t (natOf mirn))
+ofPoint t mirn k = maybe false (λ i. inPart (editionOf t) i k) (indexOf (editionOf t) t (natOf mirn))
 
 -- In the part of one more point, or the count of points?
 abbrev pub ofNewPoint : List ℤ → ℕ → Bool
-ofNewPoint t k = eqb k 0 || inPart (numAt t 0) k
+ofNewPoint t k = eqb k 0 || inPart (editionOf t) (numAt t 0) k
 
 -- The table t′ is as long as t, and has the same number at every place but the call's own.
 pub record Framed (own : ℕ → Bool) (t t′ : List ℤ) : Type 0 where

@@ -1,10 +1,10 @@
--- Lists of calls on a lent table, each on the table that the one before left.
+-- Lists of calls on what a hub lends, each on what the one before left.
 use mathlib.Core.List.{List, [], _∷_}
 use lib.IntN.{ℤ}
+use Rattle.daybook.specs.declared.Edition.{Edition}
 use Rattle.daybook.specs.declared.Ranges.{Ranges}
 use Rattle.daybook.specs.Notices.{Numbers}
-use Rattle.daybook.specs.Calls.{Call, fresh!, open!, energy!, status!, request!, withdraw!, account!, allocate!, State, Answer}
-use Rattle.daybook.specs.Book.{standard}
+use Rattle.daybook.specs.Calls.{Notice, fresh!, open!, energy!, status!, request!, withdraw!, Query, account!, allocate!, Call, notice!, query!, State, Answer}
 use Rattle.opening.specs.Opening.{freshCall, openCall}
 use Rattle.energy.specs.Energy.{energyCall}
 use Rattle.status.specs.Status.{statusCall}
@@ -12,29 +12,43 @@ use Rattle.transfer.specs.Transfer.{requestCall, withdrawCall}
 use Rattle.account.specs.Account.{accountCall}
 use Rattle.allocate.specs.Allocate.{allocateCall}
 
-abbrev pub changed : Numbers × List ℤ → Answer × List ℤ
-changed w = ((w .0, []), w .1)
+-- ---- a call on a table: the very definitions that the contracts equate the code with
 
--- What a call answers, and what it leaves of the table: the very definitions that the contracts equate the code with.
-unfoldable pub tableStep : Call → List ℤ → Answer × List ℤ
-tableStep (fresh! n) t = changed (freshCall t n)
-tableStep (open! n) t = changed (openCall t n)
-tableStep (energy! n) t = changed (energyCall t n)
-tableStep (status! n) t = changed (statusCall t n)
-tableStep (request! n holidays) t = changed (requestCall t n holidays)
-tableStep (withdraw! n) t = changed (withdrawCall t n)
-tableStep (account! n) t = ((accountCall t n, []), t)
-tableStep (allocate! n room) t = (allocateCall t n room, t)
+-- What a notice answers, and what it leaves of the table.
+unfoldable pub noticeCall : Notice → List ℤ → Numbers × List ℤ
+noticeCall (fresh! n) t = freshCall t n
+noticeCall (open! n) t = openCall t n
+noticeCall (energy! n) t = energyCall t n
+noticeCall (status! n) t = statusCall t n
+noticeCall (request! n holidays) t = requestCall t n holidays
+noticeCall (withdraw! n) t = withdrawCall t n
 
--- The table that a list of calls leaves, and what it answers.
-unfoldable pub tableRun : List Call → List ℤ → List ℤ
-tableRun [] t = t
-tableRun (c ∷ cs) t = tableRun cs (tableStep c t .1)
+-- What a query answers of it.
+unfoldable pub queryCall : Query → List ℤ → Answer
+queryCall (account! n) t = (accountCall t n, [])
+queryCall (allocate! n room) t = allocateCall t n room
 
-unfoldable pub tableAnswers : List Call → List ℤ → List Answer
-tableAnswers [] t = []
-tableAnswers (c ∷ cs) t = let r : Answer × List ℤ = tableStep c t in r .0 ∷ tableAnswers cs (r .1)
+-- ---- lists of calls
 
--- The state that an accepted fresh begins: the two ranges, and no points.
-abbrev pub freshState : Ranges → State
-freshState n = record { edition = standard; book = record { nondaily = n .nondaily; daily = n .daily; points = [] } }
+-- What is lent from call to call.
+pub record Lent : Type 0 where
+  pub table : List ℤ
+
+-- What a call answers, and what it leaves of what it is lent.
+unfoldable pub lentStep : Call → Lent → Answer × Lent
+lentStep (notice! c) L =
+    let w : Numbers × List ℤ = noticeCall c (L .table) in ((w .0, []), record { table = w .1 })
+lentStep (query! q) L = (queryCall q (L .table), L)
+
+-- What a list of calls leaves, and what it answers.
+unfoldable pub lentRun : List Call → Lent → Lent
+lentRun [] L = L
+lentRun (c ∷ cs) L = lentRun cs (lentStep c L .1)
+
+unfoldable pub lentAnswers : List Call → Lent → List Answer
+lentAnswers [] L = []
+lentAnswers (c ∷ cs) L = let r : Answer × Lent = lentStep c L in r .0 ∷ lentAnswers cs (r .1)
+
+-- The state that an accepted fresh begins, in an edition of the table: the two ranges, and no points.
+abbrev pub freshState : Edition → Ranges → State
+freshState ed n = record { edition = ed; book = record { nondaily = n .nondaily; daily = n .daily; points = [] } }

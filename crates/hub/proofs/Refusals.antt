@@ -1,4 +1,4 @@
--- A refusal is a row of "Notices sent back", so at most 16.
+-- A refusal is a row of "Notices sent back", so at most the highest.
 use mathlib.Core.Path.{_≡_, refl}
 use mathlib.Core.Bool.{Bool, true, false, _&&_, cond}
 use mathlib.Core.Option.{Option, none, some}
@@ -13,6 +13,7 @@ use Rattle.numbers.specs.Naturals.{natOf}
 use Rattle.numbers.specs.Search.{maybe}
 use Rattle.numbers.proofs.Bools.{both, join}
 use Rattle.calendar.specs.Calendar.{dayOf, isDate, dateCall}
+use Rattle.daybook.specs.declared.Edition.{Edition}
 use Rattle.daybook.specs.declared.Ranges.{Ranges}
 use Rattle.daybook.specs.declared.Opening.{Opening}
 use Rattle.daybook.specs.declared.EnergyNotice.{EnergyNotice}
@@ -21,12 +22,12 @@ use Rattle.daybook.specs.declared.TransferRequest.{TransferRequest}
 use Rattle.daybook.specs.declared.Withdrawal.{Withdrawal}
 use Rattle.daybook.specs.declared.AccountQuery.{AccountQuery}
 use Rattle.daybook.specs.declared.AllocationQuery.{AllocationQuery}
-use Rattle.daybook.specs.Book.{Book, Point, standard}
-use Rattle.daybook.specs.Notices.{Row, smaller, least, Numbers, decide, find, onPoint, freshRows, fresh, openingRows, opening, energyEarly, energyRows, energyRowsAt, energy, statusEarly, statusRows, status, requestEarly, requestRows, request, withdrawEarly, withdrawRows, withdraw}
+use Rattle.daybook.specs.Book.{Book, Point}
+use Rattle.daybook.specs.Notices.{Row, highestRefusal, smaller, least, Numbers, decide, find, onPoint, freshRows, fresh, openingRows, opening, energyEarly, energyRows, energyRowsAt, energy, statusEarly, statusRows, status, requestEarly, requestRows, request, withdrawEarly, withdrawRows, withdraw}
 use Rattle.daybook.specs.Queries.{accountRows, account, allocateRows, allocate}
-use Rattle.layout.specs.Layout.{tableLength, tableBook}
+use Rattle.layout.specs.Layout.{tableLength, editionOf, tableBook}
 use Rattle.layout.specs.Sound.{sound}
-use Rattle.layout.specs.Calls.{answerAndTable, onTable, ofTable}
+use Rattle.layout.specs.Calls.{answerAndTable, onEdition, ofEdition}
 use Rattle.opening.specs.Opening.{freshCall, openCall}
 use Rattle.energy.specs.Energy.{energyCall}
 use Rattle.status.specs.Status.{statusCall}
@@ -35,25 +36,25 @@ use Rattle.account.specs.Account.{accountCall}
 use Rattle.allocate.specs.Allocate.{allocateCall}
 use Rattle.buffers.proofs.Ends.{refusalOf}
 
--- Every number of the rows is at most 16. On rows with written numbers this computes.
+-- No number of the rows is above the highest. On rows with written numbers this computes.
 unfoldable small : List Row → Bool
 small [] = true
-small (r ∷ rs) = leb (r .0) 16 && small rs
+small (r ∷ rs) = leb (r .0) highestRefusal && small rs
 
 small-append : (rs ss : List Row) → small rs ≡ true → small ss ≡ true → small (rs ++ ss) ≡ true
 unfolding small
 small-append [] ss h k = k
 small-append (r ∷ rs) ss h k =
-    let b = both (leb (r .0) 16) (small rs) h in join (b .0) (small-append rs ss (b .1) k)
+    let b = both (leb (r .0) highestRefusal) (small rs) h in join (b .0) (small-append rs ss (b .1) k)
 
-small-least : (rs : List Row) → small rs ≡ true → least rs ≤ 16
+small-least : (rs : List Row) → small rs ≡ true → least rs ≤ highestRefusal
 unfolding small least
 small-least [] h = omega arith
 small-least (r ∷ rs) h =
-    let b = both (leb (r .0) 16) (small rs) h in
-    go (r .1) (least rs) (leb-true (r .0) 16 (b .0)) (small-least rs (b .1))
+    let b = both (leb (r .0) highestRefusal) (small rs) h in
+    go (r .1) (least rs) (leb-true (r .0) highestRefusal (b .0)) (small-least rs (b .1))
   where
-    go : (t : Bool) (l : ℕ) → r .0 ≤ 16 → l ≤ 16 → cond t (smaller (r .0) l) l ≤ 16
+    go : (t : Bool) (l : ℕ) → r .0 ≤ highestRefusal → l ≤ highestRefusal → cond t (smaller (r .0) l) l ≤ highestRefusal
     go true zero k i = k
     go true (suc l) k i = omega arith
     go false l k i = i
@@ -64,7 +65,7 @@ decided zero k x w = refl
 decided (suc r) k x w = refl
 
 on-point : (k : ℕ) (m : ℤ) (early : List Row) (rows : Point → List Row) (effect : Point → Numbers × Point) (B : Book)
-    → small early ≡ true → ((p : Point) → small (rows p) ≡ true) → refusalOf (onPoint k m early rows effect B .0) ≤ 16
+    → small early ≡ true → ((p : Point) → small (rows p) ≡ true) → refusalOf (onPoint k m early rows effect B .0) ≤ highestRefusal
 unfolding onPoint small
 on-point k m early rows effect B h g =
     rw decided (small-least (early ++ maybe ((4, true) ∷ []) rows found) (small-append early _ h (go found)))
@@ -76,68 +77,68 @@ on-point k m early rows effect B h g =
     go none = refl
     go (some p) = g p
 
-on-table : (k : ℕ) (step : Book → Numbers × Book) (t : List ℤ) → ((B : Book) → refusalOf (step B .0) ≤ 16)
-    → refusalOf (onTable k step standard t .0) ≤ 16
-unfolding onTable
-on-table k step t h = go (sound standard t)
+on-table : (k : ℕ) (step : Book → Numbers × Book) (ed : Edition) (t : List ℤ) → ((B : Book) → refusalOf (step B .0) ≤ highestRefusal)
+    → refusalOf (onEdition k step ed t .0) ≤ highestRefusal
+unfolding onEdition
+on-table k step ed t h = go (sound ed t)
   where
-    go : (s : Bool) → refusalOf (cond s (answerAndTable standard t (step (tableBook standard t))) (pos 1 ∷ replicate k (pos 0), t) .0) ≤ 16
-    go true = h (tableBook standard t)
+    go : (s : Bool) → refusalOf (cond s (answerAndTable ed t (step (tableBook ed t))) (pos 1 ∷ replicate k (pos 0), t) .0) ≤ highestRefusal
+    go true = h (tableBook ed t)
     go false = omega arith
 
 -- ---- each call
 
-pub fresh-small : (t : List ℤ) (n : Ranges) → refusalOf (freshCall t n .0) ≤ 16
+pub fresh-small : (t : List ℤ) (n : Ranges) → refusalOf (freshCall t n .0) ≤ highestRefusal
 unfolding freshCall fresh freshRows small
 fresh-small t n = go (leb tableLength (length t))
   where
-    go : (s : Bool) → refusalOf (cond s (answerAndTable standard t (fresh n (tableBook standard t))) (pos 1 ∷ [], t) .0) ≤ 16
+    go : (s : Bool) → refusalOf (cond s (answerAndTable (editionOf t) t (fresh n (tableBook (editionOf t) t))) (pos 1 ∷ [], t) .0) ≤ highestRefusal
     go true = rw decided (small-least (freshRows n) refl)
     go false = omega arith
 
-pub open-small : (t : List ℤ) (n : Opening) → refusalOf (openCall t n .0) ≤ 16
+pub open-small : (t : List ℤ) (n : Opening) → refusalOf (openCall t n .0) ≤ highestRefusal
 unfolding openCall opening openingRows small
-open-small t n = on-table 0 (opening standard n) t (λ B. rw decided (small-least (openingRows standard n _ (length (B .points))) refl))
+open-small t n = on-table 0 (opening (editionOf t) n) (editionOf t) t (λ B. rw decided (small-least (openingRows (editionOf t) n _ (length (B .points))) refl))
 
-pub energy-small : (t : List ℤ) (n : EnergyNotice) → refusalOf (energyCall t n .0) ≤ 16
+pub energy-small : (t : List ℤ) (n : EnergyNotice) → refusalOf (energyCall t n .0) ≤ highestRefusal
 unfolding energyCall energy energyEarly energyRowsAt energyRows small
-energy-small t n = on-table 4 (energy standard n) t (λ B. on-point 4 (n .mirn) (energyEarly n) _ _ B refl (λ p. refl))
+energy-small t n = on-table 4 (energy (editionOf t) n) (editionOf t) t (λ B. on-point 4 (n .mirn) (energyEarly n) _ _ B refl (λ p. refl))
 
-pub status-small : (t : List ℤ) (n : StatusNotice) → refusalOf (statusCall t n .0) ≤ 16
+pub status-small : (t : List ℤ) (n : StatusNotice) → refusalOf (statusCall t n .0) ≤ highestRefusal
 unfolding statusCall status statusEarly statusRows small
-status-small t n = on-table 0 (status n) t (λ B. on-point 0 (n .mirn) (statusEarly n) _ _ B refl (λ p. refl))
+status-small t n = on-table 0 (status n) (editionOf t) t (λ B. on-point 0 (n .mirn) (statusEarly n) _ _ B refl (λ p. refl))
 
-pub request-small : (t : List ℤ) (n : TransferRequest) (hs : List ℤ) → refusalOf (requestCall t n hs .0) ≤ 16
+pub request-small : (t : List ℤ) (n : TransferRequest) (hs : List ℤ) → refusalOf (requestCall t n hs .0) ≤ highestRefusal
 unfolding requestCall request requestEarly requestRows small
 request-small t n hs =
-    on-table 2 (request n hs) t (λ B. on-point 2 (n .mirn) (requestEarly n hs) _ _ B refl (λ p. refl))
+    on-table 2 (request n hs) (editionOf t) t (λ B. on-point 2 (n .mirn) (requestEarly n hs) _ _ B refl (λ p. refl))
 
-pub withdraw-small : (t : List ℤ) (n : Withdrawal) → refusalOf (withdrawCall t n .0) ≤ 16
+pub withdraw-small : (t : List ℤ) (n : Withdrawal) → refusalOf (withdrawCall t n .0) ≤ highestRefusal
 unfolding withdrawCall withdraw withdrawEarly withdrawRows small
-withdraw-small t n = on-table 0 (withdraw n) t (λ B. on-point 0 (n .mirn) (withdrawEarly n) _ _ B refl (λ p. refl))
+withdraw-small t n = on-table 0 (withdraw n) (editionOf t) t (λ B. on-point 0 (n .mirn) (withdrawEarly n) _ _ B refl (λ p. refl))
 
-pub date-small : (y m d : ℤ) → refusalOf (dateCall y m d) ≤ 16
+pub date-small : (y m d : ℤ) → refusalOf (dateCall y m d) ≤ highestRefusal
 unfolding dateCall
 date-small y m d = go (isDate y m d)
   where
-    go : (b : Bool) → refusalOf (cond b (pos 0 ∷ pos (dayOf (natOf y) (natOf m) (natOf d)) ∷ []) (pos 2 ∷ pos 0 ∷ [])) ≤ 16
+    go : (b : Bool) → refusalOf (cond b (pos 0 ∷ pos (dayOf (natOf y) (natOf m) (natOf d)) ∷ []) (pos 2 ∷ pos 0 ∷ [])) ≤ highestRefusal
     go true = omega arith
     go false = omega arith
 
 -- ---- the queries
 
-pub account-small : (t : List ℤ) (n : AccountQuery) → refusalOf (accountCall t n) ≤ 16
-unfolding accountCall account accountRows ofTable small
-account-small t n = go (sound standard t)
+pub account-small : (t : List ℤ) (n : AccountQuery) → refusalOf (accountCall t n) ≤ highestRefusal
+unfolding accountCall account accountRows ofEdition small
+account-small t n = go (sound (editionOf t) t)
   where
-    go : (s : Bool) → refusalOf (cond s (account n (tableBook standard t)) (pos 1 ∷ pos 0 ∷ [])) ≤ 16
+    go : (s : Bool) → refusalOf (cond s (account n (tableBook (editionOf t) t)) (pos 1 ∷ pos 0 ∷ [])) ≤ highestRefusal
     go true = rw decided (small-least (accountRows n) refl)
     go false = omega arith
 
-pub allocate-small : (t : List ℤ) (q : AllocationQuery) (room : ℕ) → refusalOf (allocateCall t q room .0) ≤ 16
-unfolding allocateCall allocate allocateRows ofTable small
-allocate-small t q room = go (sound standard t)
+pub allocate-small : (t : List ℤ) (q : AllocationQuery) (room : ℕ) → refusalOf (allocateCall t q room .0) ≤ highestRefusal
+unfolding allocateCall allocate allocateRows ofEdition small
+allocate-small t q room = go (sound (editionOf t) t)
   where
-    go : (s : Bool) → refusalOf (cond s (allocate q room (tableBook standard t)) (pos 1 ∷ replicate 17 (pos 0), []) .0) ≤ 16
-    go true = rw decided (small-least (allocateRows q room (tableBook standard t)) refl)
+    go : (s : Bool) → refusalOf (cond s (allocate q room (tableBook (editionOf t) t)) (pos 1 ∷ replicate 17 (pos 0), []) .0) ≤ highestRefusal
+    go true = rw decided (small-least (allocateRows q room (tableBook (editionOf t) t)) refl)
     go false = omega arith

@@ -13,16 +13,14 @@ use Rattle.numbers.proofs.Naturals.{same-true}
 use Rattle.daybook.specs.declared.AllocationQuery.{AllocationQuery}
 use Rattle.daybook.specs.Notices.{Numbers}
 use Rattle.daybook.specs.Queries.{allocationInRange, weights, total, pointShares, allocateRows, allocate}
-use Rattle.daybook.specs.Book.{standard}
 use Rattle.lists.proofs.Splits.{split-length}
-use Rattle.layout.specs.Layout.{numAt, tableBook}
+use Rattle.layout.specs.Layout.{editionOf, tableBook}
 use Rattle.layout.specs.Sound.{sound}
-use Rattle.layout.specs.Calls.{ofTable}
-use Rattle.point.proofs.Rows.{length-rows}
-use Rattle.table.proofs.Laws.{sound-long}
-use Rattle.readings.proofs.Points.{partPoint, points-are}
+use Rattle.layout.specs.Calls.{ofEdition}
+use Rattle.layout.proofs.Editions.{edition-fits}
 use Rattle.allocate.specs.Allocate.{allocateCall, placed}
 use Rattle.allocate.specs.InnerParts.{givenOf}
+use Rattle.allocate.proofs.Arrays.{points-few}
 use Rattle.allocate.proofs.Apportioned.{in-range-tells}
 use Rattle.allocate.proofs.Call.{call-unsound, call-range, call-weightless, call-given}
 use Rattle.buffers.specs.Buffers.{withNumbers, replied, written}
@@ -37,15 +35,15 @@ room-cut r = go (leb 32 r) refl
     go false e = lt-leb 32 (min 32 r) (omega (arith, leb-false 32 r e))
 
 pub call-cut : (t : List ℤ) (q : AllocationQuery) (r : ℕ) → allocateCall t q (min 32 r) ≡ allocateCall t q r
-unfolding allocateCall allocate allocateRows ofTable
+unfolding allocateCall allocate allocateRows ofEdition
 call-cut t q r = rw (room-cut r)
 
 -- ---- 32 numbers are given
 
-given-32 : (t : List ℤ) → sound standard t ≡ true → (q : AllocationQuery) → length (givenOf q (tableBook standard t) .1) ≡ 32
+given-32 : (t : List ℤ) → sound (editionOf t) t ≡ true → (q : AllocationQuery) → length (givenOf q (tableBook (editionOf t) t) .1) ≡ 32
 unfolding givenOf pointShares weights
 given-32 t s q =
-    let few : length (tableBook standard t .points) ≤ 32 = omega (arith, ap length (points-are t), length-rows (partPoint t) 0 (numAt t 0), sound-long t s .1) in
+    let few : length (tableBook (editionOf t) t .points) ≤ 32 = points-few (editionOf t) (edition-fits t) t s in
     simp (length-append, split-length, length-map, length-replicate) (omega arith)
 
 -- where no row applies, all 32 places are there, and all are given
@@ -60,14 +58,14 @@ module _ (t : List ℤ) (q : AllocationQuery) (room : ℕ) where
   not-taken k l z = absurd (omega (arith, ap natOf z))
 
   pub taken-32 : Taken (allocateCall t q room)
-  taken-32 = go (sound standard t) (allocationInRange q room) (eqb (total (weights q (tableBook standard t))) 0) refl refl refl
+  taken-32 = go (sound (editionOf t) t) (allocationInRange q room) (eqb (total (weights q (tableBook (editionOf t) t))) 0) refl refl refl
     where
-      go : (s i z : Bool) → sound standard t ≡ s → allocationInRange q room ≡ i → eqb (total (weights q (tableBook standard t))) 0 ≡ z → Taken (allocateCall t q room)
-      go false i z a b c = subst Taken (sym (call-unsound t q room a)) (not-taken 0 (replicate 17 (pos 0)))
-      go true false z a b c = subst Taken (sym (call-range t q room a b)) (not-taken 1 (replicate 17 (pos 0)))
-      go true true true a b c = subst Taken (sym (call-weightless t q room a b (eqb-true (total (weights q (tableBook standard t))) 0 c))) (not-taken 14 (replicate 17 (pos 0)))
+      go : (s i z : Bool) → sound (editionOf t) t ≡ s → allocationInRange q room ≡ i → eqb (total (weights q (tableBook (editionOf t) t))) 0 ≡ z → Taken (allocateCall t q room)
+      go false i z a b c = subst Taken (sym (call-unsound (editionOf t) t refl q room a)) (not-taken 0 (replicate 17 (pos 0)))
+      go true false z a b c = subst Taken (sym (call-range (editionOf t) t refl q room a b)) (not-taken 1 (replicate 17 (pos 0)))
+      go true true true a b c = subst Taken (sym (call-weightless (editionOf t) t refl q room a b (eqb-true (total (weights q (tableBook (editionOf t) t))) 0 c))) (not-taken 14 (replicate 17 (pos 0)))
       go true true false a b c =
-          subst Taken (sym (call-given t q room a b (eqb-false (total (weights q (tableBook standard t))) 0 c))) (λ e. (given-32 t a q, in-range-tells q room b .1))
+          subst Taken (sym (call-given (editionOf t) t refl q room a b (eqb-false (total (weights q (tableBook (editionOf t) t))) 0 c))) (λ e. (given-32 t a q, in-range-tells q room b .1))
 
   -- so that the answer table is what is given
   pub placed-all : (out : List ℤ) → length out ≡ min 32 room → getD (w .0) 0 (pos 0) ≡ pos 0 → placed (w .1) out ≡ w .1

@@ -20,3 +20,5 @@ pub mod SoundTable
 pub mod Mirns
 pub mod SoundParts
 pub mod Editions
+pub mod Notices
+pub mod Words

@@ -18,3 +18,4 @@ pub mod OpenStep
 pub mod EnergyStep
 pub mod StatusStep
 pub mod TransferStep
+pub mod Notices

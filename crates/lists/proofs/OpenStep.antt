@@ -45,20 +45,21 @@ unfolding fresh freshLists bookOf
 fresh-step n R = decide-map bookOf _ 0 R ([], record { nondaily = n .nondaily; daily = n .daily; points = [] })
 
 -- No points, with ranges that aren't sent back, are well-formed.
-no-points : (ed : Edition) (n : Ranges) → FreshClear n
+pub no-points : (ed : Edition) (n : Ranges) → least (freshRows n) ≡ 0
     → WellFormed ed (record { nondaily = n .nondaily; daily = n .daily; points = [] })
-no-points ed n clear =
+no-points ed n z =
+    let clear : FreshClear n = fresh-clear n z in
     record { nondailyOk = clear .nondailyOk; dailyOk = clear .dailyOk; pointsFew = omega arith; pointsOk = nopoint }
 
 -- fresh keeps a register well-formed.
 pub fresh-keeps : {ed : Edition} (n : Ranges) {R : Register} → WellFormed ed R → WellFormed ed (freshLists n R .1)
 unfolding freshLists
-fresh-keeps {ed} n {R} ok = decide-keeps 0 R _ (WellFormed ed) _ ok (λ z. no-points ed n (fresh-clear n z))
+fresh-keeps {ed} n {R} ok = decide-keeps 0 R _ (WellFormed ed) _ ok (λ z. no-points ed n z)
 
 -- A fresh that isn't sent back makes a well-formed register of any.
 pub fresh-makes : (ed : Edition) (n : Ranges) (R : Register) → least (freshRows n) ≡ 0 → WellFormed ed (freshLists n R .1)
 unfolding freshLists decide
-fresh-makes ed n R z = rw z (no-points ed n (fresh-clear n z))
+fresh-makes ed n R z = rw z (no-points ed n z)
 
 -- ---- open
 

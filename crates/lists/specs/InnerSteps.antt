@@ -19,6 +19,7 @@ use Rattle.daybook.specs.declared.Withdrawal.{Withdrawal}
 use Rattle.daybook.specs.declared.Edition.{Edition}
 use Rattle.daybook.specs.Book.{Entry, Pending, lastOf}
 use Rattle.daybook.specs.Notices.{Row, least, Numbers, decide, freshRows, factsOf, openingRows, Which, append, replacement, recut, whichNumber, whichOf, entryOf, energyEarly, energyRows, beyond, removed, Outcome, registers, lapses, stays, outcomeOf, outcomeNumbers, statusEarly, statusRows, requestEarly, requestRows, periodNumbers, pendingOf, withdrawEarly, withdrawRows}
+use Rattle.daybook.specs.Calls.{Notice, fresh!, open!, energy!, status!, request!, withdraw! }
 use Rattle.lists.specs.Lists.{Lists, Register}
 
 -- ---- what is read off the lists
@@ -182,3 +183,12 @@ unfoldable pub withdrawLists : Withdrawal → Register → Numbers × Register
 withdrawLists n R =
     onLists 0 (n .mirn) (withdrawEarly n) (λ q. withdrawRows (natOf (n .user)) (q .pending))
     (λ q. ([], withPendingLists none q)) R
+
+-- Each notice on the lists.
+unfoldable pub listed : Notice → Edition → Register → Numbers × Register
+listed (fresh! n) ed R = freshLists n R
+listed (open! n) ed R = openingLists ed n R
+listed (energy! n) ed R = energyLists ed n R
+listed (status! n) ed R = statusLists n R
+listed (request! n holidays) ed R = requestLists n holidays R
+listed (withdraw! n) ed R = withdrawLists n R

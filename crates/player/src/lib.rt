@@ -1,4 +1,4 @@
-// Plays a journal: reads calls from standard input, one a line, on one register, and writes a row of numbers for each.
+// Plays a journal: reads calls from its input, one a line, on one register, and writes a row of numbers for each.
 ghost use mathlib.Core.Path.{_≡_};
 ghost use Prim.Native.Nat.{_+_, _≤_};
 ghost use lib.ListN.{length};

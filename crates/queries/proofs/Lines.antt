@@ -11,7 +11,6 @@ use lib.Seq.{drop-cons}
 use mir.Syntax.{w64}
 use mir.Val.{ofZ}
 use Rattle.numbers.specs.Naturals.{natOf}
-use Rattle.daybook.specs.Book.{standard}
 use Rattle.table.specs.Lookup.{lookUp}
 use Rattle.printing.specs.Rows.{rowOf, Printed}
 use Rattle.answers.specs.Lines.{num, Played}
@@ -45,10 +44,10 @@ sums-end t i s1 s2 h = rw (drop-of-length-le t h)
 
 -- ---- rows of sums
 
-pub looked : {out out' : List ℕ} {at r : ℕ} (t xs part : List ℤ) (m : ℤ) (s1 s2 : ℕ) → length xs ≡ 1 → m ≡ num xs 0 → part ≡ lookUp standard t m → s1 ≡ sumsOf part .0 → s2 ≡ sumsOf part .1 → r ≤ at + 2048 → Printed out at (rowOf (pos (length part) ∷ pos s1 ∷ pos s2 ∷ [])) out' r → Played (lookLine t xs) t out at t out' r
+pub looked : {out out' : List ℕ} {at r : ℕ} (t xs part : List ℤ) (m : ℤ) (s1 s2 : ℕ) → length xs ≡ 1 → m ≡ num xs 0 → part ≡ lookUp t m → s1 ≡ sumsOf part .0 → s2 ≡ sumsOf part .1 → r ≤ at + 2048 → Printed out at (rowOf (pos (length part) ∷ pos s1 ∷ pos s2 ∷ [])) out' r → Played (lookLine t xs) t out at t out' r
 unfolding lookLine
 looked t xs part m s1 s2 h e x y z l w =
-    let is : part ≡ lookUp standard t (num xs 0) = x ∙ ap (lookUp standard t) e in
+    let is : part ≡ lookUp t (num xs 0) = x ∙ ap (lookUp t) e in
     something _ (counted 1 xs _ h) l refl (rw (y, z, is)) w
 
 pub tabled : {out out' : List ℕ} {at r : ℕ} (t xs a b : List ℤ) (s1 s2 t2 : ℕ) → length xs ≡ 0 → a ≡ take 7688 t → b ≡ take (length t - 7688) (drop 7688 t) → s1 ≡ sumsOf a .0 → s2 ≡ sumsOf a .1 → t2 ≡ sumsOf b .1 → r ≤ at + 2048 → Printed out at (rowOf (pos 0 ∷ pos s1 ∷ pos s2 ∷ pos t2 ∷ [])) out' r → Played (tableLine t xs) t out at t out' r

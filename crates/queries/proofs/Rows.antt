@@ -11,13 +11,13 @@ use lib.Seq.{paste, take-length, take-at, drop-at, take-add, length-take-le}
 use Rattle.numbers.specs.Naturals.{natOf}
 use Rattle.daybook.specs.declared.AllocationQuery.{AllocationQuery}
 use Rattle.daybook.specs.declared.AllocationAnswer.{AllocationAnswer}
-use Rattle.daybook.specs.Book.{Book, standard}
+use Rattle.daybook.specs.Book.{Book}
 use Rattle.daybook.specs.Calls.{allocationNumbers}
 use Rattle.daybook.specs.Notices.{Numbers, least, decide}
 use Rattle.daybook.specs.Queries.{allocationInRange, weights, total, allocateRows, allocate}
-use Rattle.layout.specs.Layout.{tableBook}
+use Rattle.layout.specs.Layout.{editionOf, tableBook}
 use Rattle.layout.specs.Sound.{sound}
-use Rattle.layout.specs.Calls.{ofTable}
+use Rattle.layout.specs.Calls.{ofEdition}
 use Rattle.allocate.specs.Allocate.{allocateCall, placed}
 use Rattle.answers.proofs.Lines.{rest}
 use Rattle.queries.specs.Lines.{allocationRow}
@@ -46,11 +46,11 @@ first-small q room B =
     rw (first-decided (least (allocateRows q room B))) (two-rows (not (allocationInRange q room)) (eqb (total (weights q B)) 0))
 
 pub refusal-small : (t : List ℤ) (q : AllocationQuery) (room : ℕ) (a : AllocationAnswer) → allocationNumbers a ≡ allocateCall t q room .0 → a .refusal < 2 ^ 63
-unfolding allocateCall ofTable
-refusal-small t q room a e = omega (arith, ap first e, go (sound standard t))
+unfolding allocateCall ofEdition
+refusal-small t q room a e = omega (arith, ap first e, go (sound (editionOf t) t))
   where
-    go : (s : Bool) → first (cond s (allocate q room (tableBook standard t)) (pos 1 ∷ replicate 17 (pos 0), []) .0) ≤ 15
-    go true = first-small q room (tableBook standard t)
+    go : (s : Bool) → first (cond s (allocate q room (tableBook (editionOf t) t)) (pos 1 ∷ replicate 17 (pos 0), []) .0) ≤ 15
+    go true = first-small q room (tableBook (editionOf t) t)
     go false = omega arith
 
 -- ---- the first eighteen places

@@ -12,7 +12,6 @@ use Rattle.calendar.specs.Calendar.{dateCall}
 use Rattle.daybook.specs.declared.AccountQuery.{AccountQuery}
 use Rattle.daybook.specs.declared.AllocationQuery.{AllocationQuery}
 use Rattle.daybook.specs.Notices.{Numbers}
-use Rattle.daybook.specs.Book.{standard}
 use Rattle.table.specs.Lookup.{lookUp}
 use Rattle.account.specs.Account.{accountCall}
 use Rattle.allocate.specs.Allocate.{allocateCall, placed}
@@ -48,7 +47,7 @@ dateLine t xs = taking 3 xs (dateCall (dateOf xs .year) (dateOf xs .month) (date
 -- The length of the part that the look-up hands back, and its sums.
 unfoldable pub lookLine : List ℤ → List ℤ → LineResult
 lookLine t xs =
-    let part : List ℤ = lookUp standard t (num xs 0) in
+    let part : List ℤ = lookUp t (num xs 0) in
     taking 1 xs (pos (length part) ∷ pos (sumsOf part .0) ∷ pos (sumsOf part .1) ∷ [], t)
 
 unfoldable pub pokeLine : List ℤ → List ℤ → LineResult

@@ -108,6 +108,7 @@ returns-3 c =
     let e = r .before .before in
     let s = entry e in
     tells (status-missing _ (edition e .edition .ensures .1) (s .args .t .now) (edition e .edition .ensures .0) (s .args .n) (sound-is e) (range-is r) _ (index-is i) (c .if3 .taken)) refl
+
 part-enter-end : tie.Need-part-enter-end
 part-enter-end c =
     let e = tests (c .before .before .before .before) .before .before in
@@ -121,10 +122,9 @@ enter-requires c κs =
     let r = tests i in
     let e = r .before .before in
     let s = entry e in
-    let b = range-bounds (s .args .n) (range-is r) in
-    (
+    let b = range-bounds (s .args .n) (range-is r) in (
       lent-sound _ (edition e .edition .ensures .1) (s .args .t .now) (sound-is e) (natOf (s .args .n .mirn)) _ (index-is i) (u .before .before .before .if3 .left) _ _
-      (u .before .before .place .ensures .0) (u .before .place2 .ensures .0),
+          (u .before .before .place .ensures .0) (u .before .place2 .ensures .0),
       omega (arith, day-is (c .before), b .0),
       omega (arith, on-is c, b .1),
     )

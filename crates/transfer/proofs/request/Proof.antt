@@ -126,10 +126,9 @@ request-at-requires c κs =
     let h = tests i in
     let e = lists h in
     let s = entry e in
-    let r = request-bounds (s .args .n) (range-is (h .before .before)) in
-    (
+    let r = request-bounds (s .args .n) (range-is (h .before .before)) in (
       lent-sound _ (edition e .edition .ensures .1) (s .args .t .now) (sound-is e) (natOf (s .args .n .mirn)) _ (index-is i) (k .before .before .before .if4 .left) _ _
-      (b .before .place .ensures .0) (b .place2 .ensures .0),
+          (b .before .place .ensures .0) (b .place2 .ensures .0),
       omega (arith, user-is (f .before .before)),
       omega (arith, proposed-is (f .before)),
     )

@@ -96,10 +96,9 @@ withdraw-at-requires c κs =
     let i = finds u in
     let r = tests i in
     let e = r .before .before in
-    let s = entry e in
-    (
+    let s = entry e in (
       lent-sound _ (edition e .edition .ensures .1) (s .args .t .now) (sound-is e) (natOf (s .args .n .mirn)) _ (index-is i) (u .before .if3 .left) _ _
-      (b .before .place .ensures .0) (b .place2 .ensures .0),
+          (b .before .place .ensures .0) (b .place2 .ensures .0),
       omega (arith, user-is u, withdrawal-user (s .args .n) (range-is r)),
     )
 

@@ -13,13 +13,15 @@ use mir.Syntax.{w64}
 use mir.Val.{SFits}
 use Rattle.numbers.proofs.Bools.{both}
 use Rattle.calendar.specs.Calendar.{within}
-use Rattle.daybook.specs.Book.{Entry, Pending, standard}
+use Rattle.daybook.specs.declared.Edition.{Edition}
+use Rattle.daybook.specs.Book.{Entry, Pending}
 use Rattle.lists.specs.Lists.{Lists, Register}
 use Rattle.lists.specs.InnerWell.{Regs, noreg, reg, Spans, nospan, still, ended, Recs, norec, rec, PendingOk, nopending, pending, FactsOk, Well, Points, nopoint, point, WellFormed}
 use Rattle.lists.proofs.Apart.{fits-le}
-use Rattle.layout.specs.Layout.{tableLength, pad, regNumbers, offNumbers, recNumbers, pendingOrZeros, headNumbers, pointNumbers, pointsNumbers, layout}
+use Rattle.layout.specs.Layout.{tableLength, Fits, pad, regNumbers, offNumbers, recNumbers, pendingOrZeros, headNumbers, pointNumbers, pointsNumbers, layout}
 use Rattle.layout.specs.Sound.{sound}
-use Rattle.layout.proofs.TableSound.{sound-lays, standard-fits}
+use Rattle.layout.proofs.TableSound.{sound-lays}
+use Rattle.layout.proofs.SoundParts.{stride-small}
 
 -- ---- lists of numbers that fit
 
@@ -106,15 +108,16 @@ module _ (room : ℕ) (h : room ≤ 9999999999) where
 
 -- ---- the register
 
-fit-layout : {R : Register} → WellFormed standard R → AllFit (layout standard R)
-unfolding layout
-fit-layout {R} ok =
-    fit-pad tableLength (fit-append
-    (fit-pad 8 (natural (length (R .points)) (omega (arith, ok .pointsFew)) (fit (range (R .nondaily) (ok .nondailyOk)) (fit (range (R .daily) (ok .dailyOk)) nofit))))
-    (fit-points 48 (omega arith) (ok .pointsOk)))
-  where
-    range : (z : ℤ) → within (negsuc 0) (pos 1000000) z ≡ true → SFits w64 z
-    range z e = within-fits 0 1000000 z (omega arith) (omega arith) e
+module _ (ed : Edition) (f : Fits ed) where
+  fit-layout : {R : Register} → WellFormed ed R → AllFit (layout ed R)
+  unfolding layout
+  fit-layout {R} ok =
+      fit-pad tableLength (fit-append
+      (fit-pad 8 (natural (length (R .points)) (omega (arith, ok .pointsFew, f .few)) (fit (range (R .nondaily) (ok .nondailyOk)) (fit (range (R .daily) (ok .dailyOk)) nofit))))
+      (fit-points (ed .records) (omega (arith, stride-small ed f)) (ok .pointsOk)))
+    where
+      range : (z : ℤ) → within (negsuc 0) (pos 1000000) z ≡ true → SFits w64 z
+      range z e = within-fits 0 1000000 z (omega arith) (omega arith) e
 
-pub sound-fits : (t : List ℤ) → sound standard t ≡ true → AllFit (take tableLength t)
-sound-fits t s = let (ok, is) = sound-lays standard standard-fits t s in subst AllFit is (fit-layout ok)
+  pub sound-fits : (t : List ℤ) → sound ed t ≡ true → AllFit (take tableLength t)
+  sound-fits t s = let (ok, is) = sound-lays ed f t s in subst AllFit is (fit-layout ok)

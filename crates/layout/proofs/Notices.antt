@@ -1,0 +1,80 @@
+-- A notice keeps a table sound, and leaves the book that the day book leaves. Assumes nothing.
+use mathlib.Core.Path.{_≡_, refl, sym, _∙_, ap, subst}
+use mathlib.Core.Bool.{Bool, true, false, cond}
+use mathlib.Core.List.{List, _++_}
+use Prim.Native.Nat.{ℕ, _+_, _-_}
+use native.Mathlib.Omega.{arith}
+use lib.IntN.{ℤ}
+use lib.ListN.{length, drop, length-append, length-drop}
+use Rattle.numbers.specs.Answers.{refused}
+use Rattle.daybook.specs.declared.Edition.{Edition}
+use Rattle.daybook.specs.Book.{Book}
+use Rattle.daybook.specs.Notices.{Numbers}
+use Rattle.daybook.specs.Calls.{Notice, noted}
+use Rattle.lists.specs.Lists.{Register, bookOf}
+use Rattle.lists.specs.InnerSteps.{listed}
+use Rattle.lists.specs.InnerWell.{WellFormed}
+use Rattle.lists.proofs.Notices.{notice-step, notice-keeps, notice-sent-back}
+use Rattle.layout.specs.Layout.{tableLength, Fits, layout, registerOf, tableBook, withBook}
+use Rattle.layout.specs.Sound.{sound}
+use Rattle.layout.specs.Calls.{answerAndTable}
+use Rattle.layout.proofs.Tables.{written-is, book-of-layout}
+use Rattle.layout.proofs.PointParts.{all-few-of, layout-length}
+use Rattle.layout.proofs.TableSound.{sound-lays}
+use Rattle.layout.proofs.SoundTable.{lays-sound}
+
+module _ (ed : Edition) (fits : Fits ed) where
+  -- A sound table whose book is B.
+  pub record Holds (t : List ℤ) (B : Book) : Type 0 where
+    pub isSound : sound ed t ≡ true
+    pub book : tableBook ed t ≡ B
+
+  -- a book of well-formed lists, written over any table, makes a sound one with that book
+  pub written-holds : {R : Register} → WellFormed ed R → (t : List ℤ) → Holds (withBook ed t (bookOf R)) (bookOf R)
+  written-holds {R} ok t =
+      subst (λ u. Holds u (bookOf R)) (sym (written-is ed ok t))
+      (record {
+        isSound = lays-sound ed fits ok (drop tableLength t);
+        book = book-of-layout ed ok (drop tableLength t);
+      })
+
+  -- and one of a register's length stays that long
+  pub written-length : {R : Register} → WellFormed ed R → (t : List ℤ) → length t ≡ tableLength
+      → length (withBook ed t (bookOf R)) ≡ tableLength
+  written-length {R} ok t h =
+      ap length (written-is ed ok t) ∙ length-append (layout ed R) (drop tableLength t)
+      ∙ sum (length (layout ed R)) (length (drop tableLength t)) (length t) laid (length-drop tableLength t) h
+    where
+      laid : length (layout ed R) ≡ tableLength
+      laid = layout-length ed R fits (ok .pointsFew) (all-few-of (ok .pointsOk))
+
+      sum : (x y n : ℕ) → x ≡ tableLength → y ≡ n - tableLength → n ≡ tableLength → x + y ≡ tableLength
+      sum x y n a b c = omega arith
+
+  module _ (t : List ℤ) (s : sound ed t ≡ true) (c : Notice) where
+    abbrev B : Book
+    B = tableBook ed t
+
+    ok : WellFormed ed (registerOf ed t)
+    ok = sound-lays ed fits t s .0
+
+    after : noted c ed B ≡ (listed c ed (registerOf ed t) .0, bookOf (listed c ed (registerOf ed t) .1))
+    unfolding tableBook
+    after = notice-step c ed (registerOf ed t) ok
+
+    pub notice-holds : Holds (answerAndTable ed t (noted c ed B) .1) (noted c ed B .1)
+    notice-holds = go (refused (noted c ed B .0)) refl
+      where
+        go : (b : Bool) → refused (noted c ed B .0) ≡ b → Holds (cond b t (withBook ed t (noted c ed B .1))) (noted c ed B .1)
+        go true e = record { isSound = s; book = sym (notice-sent-back c ed B e) }
+        go false e =
+            subst (λ B. Holds (withBook ed t B) B) (sym (ap (λ (w : Numbers × Book). w .1) after))
+            (written-holds (notice-keeps c ed ok) t)
+
+    pub notice-length : length t ≡ tableLength → length (answerAndTable ed t (noted c ed B) .1) ≡ tableLength
+    notice-length h = go (refused (noted c ed B .0))
+      where
+        go : (b : Bool) → length (cond b t (withBook ed t (noted c ed B .1))) ≡ tableLength
+        go true = h
+        go false =
+            ap (λ (w : Numbers × Book). length (withBook ed t (w .1))) after ∙ written-length (notice-keeps c ed ok) t h
