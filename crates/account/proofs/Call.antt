@@ -1,24 +1,23 @@
 -- What the public call answers, for each way that its code ends. Assumes nothing.
-use mathlib.Core.Path.{_≡_, refl, sym, ap, ap₂, _∙_}
+use mathlib.Core.Path.{_≡_, refl, sym, ap, _∙_}
 use mathlib.Core.Bool.{Bool, true, false, not, _&&_}
 use mathlib.Core.List.{List, [], _∷_}
 use Prim.Native.Nat.{ℕ, _+_, _-_, _≤_}
 use native.Mathlib.Numerals.{add-one}
-use native.Mathlib.Omega.{arith}
 use borrow.Author.Tests.{leb-true}
-use lib.Dec.{leb}
 use lib.IntN.{ℤ, pos}
 use lib.Signed.{leZ}
 use Rattle.numbers.specs.Naturals.{natOf}
 use Rattle.numbers.specs.Sums.{sumFrom, sumOver}
-use Rattle.numbers.proofs.Bools.{both, and-where}
+use Rattle.numbers.proofs.Bools.{both}
 use Rattle.calendar.specs.Calendar.{isDay}
-use Rattle.calendar.proofs.Dates.{within-natural, day-natural, days-order}
+use Rattle.calendar.proofs.Dates.{days-order}
 use Rattle.daybook.specs.declared.AccountQuery.{AccountQuery}
 use Rattle.daybook.specs.declared.Edition.{Edition}
 use Rattle.daybook.specs.Notices.{decide, least, isUser}
 use Rattle.daybook.specs.Queries.{ownShare, accountOf, accountRows, account}
 use Rattle.daybook.specs.Book.{Book}
+use Rattle.lists.proofs.Bounds.{within-bounds}
 use Rattle.lists.proofs.Rows.{above, least-first, least-skip}
 use Rattle.layout.specs.Layout.{editionOf, partOf, numAt, tableBook}
 use Rattle.layout.specs.Sound.{sound}
@@ -33,25 +32,16 @@ use Rattle.account.specs.Account.{accountCall}
 abbrev pub inRange : AccountQuery → Bool
 inRange n = isUser (n .user) && isDay (n .from) && isDay (n .to) && leZ (n .from) (n .to)
 
--- the code's tests of the naturals that it reads
-pub range-tests : (n : AccountQuery) (u a b : ℕ) → u ≡ natOf (n .user) → a ≡ natOf (n .from) → b ≡ natOf (n .to)
-    → ((leb 1 u && leb u 16) && leb a 39999 && leb b 39999 && leb a b) ≡ inRange n
-range-tests n u a b e f g =
-    ap₂ _&&_
-    (ap₂ _&&_
-    (ap₂ _&&_ (ap (λ u. leb 1 u && leb u 16) e ∙ within-natural 1 16 (n .user) (omega arith)) (ap (λ a. leb a 39999) f ∙ day-natural (n .from)))
-    (ap (λ b. leb b 39999) g ∙ day-natural (n .to)))
-    (ap₂ leb f g)
-    ∙ and-where (isUser (n .user) && isDay (n .from) && isDay (n .to)) (λ e.
-    let b = both _ (isDay (n .to)) e in days-order (n .from) (n .to) (both (isUser (n .user)) (isDay (n .from)) (b .0) .1) (b .1) .0)
-
 -- what row 2 lets through
 pub range-bounds : (n : AccountQuery) → inRange n ≡ true → (1 ≤ natOf (n .user)) × (natOf (n .from) ≤ natOf (n .to)) × (natOf (n .to) ≤ 39999)
 range-bounds n e =
-    let a = both _ _ (range-tests n _ _ _ refl refl refl ∙ e) in
-    let b = both _ _ (a .0) in
-    let c = both _ _ (both _ _ (b .0) .0) in
-    (leb-true _ _ (c .0), leb-true _ _ (a .1), leb-true _ _ (b .1))
+    let a = both (isUser (n .user) && isDay (n .from) && isDay (n .to)) (leZ (n .from) (n .to)) e in
+    let b = both (isUser (n .user) && isDay (n .from)) (isDay (n .to)) (a .0) in
+    let c = both (isUser (n .user)) (isDay (n .from)) (b .0) in (
+      within-bounds 1 16 (n .user) (c .0) .0,
+      leb-true _ _ (days-order (n .from) (n .to) (c .1) (b .1) .0 ∙ a .1),
+      within-bounds 0 39999 (n .to) (b .1) .1,
+    )
 
 -- ---- the sum
 

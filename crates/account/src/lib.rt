@@ -27,13 +27,7 @@ ghost use Rattle.account.specs.InnerRegistrations.{movedInto, startIn, o
 fn in_range(n: AccountQuery) -> bool
     ensures { λ r. ⌜ r ≡ (isUser (n .user) && isDay (n .from) && isDay (n .to) && leZ (n .from) (n .to)) ⌝ }
 {
-    let user = n.user;
-    let from = n.from;
-    let to = n.to;
-    let u = numbers::natural(user);
-    let a = numbers::natural(from);
-    let b = numbers::natural(to);
-    ((1 <= u) & (u <= 16)) & (a <= 39999) & (b <= 39999) & (a <= b)
+    daybook::is_user(n.user) & calendar::is_day(n.from) & calendar::is_day(n.to) & (n.from <= n.to)
 }
 
 // Day d, moved into a to b.

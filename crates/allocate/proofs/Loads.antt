@@ -1,9 +1,9 @@
--- Row 2 of an allocation on naturals, and the net section load from raised numbers. Assumes nothing.
+-- The window of an allocation on naturals, and the net section load from raised numbers. Assumes nothing.
 use mathlib.Core.Path.{_≡_, refl, sym, ap, ap₂, _∙_}
 use mathlib.Core.Bool.{Bool, true, false, _&&_, false≢true}
 use Prim.Native.Nat.{ℕ, _+_, _-_, _≤_}
 use native.Mathlib.Omega.{arith}
-use lib.Dec.{leb, ltb}
+use lib.Dec.{leb}
 use lib.IntN.{ℤ, pos, negsuc, subℕ, _+ℤ_, _-ℤ_}
 use lib.Signed.{leZ, ltZ}
 use borrow.Author.Tests.{leb-true, leb-false, le-leb, lt-leb}
@@ -11,9 +11,8 @@ use Rattle.numbers.specs.Naturals.{natOf}
 use Rattle.numbers.proofs.Bools.{both, and-where}
 use Rattle.numbers.proofs.Integers.{up, dn, eqZ, add-fact, minus-fact, sub-fact, le-fact}
 use Rattle.calendar.specs.Calendar.{within, isDay}
-use Rattle.calendar.proofs.Dates.{day-natural, up-to-natural, days-order}
 use Rattle.daybook.specs.declared.AllocationQuery.{AllocationQuery}
-use Rattle.daybook.specs.Queries.{allocationInRange, atLeast0}
+use Rattle.daybook.specs.Queries.{atLeast0}
 use Rattle.readings.proofs.Weights.{at-least}
 use Rattle.allocate.specs.InnerParts.{loadOf}
 
@@ -39,10 +38,6 @@ module _ (x : ℤ) (e : isLoad x ≡ true) where
 
   pub load-small : raised x ≤ 2000000000
   load-small = omega (arith, bounds .1)
-
-pub load-natural : (x : ℤ) → within (pos 0) (pos 1000000000) x ≡ true → (x ≡ pos (natOf x)) × (natOf x ≤ 1000000000)
-load-natural (pos n) e = (refl, leb-true n 1000000000 (both (leb 0 n) (leb n 1000000000) e .1))
-load-natural (negsuc n) e = let z : _≡_ {A = ℕ} 0 1 = cc in absurd (omega arith)
 
 -- ---- the net section load
 
@@ -74,23 +69,11 @@ module _ (g a b : ℤ) where
   abbrev areDays : Bool
   areDays = isDay g && isDay a && isDay b
 
-  in-order : areDays ≡ true → (leb (natOf a) (natOf b + 1) ≡ leZ a (b +ℤ pos 1)) × (ltb (natOf b) (natOf g) ≡ ltZ b g)
+  in-order : areDays ≡ true → leb (natOf a) (natOf b + 1) ≡ leZ a (b +ℤ pos 1)
   in-order e =
-      let d = both (isDay g && isDay a) (isDay b) e in
-      let c = both (isDay g) (isDay a) (d .0) in
-      (next-order a b (c .1) (d .1), days-order b g (d .1) (c .0) .1)
+      let d = both (isDay g && isDay a) (isDay b) e in next-order a b (both (isDay g) (isDay a) (d .0) .1) (d .1)
 
-  pub window : (leb (natOf g) 39999 && leb (natOf a) 39999 && leb (natOf b) 39999 && leb (natOf a) (natOf b + 1) && ltb (natOf b) (natOf g) && leb (natOf b) (natOf a + 399))
-      ≡ (isDay g && isDay a && isDay b && leZ a (b +ℤ pos 1) && ltZ b g && leb (natOf b - natOf a) 399)
-  window =
-      ap₂ _&&_
-      (ap (λ p. p && leb (natOf a) (natOf b + 1) && ltb (natOf b) (natOf g)) (ap₂ _&&_ (ap₂ _&&_ (day-natural g) (day-natural a)) (day-natural b))
-      ∙ ap (λ p. p && ltb (natOf b) (natOf g)) (and-where areDays (λ e. in-order e .0))
-      ∙ and-where (areDays && leZ a (b +ℤ pos 1)) (λ e. in-order (both areDays (leZ a (b +ℤ pos 1)) e .0) .1))
-      (window-is (natOf a) (natOf b))
-
-pub in-range-is : (n : AllocationQuery) (room : ℕ) {g a b q : ℕ} {u c : Bool} → g ≡ natOf (n .gasday) → a ≡ natOf (n .from) → b ≡ natOf (n .to) → q ≡ natOf (n .tdq) → u ≡ isLoad (n .uag) → c ≡ isLoad (n .clp)
-    → (leb g 39999 && leb a 39999 && leb b 39999 && leb a (b + 1) && ltb b g && leb b (a + 399) && leb q 1000000000 && u && c && leb 32 room) ≡ allocationInRange n room
-in-range-is n room g a b q u c =
-    rw (g, a, b, q, u, c)
-    (ap₂ (λ w q. w && q && isLoad (n .uag) && isLoad (n .clp) && leb 32 room) (window (n .gasday) (n .from) (n .to)) (up-to-natural 1000000000 (n .tdq) (omega arith)))
+  -- the days' order and the window's length, by naturals
+  pub window : (areDays && leb (natOf a) (natOf b + 1) && ltZ b g && leb (natOf b) (natOf a + 399))
+      ≡ (areDays && leZ a (b +ℤ pos 1) && ltZ b g && leb (natOf b - natOf a) 399)
+  window = ap₂ (λ p q. p && ltZ b g && q) (and-where areDays in-order) (window-is (natOf a) (natOf b))

@@ -44,16 +44,15 @@ fn in_range(n: AllocationQuery, room: usize) -> bool
     let tdq = n.tdq;
     let uag = n.uag;
     let clp = n.clp;
-    let g = numbers::natural(gasday);
     let a = numbers::natural(from);
     let b = numbers::natural(to);
-    (g <= 39999)
-        & (a <= 39999)
-        & (b <= 39999)
+    calendar::is_day(gasday)
+        & calendar::is_day(from)
+        & calendar::is_day(to)
         & (a <= b + 1)
-        & (b < g)
+        & (to < gasday)
         & (b <= a + 399)
-        & (numbers::natural(tdq) <= 1000000000)
+        & ((0 <= tdq) & (tdq <= 1000000000))
         & load_ok(uag)
         & load_ok(clp)
         & (32 <= room)

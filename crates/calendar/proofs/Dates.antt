@@ -1,5 +1,5 @@
 -- Dates: the days before a month by formula, 1 January by division, and dates read as naturals. Assumes nothing.
-use mathlib.Core.Path.{_≡_, refl, sym, ap, ap₂, _∙_}
+use mathlib.Core.Path.{_≡_, refl, sym, ap₂, _∙_}
 use mathlib.Core.Bool.{Bool, true, false, _&&_, _||_, and-false, cond, false≢true}
 use mathlib.Core.List.{[], _∷_}
 use Prim.Native.Nat.{ℕ, zero, suc, _+_, _-_, _*_, _/_, _%_, _^_, _≤_, _<_}
@@ -37,15 +37,9 @@ new-year (suc k) = go (new-year k) (leap (1970 + k)) refl
     go h false e = let l : (1970 + k) % 4 ≡ 0 → ⊥ = eqb-false _ _ e in omega arith
 
 -- bounds of a number are bounds of its natural
-pub within-natural : (lo hi : ℕ) (z : ℤ) → hi < 2 ^ 63 → (leb lo (natOf z) && leb (natOf z) hi) ≡ within (pos lo) (pos hi) z
+within-natural : (lo hi : ℕ) (z : ℤ) → hi < 2 ^ 63 → (leb lo (natOf z) && leb (natOf z) hi) ≡ within (pos lo) (pos hi) z
 within-natural lo hi (pos n) h = refl
 within-natural lo hi (negsuc n) h = rw (lt-leb (2 ^ 63) hi h) (and-false (leb lo (2 ^ 63)))
-
-pub up-to-natural : (hi : ℕ) (z : ℤ) → hi < 2 ^ 63 → leb (natOf z) hi ≡ within (pos 0) (pos hi) z
-up-to-natural hi z h = ap (λ b. b && leb (natOf z) hi) (sym (le-leb 0 (natOf z) (omega arith))) ∙ within-natural 0 hi z h
-
-pub day-natural : (z : ℤ) → leb (natOf z) 39999 ≡ isDay z
-day-natural z = up-to-natural 39999 z (omega arith)
 
 -- days are ordered as their naturals are
 pub days-order : (x y : ℤ) → isDay x ≡ true → isDay y ≡ true → (leb (natOf x) (natOf y) ≡ leZ x y) × (ltb (natOf x) (natOf y) ≡ ltZ x y)

@@ -41,6 +41,13 @@ pub enum Period {
     Outside,
 }
 
+// Is this a day that calls take?
+pub fn is_day(x: i64) -> bool
+    ensures { λ r. ⌜ r ≡ isDay x ⌝ }
+{
+    (0 <= x) & (x <= 39999)
+}
+
 // The days before a month in a common year. 367 days, with 30 in February, spread evenly over the months; from March on
 // 2 fewer have passed.
 fn days_before(month: u64) -> u64
@@ -116,13 +123,6 @@ pub fn date(d: YearMonthDay) -> DateAnswer
     DateAnswer::OnDay(Day(at))
 }
 
-fn is_day_at(hs: &[i64], k: usize) -> bool
-    requires { ⌜ k < length (now hs) ⌝ }
-    ensures { λ r. ⌜ r ≡ isDay (getD (now (hs .entry)) k (pos 0)) ⌝ }
-{
-    numbers::get(hs, k) <= 39999
-}
-
 fn ascends_at(hs: &[i64], k: usize) -> bool
     requires { ⌜ suc k < length (now hs) ⌝ }
     ensures { λ r. ⌜ r ≡ ltZ (getD (now (hs .entry)) k (pos 0)) (getD (now (hs .entry)) (suc k) (pos 0)) ⌝ }
@@ -135,7 +135,7 @@ fn all_days(hs: &[i64]) -> bool
 {
     let mut k = 0;
     while k < hs.len() {
-        if !is_day_at(hs, k) {
+        if !is_day(hs[k]) {
             return false;
         }
         k += 1;

@@ -1,6 +1,9 @@
 // The numbers of each call, in document 01's order, and its answer. Numbers come in by value, as any i64; an answer is
 // an enum, so that a refusal carries no field. Allocate's answer holds an array and so is a struct.
+// And the tests of these numbers; that of a day is calendar's.
 use calendar::Day;
+ghost use mathlib.Core.Path.{_≡_};
+ghost use Rattle.daybook.specs.Notices.{isMirn, isUser, isFlag, isRange};
 
 // Beside the book stands the edition of the table: how many points it holds, and how many records of each.
 pub struct Edition {
@@ -96,4 +99,29 @@ pub struct AllocationAnswer {
     pub refusal: u64,
     pub nsl: i64,
     pub totals: [i64; 16],
+}
+
+pub fn is_mirn(x: i64) -> bool
+    ensures { λ r. ⌜ r ≡ isMirn x ⌝ }
+{
+    (1 <= x) & (x <= 9999999999)
+}
+
+pub fn is_user(x: i64) -> bool
+    ensures { λ r. ⌜ r ≡ isUser x ⌝ }
+{
+    (1 <= x) & (x <= 16)
+}
+
+pub fn is_flag(x: i64) -> bool
+    ensures { λ r. ⌜ r ≡ isFlag x ⌝ }
+{
+    (0 <= x) & (x <= 1)
+}
+
+// A validation range, -1 for none.
+pub fn is_range(x: i64) -> bool
+    ensures { λ r. ⌜ r ≡ isRange x ⌝ }
+{
+    (-1 <= x) & (x <= 1000000)
 }

@@ -3,14 +3,15 @@ use mathlib.Core.Path.{_≡_}
 use mathlib.Core.Bool.{Bool, true, _&&_, cond}
 use mathlib.Core.List.{List, [], _∷_}
 use Prim.Native.Nat.{ℕ, suc, _≤_}
-use lib.Dec.{leb, eqb}
-use lib.IntN.{ℤ, pos}
+use lib.Dec.{eqb}
+use lib.IntN.{ℤ, pos, negsuc}
 use Rattle.numbers.specs.Naturals.{natOf}
 use Rattle.numbers.specs.InnerEnergies.{biasOf, energyOf}
+use Rattle.calendar.specs.Calendar.{within, isDay}
 use Rattle.daybook.specs.declared.Edition.{Edition}
 use Rattle.daybook.specs.declared.EnergyNotice.{EnergyNotice}
 use Rattle.daybook.specs.Book.{Entry}
-use Rattle.daybook.specs.Notices.{Row, Numbers, append, whichNumber, removed, Outcome, outcomeOf, outcomeNumbers}
+use Rattle.daybook.specs.Notices.{Row, Numbers, isMirn, isFlag, append, whichNumber, removed, Outcome, outcomeOf, outcomeNumbers}
 use Rattle.lists.specs.Lists.{Lists, Register}
 use Rattle.lists.specs.InnerSteps.{latestOf, whichIn, recsAfter, regsAfter, pendingAfter, enterLists, energyListsRows}
 use Rattle.layout.specs.Layout.{pointNumbers, pointFrom}
@@ -23,6 +24,12 @@ use Rattle.energy.specs.declared.Kept.{Kept}
 use Rattle.energy.specs.declared.Settled.{Settled}
 
 -- ---- a notice's numbers as naturals
+
+-- Row 2.
+abbrev pub inRange : EnergyNotice → Bool
+inRange n =
+    isMirn (n .mirn) && isDay (n .start) && isDay (n .end) && within (negsuc 999999) (pos 1000000) (n .energy)
+    && within (pos 0) (pos 2) (n .«type_») && isFlag (n .confirmed)
 
 -- Its energy is raised by 1,000,000.
 abbrev pub raisedNotice : EnergyNotice → RaisedNotice
@@ -52,22 +59,13 @@ noticeOf x =
 abbrev pub entryFrom : RaisedNotice → Entry
 entryFrom x = recordOf (x .start) (x .end) (x .energy) (x .«type_»)
 
--- Row 2.
-abbrev pub inRange : RaisedNotice → Bool
-inRange x =
-    leb 1 (x .mirn) && leb (x .mirn) 9999999999 && leb (x .start) 39999 && leb (x .end) 39999 && leb (x .energy) 2000000
-    && leb (x .«type_») 2 && leb (x .confirmed) 1
-
--- The same, with its bounds for arithmetic.
+-- A notice that row 2 lets through, with its bounds for arithmetic.
 pub record InRange (x : RaisedNotice) : Type 0 where
-  pub tested : inRange x ≡ true
-  pub mirnLow : 1 ≤ x .mirn
-  pub mirnHigh : x .mirn ≤ 9999999999
+  pub tested : inRange (noticeOf x) ≡ true
   pub startOk : x .start ≤ 39999
   pub endOk : x .end ≤ 39999
   pub energyOk : x .energy ≤ 2000000
   pub typeOk : x .«type_» ≤ 2
-  pub confirmedOk : x .confirmed ≤ 1
 
 -- ---- the part of a point
 

@@ -42,6 +42,20 @@ struct Settled {
     lapsed: u64,
 }
 
+// Row 2.
+fn in_range(n: EnergyNotice) -> bool
+    ensures { λ r. ⌜ r ≡ inRange n ⌝ }
+{
+    let energy = n.energy;
+    let type_ = n.type_;
+    daybook::is_mirn(n.mirn)
+        & calendar::is_day(n.start)
+        & calendar::is_day(n.end)
+        & ((-1000000 <= energy) & (energy <= 1000000))
+        & ((0 <= type_) & (type_ <= 2))
+        & daybook::is_flag(n.confirmed)
+}
+
 fn read(n: EnergyNotice) -> RaisedNotice
     ensures { λ r. ⌜ r ≡ raisedNotice n ⌝ }
 {
@@ -59,19 +73,6 @@ fn read(n: EnergyNotice) -> RaisedNotice
         type_: numbers::natural(type_),
         confirmed: numbers::natural(confirmed),
     }
-}
-
-// Row 2.
-fn in_range(x: RaisedNotice) -> bool
-    ensures { λ r. ⌜ r ≡ inRange x ⌝ }
-{
-    (1 <= x.mirn)
-        & (x.mirn <= 9999999999)
-        & (x.start <= 39999)
-        & (x.end <= 39999)
-        & (x.energy <= 2000000)
-        & (x.type_ <= 2)
-        & (x.confirmed <= 1)
 }
 
 // The record that starts on a day, by its index; the number of records if none does.
@@ -249,10 +250,10 @@ pub fn energy(t: &mut [i64], n: EnergyNotice) -> EnergyAnswer
     if !table::sound(t, ed) {
         return EnergyAnswer::Refused(1);
     }
-    let x = read(n);
-    if !in_range(x) {
+    if !in_range(n) {
         return EnergyAnswer::Refused(2);
     }
+    let x = read(n);
     let i = table::index_of(t, ed, x.mirn);
     if i == ed.points {
         return EnergyAnswer::Refused(4);

@@ -126,3 +126,6 @@ module _ (z : ℤ) (f : SFits w64 z) where
 
   pub bias-read : biasOf (rd z) ≡ biasOf z
   bias-read = ap biasOf (toZ-ofZ w64 z f)
+
+  pub test-read : (p : ℤ → Bool) → p (rd z) ≡ p z
+  test-read p = ap p (toZ-ofZ w64 z f)

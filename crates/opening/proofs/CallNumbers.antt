@@ -1,49 +1,24 @@
--- The numbers of a fresh and of an opening, as the code reads and writes them. Assumes nothing.
-use mathlib.Core.Path.{_≡_, refl, sym, ap, ap₂, subst, _∙_}
-use mathlib.Core.Bool.{Bool, true, false, _&&_, cond}
+-- The numbers of an opening, as the code reads and writes them. Assumes nothing.
+use mathlib.Core.Path.{_≡_, refl, ap, _∙_}
+use mathlib.Core.Bool.{true, false, cond}
 use mathlib.Core.List.{List}
-use Prim.Native.Nat.{ℕ, _+_, _≤_}
+use Prim.Native.Nat.{ℕ, _+_}
 use native.Mathlib.Omega.{arith}
-use lib.Dec.{leb}
 use lib.IntN.{ℤ, pos, negsuc}
 use lib.ListN.{set}
 use lib.Signed.{ltZ, leZ}
 use mir.Val.{SFits}
 use mir.ValLaws.{toZ-ofZ}
 use mir.Syntax.{w64}
-use borrow.Author.Tests.{le-leb, leb-true, ltb-true}
+use borrow.Author.Tests.{le-leb, ltb-true}
 use Rattle.numbers.specs.Naturals.{natOf}
-use Rattle.numbers.specs.InnerEnergies.{biasOf, energyOf}
-use Rattle.numbers.proofs.Naturals.{rd, bias-is, natural-read}
-use Rattle.numbers.proofs.Bools.{both}
-use Rattle.calendar.specs.Calendar.{within, isDay}
-use Rattle.calendar.proofs.Dates.{within-natural, day-natural, up-to-natural}
+use Rattle.numbers.proofs.Naturals.{rd, natural-read}
 use Rattle.daybook.specs.declared.Edition.{Edition}
 use Rattle.daybook.specs.declared.Opening.{Opening}
-use Rattle.daybook.specs.Notices.{isMirn, isFlag, isUser, factsOf}
+use Rattle.daybook.specs.Notices.{factsOf}
 use Rattle.layout.specs.Layout.{placeOf, Fits}
 use Rattle.layout.specs.InnerWrites.{withPart, openPoint, appendPoint}
-use Rattle.table.proofs.Laws.{part-is, part-put, within-raised, lent, backIn}
-
--- a range is written back as it was read
-pub bias-back : (z : ℤ) {u : ℕ} → u ≡ biasOf z → u ≤ 2000000 → energyOf u ≡ z
-bias-back z e h = ap energyOf e ∙ bias-is z (subst (λ k. k ≤ 2000000) e h)
-
-pub raised-small : {r : Bool} (u : ℕ) → r ≡ (leb 999999 u && leb u 2000000) → r ≡ true → u ≤ 2000000
-raised-small u e h = leb-true u 2000000 (both (leb 999999 u) (leb u 2000000) (sym e ∙ h) .1)
-
--- row 2 of an opening
-pub in-range-is : (n : Opening) {mirn kind user install base : ℕ} → mirn ≡ natOf (n .mirn) → kind ≡ natOf (n .kind) → user ≡ natOf (n .user) → install ≡ natOf (n .install) → base ≡ biasOf (n .base)
-    → (leb 1 mirn && leb mirn 9999999999 && leb kind 1 && (leb 1 user && leb user 16) && leb install 39999 && (leb 999999 base && leb base 1010000))
-    ≡ (isMirn (n .mirn) && isFlag (n .kind) && isUser (n .user) && isDay (n .install) && within (negsuc 0) (pos 10000) (n .base))
-in-range-is n m k u i b =
-    ap₂ _&&_
-    (ap₂ _&&_
-    (ap₂ _&&_
-    (ap₂ _&&_ (ap (λ x. leb 1 x && leb x 9999999999) m ∙ within-natural 1 9999999999 (n .mirn) (omega arith)) (ap (λ x. leb x 1) k ∙ up-to-natural 1 (n .kind) (omega arith)))
-    (ap (λ x. leb 1 x && leb x 16) u ∙ within-natural 1 16 (n .user) (omega arith)))
-    (ap (λ x. leb x 39999) i ∙ day-natural (n .install)))
-    (within-raised 10000 (n .base) _ (omega arith) b)
+use Rattle.table.proofs.Laws.{part-is, part-put, lent, backIn}
 
 -- ---- the base load
 

@@ -2,40 +2,20 @@
 ghost use mathlib.Core.Path.{_≡_};
 ghost use mathlib.Core.Bool.{_&&_};
 ghost use Prim.Native.Nat.{_<_, _≤_, _^_};
-ghost use lib.Dec.{leb};
 ghost use lib.IntN.{pos, negsuc};
-ghost use lib.ListN.{length, set};
+ghost use lib.ListN.{length};
 ghost use Rattle.numbers.specs.Naturals.{natOf};
-ghost use Rattle.numbers.specs.InnerEnergies.{energyOf};
 ghost use Rattle.numbers.specs.Answers.{refused};
 ghost use Rattle.calendar.specs.Calendar.{within, isDay};
 ghost use Rattle.daybook.specs.Notices.{isMirn, isFlag, isUser, factsOf};
 ghost use Rattle.daybook.specs.Calls.{noticeNumbers, noticeRefused};
-ghost use Rattle.layout.specs.Places.{nondailyPlace, dailyPlace};
 ghost use Rattle.layout.specs.Layout.{tableLength, Fits};
-ghost use Rattle.layout.specs.InnerWrites.{cleared, appendPoint};
+ghost use Rattle.layout.specs.InnerWrites.{appendPoint};
 ghost use Rattle.opening.specs.Opening.{freshCall, openCall};
 use daybook::Edition;
 use daybook::NoticeAnswer;
 use daybook::Opening;
 use daybook::Ranges;
-
-// A validation range, -1 to 1,000,000, raised by 1,000,000.
-fn is_range(u: u64) -> bool
-    ensures { λ r. ⌜ r ≡ (leb 999999 u && leb u 2000000) ⌝ }
-{
-    (999999 <= u) & (u <= 2000000)
-}
-
-// No points, and the two ranges, each raised by 1,000,000.
-fn empty(t: &mut [i64], nondaily: u64, daily: u64)
-    requires { ⌜ (tableLength ≤ length (now t)) × (nondaily < 2 ^ 63) × (daily < 2 ^ 63) ⌝ }
-    ensures { λ _. ⌜ now (t .exit) ≡ set (set (cleared (now (t .entry)) 0 tableLength) nondailyPlace (energyOf nondaily)) dailyPlace (energyOf daily) ⌝ }
-{
-    rows::clear(t, 0, places::TABLE_LENGTH);
-    rows::put_energy(t, places::NONDAILY, nondaily);
-    rows::put_energy(t, places::DAILY, daily);
-}
 
 // A register with no points, whatever numbers the table holds.
 pub fn fresh(t: &mut [i64], n: Ranges) -> NoticeAnswer
@@ -44,14 +24,14 @@ pub fn fresh(t: &mut [i64], n: Ranges) -> NoticeAnswer
     if t.len() < places::TABLE_LENGTH {
         return NoticeAnswer::Refused(1);
     }
-    let x = n.nondaily;
-    let y = n.daily;
-    let nondaily = numbers::bias(x);
-    let daily = numbers::bias(y);
-    if !(is_range(nondaily) & is_range(daily)) {
+    let nondaily = n.nondaily;
+    let daily = n.daily;
+    if !(daybook::is_range(nondaily) & daybook::is_range(daily)) {
         return NoticeAnswer::Refused(2);
     }
-    empty(t, nondaily, daily);
+    rows::clear(t, 0, places::TABLE_LENGTH);
+    t[places::NONDAILY] = nondaily;
+    t[places::DAILY] = daily;
     NoticeAnswer::Entered
 }
 
@@ -59,21 +39,11 @@ pub fn fresh(t: &mut [i64], n: Ranges) -> NoticeAnswer
 fn in_range(n: Opening) -> bool
     ensures { λ r. ⌜ r ≡ (isMirn (n .mirn) && isFlag (n .kind) && isUser (n .user) && isDay (n .install) && within (negsuc 0) (pos 10000) (n .base)) ⌝ }
 {
-    let m = n.mirn;
-    let k = n.kind;
-    let u = n.user;
-    let i = n.install;
-    let b = n.base;
-    let mirn = numbers::natural(m);
-    let kind = numbers::natural(k);
-    let user = numbers::natural(u);
-    let install = numbers::natural(i);
-    let base = numbers::bias(b);
-    ((1 <= mirn) & (mirn <= 9999999999))
-        & (kind <= 1)
-        & ((1 <= user) & (user <= 16))
-        & (install <= 39999)
-        & ((999999 <= base) & (base <= 1010000))
+    daybook::is_mirn(n.mirn)
+        & daybook::is_flag(n.kind)
+        & daybook::is_user(n.user)
+        & calendar::is_day(n.install)
+        & ((-1 <= n.base) & (n.base <= 10000))
 }
 
 // -1 stands for 1,000 (8.11.5).

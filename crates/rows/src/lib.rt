@@ -10,7 +10,7 @@ ghost use Rattle.layout.specs.InnerWrites.{cleared, putRecord, appendRecord, cu
 ghost use Rattle.rows.specs.InnerRows.{recordOf};
 
 // An energy, raised by 1,000,000.
-pub fn put_energy(p: &mut [i64], i: usize, u: u64)
+fn put_energy(p: &mut [i64], i: usize, u: u64)
     requires { ⌜ (i < length (now p)) × (u < 2 ^ 63) ⌝ }
     ensures { λ _. ⌜ now (p .exit) ≡ set (now (p .entry)) i (energyOf u) ⌝ }
 {

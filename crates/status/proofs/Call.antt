@@ -5,14 +5,13 @@ use mathlib.Core.List.{List, [], _∷_}
 use Prim.Native.Nat.{ℕ, suc, _≤_, zero}
 use native.Mathlib.Omega.{arith}
 use borrow.Author.Tests.{ne-eqb}
-use lib.Dec.{leb, eqb}
+use lib.Dec.{eqb}
 use lib.IntN.{ℤ, pos}
 use Rattle.numbers.specs.Naturals.{natOf}
 use Rattle.numbers.specs.Search.{maybe}
 use Rattle.numbers.specs.Answers.{refused}
 use Rattle.numbers.proofs.Bools.{both}
 use Rattle.calendar.specs.Calendar.{isDay}
-use Rattle.calendar.proofs.Dates.{within-natural, day-natural, up-to-natural}
 use Rattle.daybook.specs.declared.Edition.{Edition}
 use Rattle.daybook.specs.declared.StatusNotice.{StatusNotice}
 use Rattle.daybook.specs.Notices.{least, Numbers, isMirn, isFlag, statusEarly, statusRows, status}
@@ -42,14 +41,6 @@ use Rattle.status.specs.Status.{statusCall}
 
 abbrev pub inRange : StatusNotice → Bool
 inRange n = isMirn (n .mirn) && isDay (n .day) && isFlag (n .on)
-
--- the code's tests of the naturals that it reads
-pub range-tests : (n : StatusNotice) (m d o : ℕ) → m ≡ natOf (n .mirn) → d ≡ natOf (n .day) → o ≡ natOf (n .on)
-    → ((leb 1 m && leb m 9999999999) && leb d 39999 && leb o 1) ≡ inRange n
-range-tests n m d o a b c =
-    ap₂ _&&_
-    (ap₂ _&&_ (ap (λ m. leb 1 m && leb m 9999999999) a ∙ within-natural 1 9999999999 (n .mirn) (omega arith)) (ap (λ d. leb d 39999) b ∙ day-natural (n .day)))
-    (ap (λ o. leb o 1) c ∙ up-to-natural 1 (n .on) (omega arith))
 
 -- what row 2 lets through
 pub range-bounds : (n : StatusNotice) → inRange n ≡ true → (natOf (n .day) ≤ 39999) × (natOf (n .on) ≤ 1)

@@ -20,11 +20,7 @@ ghost use Rattle.status.specs.Status.{statusCall};
 fn in_range(n: StatusNotice) -> bool
     ensures { λ r. ⌜ r ≡ (isMirn (n .mirn) && isDay (n .day) && isFlag (n .on)) ⌝ }
 {
-    let mirn = n.mirn;
-    let day = n.day;
-    let on = n.on;
-    let m = numbers::natural(mirn);
-    ((1 <= m) & (m <= 9999999999)) & (numbers::natural(day) <= 39999) & (numbers::natural(on) <= 1)
+    daybook::is_mirn(n.mirn) & calendar::is_day(n.day) & daybook::is_flag(n.on)
 }
 
 // By the last span: off while off, or at or before the last on day.

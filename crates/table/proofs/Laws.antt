@@ -1,23 +1,23 @@
 -- What the loops and the parts of the whole table need. Assumes nothing.
 use mathlib.Core.Path.{_≡_, refl, sym, ap, _∙_}
-use mathlib.Core.Bool.{Bool, true, false, not, _&&_, cond}
+use mathlib.Core.Bool.{Bool, true, false, not, _&&_}
 use mathlib.Core.Option.{Option, none, some}
 use mathlib.Core.List.{List, [], _++_}
-use Prim.Native.Nat.{ℕ, zero, suc, _+_, _-_, _*_, _≤_, _<_, _^_}
+use Prim.Native.Nat.{ℕ, suc, _+_, _-_, _*_, _≤_, _<_}
 use native.Mathlib.Omega.{arith}
 use native.Mathlib.Nat.{mul-suc, mul-le-mul-left}
-use lib.Dec.{leb, ltb, eqb}
+use lib.Dec.{leb, eqb}
 use lib.ListN.{getD, length, take, drop}
 use lib.Seq.{drop-drop}
 use lib.IntN.{ℤ, pos, negsuc}
-use borrow.Author.Tests.{le-leb, lt-leb, eq-eqb, ne-eqb, leb-true, leb-false, ltb-true}
+use borrow.Author.Tests.{le-leb, lt-leb, eq-eqb, ne-eqb, leb-true}
 use Rattle.numbers.specs.Naturals.{natOf}
 use Rattle.numbers.specs.InnerEnergies.{biasOf}
 use Rattle.numbers.specs.Rows.{all}
 use Rattle.numbers.specs.Search.{maybe, firstFrom}
+use Rattle.numbers.proofs.Bools.{both}
 use Rattle.numbers.proofs.Rows.{all-more, all-fails, all-done}
 use Rattle.numbers.proofs.Search.{from-none, from-hit, from-miss, from-bound}
-use Rattle.calendar.specs.Calendar.{within}
 use Rattle.daybook.specs.Notices.{isRange}
 use Rattle.daybook.specs.declared.Edition.{Edition}
 use Rattle.layout.specs.Layout.{tableLength, stride, placeOf, Fits, editionOf, partOf, numAt, pointsFrom}
@@ -57,30 +57,11 @@ module _ (ed : Edition) (f : Fits ed) (t : List ℤ) (i a b : ℕ) (e : a ≡ pl
   unfolding withPart
   part-put p = rw (long, e) (ap (λ l. take (placeOf ed i) t ++ (p ++ l)) (drop-drop (stride ed) (placeOf ed i) t))
 
--- a number from -1 to hi, raised by 1,000,000
-pub within-raised : (hi : ℕ) (z : ℤ) (u : ℕ) → hi ≤ 1000000 → u ≡ biasOf z → (leb 999999 u && leb u (hi + 1000000)) ≡ within (negsuc 0) (pos hi) z
-within-raised hi (pos n) u small e = go (leb n 1000000) refl e
-  where
-    go : (b : Bool) → leb n 1000000 ≡ b → u ≡ cond b (n + 1000000) (2 ^ 63) → (leb 999999 u && leb u (hi + 1000000)) ≡ leb n hi
-    go true h e = same (leb n hi) refl
-      where
-        same : (b : Bool) → leb n hi ≡ b → (leb 999999 u && leb u (hi + 1000000)) ≡ b
-        same true k = rw (le-leb 999999 u (omega arith), le-leb u (hi + 1000000) (omega (arith, leb-true n hi k))) refl
-        same false k = rw (le-leb 999999 u (omega arith), lt-leb u (hi + 1000000) (omega (arith, leb-false n hi k))) refl
-    go false h e =
-        let l : 1000000 < n = leb-false n 1000000 h in
-        rw (lt-leb n hi (omega arith), le-leb 999999 u (omega arith), lt-leb u (hi + 1000000) (omega arith)) refl
-within-raised hi (negsuc n) u small e = go n (ltb n 1000000) refl e
-  where
-    go : (n : ℕ) (b : Bool) → ltb n 1000000 ≡ b → u ≡ cond b (999999 - n) (2 ^ 63) → (leb 999999 u && leb u (hi + 1000000)) ≡ within (negsuc 0) (pos hi) (negsuc n)
-    go zero true h e = rw (le-leb 999999 u (omega arith), le-leb u (hi + 1000000) (omega arith)) refl
-    go zero false h e = let z : _≡_ {A = ℕ} 0 1 = cc in absurd (omega arith)
-    go (suc n) true h e = rw (lt-leb 999999 u (omega (arith, ltb-true (suc n) 1000000 h)), lt-leb (suc n) 0 (omega arith)) refl
-    go (suc n) false h e = rw (le-leb 999999 u (omega arith), lt-leb u (hi + 1000000) (omega arith), lt-leb (suc n) 0 (omega arith)) refl
-
--- a validation range
-pub range-is : (z : ℤ) (u : ℕ) → u ≡ biasOf z → (leb 999999 u && leb u 2000000) ≡ isRange z
-range-is z u e = within-raised 1000000 z u (omega arith) e
+-- a validation range is an energy
+pub range-small : (z : ℤ) → isRange z ≡ true → biasOf z ≤ 2000000
+range-small (pos n) e = rw e (omega (arith, leb-true n 1000000 e))
+range-small (negsuc n) e =
+    let z : n ≡ 0 = omega (arith, leb-true n 0 (both (leb n 0) true e .0)) in rw z (omega arith)
 
 -- Is point i's MIRN another than that of point i + 1 + j?
 abbrev pub differAt : Edition → List ℤ → ℕ → ℕ → Bool

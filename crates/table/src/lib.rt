@@ -2,11 +2,9 @@
 use daybook::Edition;
 ghost use mathlib.Core.Path.{_≡_};
 ghost use Prim.Native.Nat.{_<_, _≤_};
-ghost use lib.ListN.{length, getD, drop};
-ghost use lib.IntN.{pos};
+ghost use lib.ListN.{length, drop};
 ghost use Rattle.numbers.specs.Rows.{all};
 ghost use Rattle.numbers.specs.Search.{maybe};
-ghost use Rattle.daybook.specs.Notices.{isRange};
 ghost use Rattle.layout.specs.Places.{pointsPlace, headerLength};
 ghost use Rattle.layout.specs.Layout.{tableLength, stride as strideOf, placeOf, Fits, editionOf, partOf, numAt, pointsFrom};
 ghost use Rattle.layout.specs.Sound.{partSound, mirnsDiffer, sound as tableSound};
@@ -48,14 +46,6 @@ pub fn part(t: &[i64], ed: Edition, i: usize) -> &[i64]
     let a = place(ed, i);
     let b = place(ed, i + 1);
     &t[a..b]
-}
-
-fn range_ok(t: &[i64], i: usize) -> bool
-    requires { ⌜ i < length (now t) ⌝ }
-    ensures { λ r. ⌜ r ≡ isRange (getD (now (t .entry)) i (pos 0)) ⌝ }
-{
-    let u = numbers::get_energy(t, i);
-    (999999 <= u) & (u <= 2000000)
 }
 
 // The MIRN of point i, which comes first.
@@ -117,8 +107,8 @@ fn body_sound(t: &[i64], ed: Edition, n: usize) -> bool
     ensures { λ r. ⌜ r ≡ bodySound ed (now (t .entry)) ⌝ }
 {
     let end = place(ed, n);
-    range_ok(t, places::NONDAILY)
-        & range_ok(t, places::DAILY)
+    daybook::is_range(t[places::NONDAILY])
+        & daybook::is_range(t[places::DAILY])
         & point::zeros_in(t, places::HEADER_SPARE, places::HEADER_LENGTH)
         & parts_sound(t, ed, n)
         & mirns_differ(t, ed, n)

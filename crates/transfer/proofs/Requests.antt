@@ -5,13 +5,11 @@ use mathlib.Core.Option.{Option}
 use mathlib.Core.List.{List, [], _∷_}
 use Prim.Native.Nat.{ℕ, _≤_}
 use native.Mathlib.Omega.{arith}
-use lib.Dec.{leb}
 use lib.IntN.{ℤ, pos}
 use Rattle.numbers.specs.Naturals.{natOf}
 use Rattle.numbers.specs.Search.{maybe}
 use Rattle.numbers.proofs.Bools.{both}
 use Rattle.calendar.specs.Calendar.{isDay, holidayList, allowablePeriod}
-use Rattle.calendar.proofs.Dates.{within-natural, up-to-natural, day-natural}
 use Rattle.daybook.specs.declared.Edition.{Edition}
 use Rattle.daybook.specs.declared.TransferRequest.{TransferRequest}
 use Rattle.daybook.specs.Notices.{isMirn, isUser, isFlag, least, requestEarly, requestRows, request}
@@ -34,12 +32,6 @@ use Rattle.transfer.proofs.Points.{pending-room}
 
 abbrev pub inRange : TransferRequest → Bool
 inRange n = isMirn (n .mirn) && isUser (n .user) && isDay (n .proposed) && isFlag (n .nochange)
-
--- on the naturals that the code reads
-pub request-numbers : (n : TransferRequest) (m u d f : ℕ) → m ≡ natOf (n .mirn) → u ≡ natOf (n .user) → d ≡ natOf (n .proposed) → f ≡ natOf (n .nochange)
-    → (((leb 1 m && leb m 9999999999) && (leb 1 u && leb u 16)) && leb d 39999 && leb f 1) ≡ inRange n
-request-numbers n m u d f em eu ep ef =
-    rw (em, eu, ep, ef, within-natural 1 9999999999 (n .mirn) (omega arith), within-natural 1 16 (n .user) (omega arith), day-natural (n .proposed), up-to-natural 1 (n .nochange) (omega arith))
 
 pub request-bounds : (n : TransferRequest) → inRange n ≡ true → (natOf (n .user) ≤ 16) × (natOf (n .proposed) ≤ 39999)
 request-bounds n r =

@@ -5,12 +5,10 @@ use mathlib.Core.Option.{none}
 use mathlib.Core.List.{List, [], _∷_}
 use Prim.Native.Nat.{ℕ, _≤_}
 use native.Mathlib.Omega.{arith}
-use lib.Dec.{leb}
 use lib.IntN.{ℤ, pos}
 use Rattle.numbers.specs.Naturals.{natOf}
 use Rattle.numbers.specs.Search.{maybe}
 use Rattle.numbers.proofs.Bools.{both}
-use Rattle.calendar.proofs.Dates.{within-natural}
 use Rattle.daybook.specs.declared.Edition.{Edition}
 use Rattle.daybook.specs.declared.Withdrawal.{Withdrawal}
 use Rattle.daybook.specs.Notices.{isMirn, isUser, least, withdrawEarly, withdrawRows, withdraw}
@@ -33,12 +31,6 @@ use Rattle.transfer.proofs.Points.{pending-room}
 
 abbrev pub inRange : Withdrawal → Bool
 inRange n = isMirn (n .mirn) && isUser (n .user)
-
--- on the naturals that the code reads
-pub withdrawal-numbers : (n : Withdrawal) (m u : ℕ) → m ≡ natOf (n .mirn) → u ≡ natOf (n .user)
-    → ((leb 1 m && leb m 9999999999) && (leb 1 u && leb u 16)) ≡ inRange n
-withdrawal-numbers n m u e f =
-    rw (e, f, within-natural 1 9999999999 (n .mirn) (omega arith), within-natural 1 16 (n .user) (omega arith))
 
 pub withdrawal-user : (n : Withdrawal) → inRange n ≡ true → 1 ≤ natOf (n .user)
 withdrawal-user n r = within-bounds 1 16 (n .user) (both (isMirn (n .mirn)) (isUser (n .user)) r .1) .0

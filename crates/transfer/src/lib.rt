@@ -20,11 +20,7 @@ ghost use Rattle.transfer.specs.InnerParts.{requestPart, withdrawPart};
 fn withdrawal_in_range(n: Withdrawal) -> bool
     ensures { λ r. ⌜ r ≡ (isMirn (n .mirn) && isUser (n .user)) ⌝ }
 {
-    let mirn = n.mirn;
-    let user = n.user;
-    let m = numbers::natural(mirn);
-    let u = numbers::natural(user);
-    ((1 <= m) & (m <= 9999999999)) & ((1 <= u) & (u <= 16))
+    daybook::is_mirn(n.mirn) & daybook::is_user(n.user)
 }
 
 // A request is withdrawn by its own User only.
@@ -66,15 +62,10 @@ pub fn withdraw(t: &mut [i64], n: Withdrawal) -> NoticeAnswer
 fn request_in_range(n: TransferRequest) -> bool
     ensures { λ r. ⌜ r ≡ (isMirn (n .mirn) && isUser (n .user) && isDay (n .proposed) && isFlag (n .nochange)) ⌝ }
 {
-    let mirn = n.mirn;
-    let user = n.user;
-    let proposed = n.proposed;
-    let nochange = n.nochange;
-    let m = numbers::natural(mirn);
-    let u = numbers::natural(user);
-    let day = numbers::natural(proposed);
-    let flag = numbers::natural(nochange);
-    ((1 <= m) & (m <= 9999999999)) & ((1 <= u) & (u <= 16)) & (day <= 39999) & (flag <= 1)
+    daybook::is_mirn(n.mirn)
+        & daybook::is_user(n.user)
+        & calendar::is_day(n.proposed)
+        & daybook::is_flag(n.nochange)
 }
 
 // The latest User is that of the last registration.

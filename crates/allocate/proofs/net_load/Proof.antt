@@ -8,8 +8,9 @@ use borrow.Author.Needs.{needs, sfits-of}
 use Rattle.numbers.specs.Naturals.{natOf}
 use Rattle.numbers.proofs.Naturals.{natural-read}
 use Rattle.daybook.specs.Queries.{atLeast0}
+use Rattle.lists.proofs.Bounds.{within-bounds, within-pos}
 use Rattle.allocate.specs.InnerParts.{loadOf}
-use Rattle.allocate.proofs.Loads.{net-load, load-natural}
+use Rattle.allocate.proofs.Loads.{net-load}
 use Rattle.allocate.proofs.net_load.Statement.{statement}
 use Rattle.allocate.proofs.net_load.Tie as tie
 
@@ -22,9 +23,10 @@ start c = c .before .before .before .before .before
 tdq-is : (c : tie.After-natural) → (c .before .before .before .before .args .q .tdq ≡ pos (c .natural .result)) × (c .natural .result ≤ 1000000000)
 tdq-is c =
     let s = c .before .before .before .before in
-    let tdq = load-natural (s .args .q .tdq) (s .pre .0) in
-    let is : c .natural .result ≡ natOf (s .args .q .tdq) = c .natural .ensures .0 ∙ natural-read (s .args .q .tdq) (sfits-of (c .before .struct-told3 .given .1 .1 .1 .0 .1)) in
-    (tdq .0 ∙ ap pos (sym is), rw is (tdq .1))
+    let tdq = s .args .q .tdq in
+    let fits = sfits-of (c .before .struct-told3 .given .1 .1 .1 .0 .1) in
+    let is : c .natural .result ≡ natOf tdq = c .natural .ensures .0 ∙ natural-read tdq fits in
+    (within-pos 0 1000000000 tdq (s .pre .0) ∙ ap pos (sym is), rw is (within-bounds 0 1000000000 tdq (s .pre .0) .1))
 
 load-is : (c : tie.After-raised-load2)
     → c .before .before .natural .result + 1000000 * start (c .before) .args .n + 2000000000 - (start (c .before) .args .tdm + c .before .raised-load .result + c .raised-load2 .result)

@@ -4,14 +4,14 @@ use Rattle.layout.specs.Sound.{sound}
 use Rattle.table.proofs.Calls.{tells}
 use Rattle.table.proofs.OnPart.{lent-sound, answered-at}
 use Rattle.table.proofs.Laws.{sound-long}
-use Rattle.energy.specs.InnerParts.{inRange, energyPart}
+use Rattle.energy.specs.InnerParts.{inRange, InRange, energyPart}
 use Rattle.energy.specs.Energy.{energyCall}
 use Rattle.energy.proofs.Call.{energy-unsound, ranges-small, energy-range, energy-missing, energy-point}
 use Rattle.energy.proofs.Raised.{in-range-tells}
 use borrow.Author.Tests.{not-true, not-false}
 use native.Mathlib.Omega.{arith}
 use mathlib.Core.Bool.{true}
-use mathlib.Core.Path.{_≡_, refl, sym, _∙_}
+use mathlib.Core.Path.{_≡_, refl, sym, subst, _∙_}
 use borrow.Author.Needs.{needs}
 use Rattle.energy.proofs.energy.Statement.{statement}
 use Rattle.energy.proofs.energy.Tie as tie
@@ -27,13 +27,18 @@ sound-is : (c : tie.Else1) → sound (edition c .edition .result) (entry c .args
 sound-is c = sym (c .before .sound .ensures) ∙ not-false _ (c .if1 .left)
 
 abbrev else1 : tie.Else2 → tie.Else1
-else1 c = c .before .before .before
+else1 c = c .before .before
 
-in-range-here : (c : tie.Else2) → inRange (c .before .before .read .result) ≡ true
+in-range-here : (c : tie.Else2) → inRange (entry (else1 c) .args .n) ≡ true
 in-range-here c = sym (c .before .in-range .ensures) ∙ not-false _ (c .if2 .left)
 
+inside : (c : tie.After-read) → InRange (c .read .result)
+inside c =
+    let l = c .before in
+    subst InRange (sym (c .read .ensures)) (in-range-tells (entry (else1 l) .args .n) (in-range-here l) .1)
+
 abbrev else2 : tie.Else3 → tie.Else2
-else2 c = c .before .before .before .before
+else2 c = c .before .before .before .before .before
 
 long : (c : tie.Else3) → 7688 ≤ length (entry (else1 (else2 c)) .args .t .now)
 long c = sound-long _ _ (sound-is (else1 (else2 c))) .0
@@ -47,24 +52,24 @@ returns c =
 returns-2 : tie.Need-returns-2
 returns-2 c =
     let r = c .before .before in
-    let e = edition (r .before) in
+    let e = edition r in
     let s = e .before .before in
-    tells (energy-range _ (e .edition .ensures .1) (s .args .t .now) (e .edition .ensures .0) (s .args .n) (sound-is (r .before)) _ (r .read .ensures) (sym (c .before .in-range .ensures) ∙ not-true _ (c .if2 .taken))) refl
+    tells (energy-range _ (e .edition .ensures .1) (s .args .t .now) (e .edition .ensures .0) (s .args .n) (sound-is r) (sym (c .before .in-range .ensures) ∙ not-true _ (c .if2 .taken))) refl
 
 index-of-requires : tie.Need-index-of-requires
 index-of-requires c κs =
-    let e = else1 (c .before) in
+    let e = else1 (c .before .before) in
     let k = sound-long _ _ (sound-is e) in
     (edition e .edition .ensures .1, k .0, k .1)
 
 returns-3 : tie.Need-returns-3
 returns-3 c =
     let f = c .before .before in
-    let l = f .before .before in
-    let r = l .before .before in
-    let e = edition (r .before) in
+    let r = f .before .before in
+    let l = r .before in
+    let e = edition (else1 l) in
     let s = e .before .before in
-    tells (energy-missing _ (e .edition .ensures .1) (s .args .t .now) (e .edition .ensures .0) (s .args .n) (sound-is (r .before)) _ (r .read .ensures) (in-range-here l) _ (f .index-of .ensures .0) (c .if3 .taken)) refl
+    tells (energy-missing _ (e .edition .ensures .1) (s .args .t .now) (e .edition .ensures .0) (s .args .n) (sound-is (else1 l)) (in-range-here l) _ (r .read .ensures) _ (f .index-of .ensures .0) (c .if3 .taken)) refl
 
 nondaily-requires : tie.Need-nondaily-requires
 nondaily-requires c κs = omega (arith, long (c .before))
@@ -88,7 +93,7 @@ enter-requires c κs =
     let e = edition (else1 l) in
     let s = e .before .before in
     let small = ranges-small _ (e .edition .ensures .1) (s .args .t .now) (e .edition .ensures .0) (s .args .n) (sound-is (else1 l)) _ _ (g1 .nondaily .ensures) (g2 .daily .ensures) in
-    (lent-sound _ (e .edition .ensures .1) (s .args .t .now) (sound-is (else1 l)) _ _ (f .index-of .ensures .0) (o .if3 .left) _ _ (b .before .place .ensures .0) (b .place2 .ensures .0), in-range-tells _ (in-range-here l), small .0, small .1)
+    (lent-sound _ (e .edition .ensures .1) (s .args .t .now) (sound-is (else1 l)) _ _ (f .index-of .ensures .0) (o .if3 .left) _ _ (b .before .place .ensures .0) (b .place2 .ensures .0), inside (f .before .before), small .0, small .1)
 
 returns-4 : tie.Need-returns-4
 returns-4 c =
@@ -97,15 +102,15 @@ returns-4 c =
     let g1 = g2 .before .before in
     let o = g1 .before .before in
     let f = o .before .before in
-    let l = else2 o in
-    let r = l .before .before in
-    let e = edition (r .before) in
+    let r = f .before .before in
+    let l = r .before in
+    let e = edition (else1 l) in
     let s = e .before .before in
     let t = s .args .t .now in
     let n = s .args .n in
     answered-at _ (e .edition .ensures .1) t (f .index-of .result) _ _ (b .before .place .ensures .0) (b .place2 .ensures .0)
     (energyCall t n) (energyPart (r .read .result) (g1 .nondaily .result) (g2 .daily .result))
-    (energy-point _ (e .edition .ensures .1) t (e .edition .ensures .0) n (sound-is (r .before)) _ (r .read .ensures) (in-range-here l) _ (f .index-of .ensures .0) _ _ (g1 .nondaily .ensures) (g2 .daily .ensures) (o .if3 .left)) _ _
+    (energy-point _ (e .edition .ensures .1) t (e .edition .ensures .0) n (sound-is (else1 l)) (in-range-here l) _ (r .read .ensures) _ (f .index-of .ensures .0) _ _ (g1 .nondaily .ensures) (g2 .daily .ensures) (o .if3 .left)) _ _
     (c .before .enter .ensures)
 
 pub energy-spec : {M : Type 1} → statement M
@@ -114,8 +119,9 @@ energy-spec =
     (tie.spec
     (λ c κs. search needs) (λ c κs. search needs) (λ c. search needs)
     returns
-    (λ c κs. search needs) (λ c κs. search needs) (λ c. search needs)
+    (λ c κs. search needs) (λ c. search needs)
     returns-2
+    (λ c κs. search needs)
     index-of-requires
     (λ c. search needs)
     returns-3

@@ -1,26 +1,35 @@
-use borrow.Author.Needs.{needs}
+use mathlib.Core.Path.{_∙_}
+use borrow.Author.Needs.{needs, sfits-of}
+use lib.IntN.{pos}
+use lib.ListN.{getD}
+use Rattle.numbers.proofs.Naturals.{test-read}
+use Rattle.daybook.specs.Notices.{isRange}
 use Rattle.table.proofs.Laws.{body-is}
 use Rattle.table.proofs.body_sound.Statement.{statement}
 use Rattle.table.proofs.body_sound.Tie as tie
 
--- src/lib.rt:93:1
 returns : tie.Need-returns
 returns c =
-    let after-zeros-in = c .before .before .before in
-    let s = after-zeros-in .before .before .before .before in
-    body-is (s .args .ed) (s .args .t .now) (s .args .n) _ _ _ _ _ _ _ (s .pre .3)
-    (after-zeros-in .before .before .range-ok .ensures)
-    (after-zeros-in .before .range-ok2 .ensures)
-    (after-zeros-in .zeros-in .ensures)
+    let zeros = c .before .before .before in
+    let daily = zeros .before in
+    let nondaily = daily .before .before in
+    let s = nondaily .before .before .before in
+    let t = s .args .t .now in
+    body-is (s .args .ed) t (s .args .n) _ _ _ _ _ _ _ (s .pre .3)
+    (nondaily .is-range .ensures
+    ∙ test-read (getD t 1 (pos 0)) (sfits-of (nondaily .before .is-range-arg .given)) isRange)
+    (daily .is-range2 .ensures
+    ∙ test-read (getD t 2 (pos 0)) (sfits-of (daily .before .is-range-arg2 .given)) isRange)
+    (zeros .zeros-in .ensures)
     (c .before .before .parts-sound .ensures)
     (c .before .mirns-differ .ensures)
-    (after-zeros-in .before .before .before .place .ensures .0)
+    (nondaily .before .before .place .ensures .0)
     (c .zeros-in2 .ensures)
 
 pub body-sound-spec : {M : Type 1} → statement M
 body-sound-spec =
     tie.close
     (tie.spec
+    (λ c κs. search needs) (λ c. search needs) (λ c κs. search needs) (λ c. search needs) (λ c κs. search needs)
     (λ c κs. search needs) (λ c κs. search needs) (λ c κs. search needs) (λ c κs. search needs)
-    (λ c κs. search needs) (λ c κs. search needs) (λ c κs. search needs)
     returns)
