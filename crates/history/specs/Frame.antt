@@ -14,6 +14,7 @@ use Rattle.daybook.specs.declared.EnergyNotice.{EnergyNotice}
 use Rattle.daybook.specs.declared.StatusNotice.{StatusNotice}
 use Rattle.daybook.specs.declared.TransferRequest.{TransferRequest}
 use Rattle.daybook.specs.declared.Withdrawal.{Withdrawal}
+use Rattle.layout.specs.Places.{pointsPlace}
 use Rattle.layout.specs.Layout.{stride, placeOf, editionOf, numAt}
 use Rattle.table.specs.Lookup.{indexOf}
 use Rattle.opening.specs.Opening.{openCall}
@@ -31,7 +32,7 @@ ofPoint t mirn k = maybe false (λ i. inPart (editionOf t) i k) (indexOf (editio
 
 -- In the part of one more point, or the count of points?
 abbrev pub ofNewPoint : List ℤ → ℕ → Bool
-ofNewPoint t k = eqb k 0 || inPart (editionOf t) (numAt t 0) k
+ofNewPoint t k = eqb k pointsPlace || inPart (editionOf t) (numAt t pointsPlace) k
 
 -- The table t′ is as long as t, and has the same number at every place but the call's own.
 pub record Framed (own : ℕ → Bool) (t t′ : List ℤ) : Type 0 where
