@@ -94,7 +94,8 @@ pointsNumbers room (q ∷ qs) = pointNumbers room q ++ pointsNumbers room qs
 unfoldable pub layout : Edition → Register → List ℤ
 layout ed R =
     pad tableLength
-    (pad headerLength (pos (length (R .points)) ∷ R .nondaily ∷ R .daily ∷ []) ++ pointsNumbers (ed .records) (R .points))
+    (pad headerLength (pos (length (R .points)) ∷ R .nondaily ∷ R .daily ∷ [])
+    ++ pointsNumbers (ed .records) (R .points))
 
 -- ---- from numbers to lists
 
@@ -119,7 +120,8 @@ offsFrom (suc n) t = (numAt t 0, onOf (getD t 1 (pos 0))) ∷ offsFrom n (drop o
 unfoldable pub recsFrom : ℕ → List ℤ → List Entry
 recsFrom zero t = []
 recsFrom (suc n) t =
-    record { start = numAt t 0; end = numAt t 1; energy = getD t 2 (pos 0); type = numAt t 3 } ∷ recsFrom n (drop recLength t)
+    record { start = numAt t 0; end = numAt t 1; energy = getD t 2 (pos 0); type = numAt t 3 }
+    ∷ recsFrom n (drop recLength t)
 
 -- A pending User of 0 is none.
 abbrev pub pendingFrom : ℕ → ℕ → ℕ → Option Pending
