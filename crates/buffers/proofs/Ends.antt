@@ -13,7 +13,7 @@ use Rattle.numbers.proofs.Naturals.{natOf-is}
 use Rattle.words.specs.Words.{withNumber, withWord}
 use Rattle.words.specs.Tables.{encodedInto}
 use Rattle.daybook.specs.Notices.{Numbers, highestRefusal}
-use Rattle.buffers.specs.InnerBuffers.{bitsOf}
+use Rattle.words.specs.Words.{bitsOf}
 use Rattle.buffers.specs.Buffers.{withNumbers, replied, written}
 
 abbrev pub refusalOf : Numbers → ℕ

@@ -1,4 +1,3 @@
 -- Laws that the proofs of the functions cite, and those of the exported functions.
 mod Bytes
-mod Totals
 pub mod Ends

@@ -1,3 +1,2 @@
 -- What a call reads from byte buffers and leaves of them.
 pub mod Buffers
-pub mod InnerBuffers

@@ -5,17 +5,8 @@ ghost use mathlib.Core.List.{map};
 ghost use Prim.Native.Nat.{_*_, _/_, _≤_, min};
 ghost use lib.IntN.{pos};
 ghost use lib.ListN.{length, getD};
-ghost use Rattle.calendar.specs.Calendar.{dateNumbers};
 ghost use Rattle.daybook.specs.Notices.{highestRefusal};
-ghost use Rattle.daybook.specs.Calls.{noticeNumbers, energyNumbers, requestNumbers, accountNumbers, allocationNumbers};
 ghost use Rattle.buffers.specs.Buffers.{numbersIn, withNumbers, tableIn, replied, written};
-ghost use Rattle.buffers.specs.InnerBuffers.{bitsOf};
-use calendar::DateAnswer;
-use daybook::AccountAnswer;
-use daybook::AllocationAnswer;
-use daybook::EnergyAnswer;
-use daybook::NoticeAnswer;
-use daybook::RequestAnswer;
 
 // The first n numbers of the bytes, in t.
 pub fn numbers_in<'a, 'b>(bytes: &'a [u8], t: &'b mut [i64], n: usize) -> &'b mut [i64]
@@ -111,71 +102,4 @@ pub fn finish(buffer: &mut [u8], answer: &mut [u8], t: &[i64], numbers: &[u64]) 
         words::encode(t, 0, buffer, 0, t.len());
     }
     result
-}
-
-// The numbers of an answer, as their bits: the refusal, then the fields.
-pub fn notice_numbers(a: NoticeAnswer) -> [u64; 1]
-    ensures { λ r. ⌜ r ≡ bitsOf (noticeNumbers a) ⌝ }
-{
-    match a {
-        NoticeAnswer::Entered => [0],
-        NoticeAnswer::Refused(r) => [r],
-    }
-}
-
-pub fn energy_numbers(a: EnergyAnswer) -> [u64; 5]
-    ensures { λ r. ⌜ r ≡ bitsOf (energyNumbers a) ⌝ }
-{
-    match a {
-        EnergyAnswer::Entered {
-            which,
-            removed,
-            user,
-            lapsed,
-        } => [0, which, removed, user, lapsed],
-        EnergyAnswer::Refused(r) => [r, 0, 0, 0, 0],
-    }
-}
-
-pub fn request_numbers(a: RequestAnswer) -> [u64; 3]
-    ensures { λ r. ⌜ r ≡ bitsOf (requestNumbers a) ⌝ }
-{
-    match a {
-        RequestAnswer::Entered { first, last } => [0, first.0, last.0],
-        RequestAnswer::Refused(r) => [r, 0, 0],
-    }
-}
-
-pub fn date_numbers(a: DateAnswer) -> [u64; 2]
-    ensures { λ r. ⌜ r ≡ bitsOf (dateNumbers a) ⌝ }
-{
-    match a {
-        DateAnswer::OnDay(d) => [0, d.0],
-        DateAnswer::Refused(r) => [r, 0],
-    }
-}
-
-pub fn account_numbers(a: AccountAnswer) -> [u64; 2]
-    ensures { λ r. ⌜ r ≡ bitsOf (accountNumbers a) ⌝ }
-{
-    match a {
-        AccountAnswer::Given(sum) => [0, words::bits(sum)],
-        AccountAnswer::Refused(r) => [r, 0],
-    }
-}
-
-pub fn allocation_numbers(a: AllocationAnswer) -> [u64; 18]
-    ensures { λ r. ⌜ r ≡ bitsOf (allocationNumbers a) ⌝ }
-{
-    let nsl = a.nsl;
-    let totals = a.totals;
-    let mut numbers = [0u64; 18];
-    numbers[0] = a.refusal;
-    numbers[1] = words::bits(nsl);
-    let mut k = 0;
-    while k < 16 {
-        numbers[2 + k] = words::bits(totals[k]);
-        k += 1;
-    }
-    numbers
 }

@@ -1,9 +1,13 @@
 // The numbers of each call, in document 01's order, and its answer. Numbers come in by value, as any i64; an answer is
 // an enum, so that a refusal carries no field. Allocate's answer holds an array and so is a struct.
-// And the tests of these numbers; that of a day is calendar's.
+// And the tests of these numbers (that of a day is calendar's), and each answer as document 01's numbers.
+use calendar::DateAnswer;
 use calendar::Day;
 ghost use mathlib.Core.Path.{_≡_};
+ghost use Rattle.words.specs.Words.{bitsOf};
+ghost use Rattle.calendar.specs.Calendar.{dateNumbers};
 ghost use Rattle.daybook.specs.Notices.{isMirn, isUser, isFlag, isRange};
+ghost use Rattle.daybook.specs.Calls.{noticeNumbers, energyNumbers, requestNumbers, accountNumbers, allocationNumbers};
 
 // Beside the book stands the edition of the table: how many points it holds, and how many records of each.
 pub struct Edition {
@@ -124,4 +128,71 @@ pub fn is_range(x: i64) -> bool
     ensures { λ r. ⌜ r ≡ isRange x ⌝ }
 {
     (-1 <= x) & (x <= 1000000)
+}
+
+// The numbers of an answer, as their bits: the refusal, then the fields.
+pub fn notice_numbers(a: NoticeAnswer) -> [u64; 1]
+    ensures { λ r. ⌜ r ≡ bitsOf (noticeNumbers a) ⌝ }
+{
+    match a {
+        NoticeAnswer::Entered => [0],
+        NoticeAnswer::Refused(r) => [r],
+    }
+}
+
+pub fn energy_numbers(a: EnergyAnswer) -> [u64; 5]
+    ensures { λ r. ⌜ r ≡ bitsOf (energyNumbers a) ⌝ }
+{
+    match a {
+        EnergyAnswer::Entered {
+            which,
+            removed,
+            user,
+            lapsed,
+        } => [0, which, removed, user, lapsed],
+        EnergyAnswer::Refused(r) => [r, 0, 0, 0, 0],
+    }
+}
+
+pub fn request_numbers(a: RequestAnswer) -> [u64; 3]
+    ensures { λ r. ⌜ r ≡ bitsOf (requestNumbers a) ⌝ }
+{
+    match a {
+        RequestAnswer::Entered { first, last } => [0, first.0, last.0],
+        RequestAnswer::Refused(r) => [r, 0, 0],
+    }
+}
+
+pub fn date_numbers(a: DateAnswer) -> [u64; 2]
+    ensures { λ r. ⌜ r ≡ bitsOf (dateNumbers a) ⌝ }
+{
+    match a {
+        DateAnswer::OnDay(d) => [0, d.0],
+        DateAnswer::Refused(r) => [r, 0],
+    }
+}
+
+pub fn account_numbers(a: AccountAnswer) -> [u64; 2]
+    ensures { λ r. ⌜ r ≡ bitsOf (accountNumbers a) ⌝ }
+{
+    match a {
+        AccountAnswer::Given(sum) => [0, words::bits(sum)],
+        AccountAnswer::Refused(r) => [r, 0],
+    }
+}
+
+pub fn allocation_numbers(a: AllocationAnswer) -> [u64; 18]
+    ensures { λ r. ⌜ r ≡ bitsOf (allocationNumbers a) ⌝ }
+{
+    let nsl = a.nsl;
+    let totals = a.totals;
+    let mut numbers = [0u64; 18];
+    numbers[0] = a.refusal;
+    numbers[1] = words::bits(nsl);
+    let mut k = 0;
+    while k < 16 {
+        numbers[2 + k] = words::bits(totals[k]);
+        k += 1;
+    }
+    numbers
 }

@@ -34,7 +34,7 @@ pub extern "C" fn petlumas_fresh(
     let mut t = [0i64; 7688];
     let table = buffers::table_in(register, &mut t);
     let a = opening::fresh(table, n);
-    let numbers = buffers::notice_numbers(a);
+    let numbers = daybook::notice_numbers(a);
     buffers::finish(register, answer, table, &numbers)
 }
 
@@ -60,7 +60,7 @@ pub extern "C" fn petlumas_open(
     let mut t = [0i64; 7688];
     let table = buffers::table_in(register, &mut t);
     let a = opening::open(table, n);
-    let numbers = buffers::notice_numbers(a);
+    let numbers = daybook::notice_numbers(a);
     buffers::finish(register, answer, table, &numbers)
 }
 
@@ -88,7 +88,7 @@ pub extern "C" fn petlumas_energy(
     let mut t = [0i64; 7688];
     let table = buffers::table_in(register, &mut t);
     let a = energy::energy(table, n);
-    let numbers = buffers::energy_numbers(a);
+    let numbers = daybook::energy_numbers(a);
     buffers::finish(register, answer, table, &numbers)
 }
 
@@ -106,7 +106,7 @@ pub extern "C" fn petlumas_status(
     let mut t = [0i64; 7688];
     let table = buffers::table_in(register, &mut t);
     let a = status::status(table, n);
-    let numbers = buffers::notice_numbers(a);
+    let numbers = daybook::notice_numbers(a);
     buffers::finish(register, answer, table, &numbers)
 }
 
@@ -133,7 +133,7 @@ pub extern "C" fn petlumas_request(
     let mut list = [0i64; 513];
     let days = buffers::holidays_in(holidays, &mut list);
     let a = transfer::request(table, n, days);
-    let numbers = buffers::request_numbers(a);
+    let numbers = daybook::request_numbers(a);
     buffers::finish(register, answer, table, &numbers)
 }
 
@@ -150,7 +150,7 @@ pub extern "C" fn petlumas_withdraw(
     let mut t = [0i64; 7688];
     let table = buffers::table_in(register, &mut t);
     let a = transfer::withdraw(table, n);
-    let numbers = buffers::notice_numbers(a);
+    let numbers = daybook::notice_numbers(a);
     buffers::finish(register, answer, table, &numbers)
 }
 
@@ -168,7 +168,7 @@ pub extern "C" fn petlumas_account(
     let mut t = [0i64; 7688];
     let table = buffers::table_in(register, &mut t);
     let a = account::account(table, n);
-    let numbers = buffers::account_numbers(a);
+    let numbers = daybook::account_numbers(a);
     numbers::integer(buffers::reply(answer, &numbers))
 }
 
@@ -200,7 +200,7 @@ pub extern "C" fn petlumas_allocate(
     let mut list = [0i64; 32];
     let room = buffers::shares_in(shares, &mut list);
     let a = allocate::allocate(table, q, room);
-    let numbers = buffers::allocation_numbers(a);
+    let numbers = daybook::allocation_numbers(a);
     buffers::finish(shares, answer, room, &numbers)
 }
 
@@ -209,6 +209,6 @@ pub extern "C" fn petlumas_date(answer: &mut [u8], year: i64, month: i64, day: i
     ensures { λ r. ⌜ (r, now (answer .exit)) ≡ replied (dateCall year month day) (now (answer .entry)) ⌝ }
 {
     let a = calendar::date(YearMonthDay { year, month, day });
-    let numbers = buffers::date_numbers(a);
+    let numbers = daybook::date_numbers(a);
     numbers::integer(buffers::reply(answer, &numbers))
 }

@@ -1,6 +1,6 @@
 -- Numbers as bytes, little-endian. Assumes nothing.
 use Prim.Native.Nat.{ℕ, zero, suc, _+_, _*_, _/_, _%_}
-use mathlib.Core.List.{List}
+use mathlib.Core.List.{List, map}
 use lib.ListN.{getD, set}
 use lib.IntN.{ℤ}
 use mir.Syntax.{w64}
@@ -23,3 +23,7 @@ wordAt b at = toZ w64 (numberAt b at 8)
 -- b with the eight bytes of x from `at` on
 unfoldable pub withWord : List ℕ → ℕ → ℤ → List ℕ
 withWord b at x = withNumber b at 8 (ofZ w64 x)
+
+-- the 64 bits of each number, in two's complement
+abbrev pub bitsOf : List ℤ → List ℕ
+bitsOf xs = map (ofZ w64) xs

@@ -5,9 +5,9 @@ ghost use Prim.Native.Nat.{_+_, _*_, _<_, _≤_, _^_, _%_};
 ghost use lib.ListN.{length};
 ghost use mir.Syntax.{w64};
 ghost use mir.Val.{toZ, ofZ};
-ghost use Rattle.words.specs.Words.{numberAt, wordAt, withNumber, withWord};
+ghost use Rattle.words.specs.Words.{numberAt, wordAt, withNumber, withWord, bitsOf};
 ghost use Rattle.words.specs.Tables.{decodedInto, encodedInto};
-ghost use Rattle.words.specs.Sums.{sumsOf, wordsOf};
+ghost use Rattle.words.specs.Sums.{sumsOf};
 
 // A byte as a number.
 fn wide(x: u8) -> u64
@@ -133,7 +133,7 @@ pub struct Checksum {
 
 // The sums of a table's words.
 pub fn sums(t: &[i64]) -> Checksum
-    ensures { λ r. ⌜ (r .s1 ≡ sumsOf (wordsOf (now (t .entry))) .0) × (r .s2 ≡ sumsOf (wordsOf (now (t .entry))) .1) ⌝ }
+    ensures { λ r. ⌜ (r .s1 ≡ sumsOf (bitsOf (now (t .entry))) .0) × (r .s2 ≡ sumsOf (bitsOf (now (t .entry))) .1) ⌝ }
 {
     let mut s1: u64 = 0;
     let mut s2: u64 = 0;

@@ -3,7 +3,7 @@ use mir.Facts.{toZ-ofZ}
 use borrow.Author.Needs.{needs}
 use Rattle.daybook.specs.Notices.{Numbers}
 use Rattle.account.specs.Account.{accountCall}
-use Rattle.buffers.specs.InnerBuffers.{bitsOf}
+use Rattle.words.specs.Words.{bitsOf}
 use Rattle.buffers.specs.Buffers.{tableIn}
 use Rattle.buffers.proofs.Ends.{first-small, ended-reply}
 use Rattle.hub.proofs.Refusals.{account-small}

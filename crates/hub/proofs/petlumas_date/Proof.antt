@@ -3,7 +3,7 @@ use mir.Facts.{toZ-ofZ}
 use borrow.Author.Needs.{needs}
 use Rattle.calendar.specs.Calendar.{dateCall}
 use Rattle.daybook.specs.Notices.{Numbers}
-use Rattle.buffers.specs.InnerBuffers.{bitsOf}
+use Rattle.words.specs.Words.{bitsOf}
 use Rattle.buffers.proofs.Ends.{first-small, ended-reply}
 use Rattle.hub.proofs.Refusals.{date-small}
 use Rattle.hub.proofs.petlumas_date.Statement.{statement}

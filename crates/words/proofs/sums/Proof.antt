@@ -7,13 +7,14 @@ use mir.Facts.{toZ-ofZ}
 use mir.Syntax.{w64}
 use mir.Val.{ofZ}
 use borrow.Author.Needs.{needs}
-use Rattle.words.specs.Sums.{sumsFrom, sumsOf, wordsOf}
+use Rattle.words.specs.Sums.{sumsFrom, sumsOf}
+use Rattle.words.specs.Words.{bitsOf}
 use Rattle.words.proofs.Checks.{sums-more, sums-end}
 use Rattle.words.proofs.sums.Statement.{statement}
 use Rattle.words.proofs.sums.Tie as tie
 
 abbrev Inv-loop : tie.InvT-loop
-Inv-loop t s1₀ s2₀ k₀ s1 s2 k = (k ≤ length t) × (sumsFrom s1 s2 (drop k (wordsOf t)) ≡ sumsOf (wordsOf t))
+Inv-loop t s1₀ s2₀ k₀ s1 s2 k = (k ≤ length t) × (sumsFrom s1 s2 (drop k (bitsOf t)) ≡ sumsOf (bitsOf t))
 
 abbrev μ-loop : tie.MeasureT-loop
 μ-loop t s1₀ s2₀ k₀ s1 s2 k = length t - k

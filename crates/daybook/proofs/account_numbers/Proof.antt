@@ -4,10 +4,10 @@ use mir.Syntax.{w64}
 use mir.Val.{toZ, ofZ}
 use mir.Facts.{toZ-ofZ}
 use borrow.Author.Needs.{needs}
 use Rattle.daybook.specs.Calls.{accountNumbers}
-use Rattle.buffers.specs.InnerBuffers.{bitsOf}
-use Rattle.buffers.proofs.account_numbers.Statement.{statement}
-use Rattle.buffers.proofs.account_numbers.Tie as tie
+use Rattle.words.specs.Words.{bitsOf}
+use Rattle.daybook.proofs.account_numbers.Statement.{statement}
+use Rattle.daybook.proofs.account_numbers.Tie as tie
 
 returns : tie.Need-returns
 returns c =

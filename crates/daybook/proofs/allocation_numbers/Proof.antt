@@ -8,10 +8,10 @@ use mir.Facts.{toZ-ofZ}
 use mathlib.Core.List.{_∷_}
 use lib.IntN.{pos}
 use lib.ListN.{length, getD, replicate}
-use Rattle.buffers.specs.InnerBuffers.{bitsOf}
-use Rattle.buffers.proofs.Totals.{Filled, filled-two, filled-more, filled-all}
-use Rattle.buffers.proofs.allocation_numbers.Statement.{statement}
-use Rattle.buffers.proofs.allocation_numbers.Tie as tie
+use Rattle.words.specs.Words.{bitsOf}
+use Rattle.daybook.proofs.Totals.{Filled, filled-two, filled-more, filled-all}
+use Rattle.daybook.proofs.allocation_numbers.Statement.{statement}
+use Rattle.daybook.proofs.allocation_numbers.Tie as tie
 
 abbrev Inv-loop : tie.InvT-loop
 Inv-loop nsl totals numbers₀ k₀ numbers k =

@@ -10,7 +10,7 @@ use lib.ListN.{length, getD, set, length-map, List·getD-map}
 use lib.Seq.{ext-getD, getD-set-same, getD-set-other}
 use mir.Syntax.{w64}
 use mir.Val.{ofZ}
-use Rattle.buffers.specs.InnerBuffers.{bitsOf}
+use Rattle.words.specs.Words.{bitsOf}
 
 -- l holds two numbers and then the bits of ts, as far as n
 abbrev pub Filled : ℕ → ℕ → List ℤ → ℕ → List ℕ → Type 0

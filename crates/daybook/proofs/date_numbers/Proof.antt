@@ -1,9 +1,9 @@
 use mathlib.Core.Path.{sym, ap}
 use borrow.Author.Needs.{needs}
 use Rattle.calendar.specs.Calendar.{dateNumbers}
-use Rattle.buffers.specs.InnerBuffers.{bitsOf}
-use Rattle.buffers.proofs.date_numbers.Statement.{statement}
-use Rattle.buffers.proofs.date_numbers.Tie as tie
+use Rattle.words.specs.Words.{bitsOf}
+use Rattle.daybook.proofs.date_numbers.Statement.{statement}
+use Rattle.daybook.proofs.date_numbers.Tie as tie
 
 returns : tie.Need-returns
 returns c = sym (ap (λ a. bitsOf (dateNumbers a)) (c .before .a .given .1))

@@ -1,9 +1,9 @@
 use mathlib.Core.Path.{sym, ap}
 use borrow.Author.Needs.{needs}
 use Rattle.daybook.specs.Calls.{noticeNumbers}
-use Rattle.buffers.specs.InnerBuffers.{bitsOf}
-use Rattle.buffers.proofs.notice_numbers.Statement.{statement}
-use Rattle.buffers.proofs.notice_numbers.Tie as tie
+use Rattle.words.specs.Words.{bitsOf}
+use Rattle.daybook.proofs.notice_numbers.Statement.{statement}
+use Rattle.daybook.proofs.notice_numbers.Tie as tie
 
 returns : tie.Need-returns
 returns c = sym (ap (λ a. bitsOf (noticeNumbers a)) (c .enum-told .given .1))

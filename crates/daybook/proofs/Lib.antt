@@ -1,0 +1,2 @@
+-- Laws on which the proofs rest; each function's own proof stands in its folder.
+pub mod Totals
