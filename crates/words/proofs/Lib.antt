@@ -3,4 +3,5 @@ pub mod Numbers
 pub mod Words
 pub mod Tables
 pub mod Back
+mod Checks
 pub mod Signs

@@ -1,4 +1,4 @@
-// Little-endian words of 4 and 8 bytes; a signed word is two's complement.
+// Little-endian words of 4 and 8 bytes, and check sums of words; a signed word is two's complement.
 // Every `requires` is about lengths alone: callers (the hub's functions) test the lengths first.
 ghost use mathlib.Core.Path.{_≡_};
 ghost use Prim.Native.Nat.{_+_, _*_, _<_, _≤_, _^_, _%_};
@@ -7,6 +7,7 @@ ghost use mir.Syntax.{w64};
 ghost use mir.Val.{toZ, ofZ};
 ghost use Rattle.words.specs.Words.{numberAt, wordAt, withNumber, withWord};
 ghost use Rattle.words.specs.Tables.{decodedInto, encodedInto};
+ghost use Rattle.words.specs.Sums.{sumsOf, wordsOf};
 
 // A byte as a number.
 fn wide(x: u8) -> u64
@@ -122,4 +123,25 @@ pub fn encode(t: &[i64], from: usize, b: &mut [u8], at: usize, n: usize)
         put_word(b, at + 8 * k, t[from + k]);
         k += 1;
     }
+}
+
+// The sum of a run of words and the sum of those running sums, both modulo 2^64.
+pub struct Checksum {
+    pub s1: u64,
+    pub s2: u64,
+}
+
+// The sums of a table's words.
+pub fn sums(t: &[i64]) -> Checksum
+    ensures { λ r. ⌜ (r .s1 ≡ sumsOf (wordsOf (now (t .entry))) .0) × (r .s2 ≡ sumsOf (wordsOf (now (t .entry))) .1) ⌝ }
+{
+    let mut s1: u64 = 0;
+    let mut s2: u64 = 0;
+    let mut place = 0;
+    while place < t.len() {
+        s1 = std::num::wrapping_add_u64(s1, bits(t[place]));
+        s2 = std::num::wrapping_add_u64(s2, s1);
+        place += 1;
+    }
+    Checksum { s1, s2 }
 }
