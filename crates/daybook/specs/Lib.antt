@@ -4,3 +4,4 @@ pub mod Book
 pub mod Notices
 pub mod Queries
 pub mod Calls
+pub mod Conversions
