@@ -66,6 +66,7 @@ pub fn form_of(call: Call) -> Form
     }
 }
 
+// Number i of a line.
 fn number(nums: &[i64], i: usize) -> i64
     ensures { λ r. ⌜ r ≡ num (now (nums .entry)) i ⌝ }
 {
@@ -75,7 +76,7 @@ fn number(nums: &[i64], i: usize) -> i64
     0
 }
 
-// Number i of a line as a natural.
+// The same as a natural.
 pub fn natural(nums: &[i64], i: usize) -> u64
     ensures { λ r. ⌜ (r ≡ natOf (num (now (nums .entry)) i)) × (r ≤ 2 ^ 63) ⌝ }
 {
@@ -85,7 +86,7 @@ pub fn natural(nums: &[i64], i: usize) -> u64
     0
 }
 
-// The numbers up to the list, of a line of this form.
+// The numbers of a line up to its list.
 pub fn own_numbers(f: Form) -> usize
     requires { ⌜ f .takes ≤ 6 ⌝ }
     ensures { λ r. ⌜ (r ≡ ownNumbers f) × (r ≤ 7) ⌝ }
@@ -96,7 +97,7 @@ pub fn own_numbers(f: Form) -> usize
     f.takes
 }
 
-// All numbers.
+// All its numbers.
 fn size(f: Form, nums: &[i64]) -> u64
     requires { ⌜ f .takes ≤ 6 ⌝ }
     ensures { λ r. ⌜ r ≡ sizeOf f (now (nums .entry)) ⌝ }
@@ -117,6 +118,7 @@ pub fn counted(f: Form, nums: &[i64]) -> bool
     nums.len() as u64 == size(f, nums)
 }
 
+// The numbers of a call, which has six at most.
 fn six(nums: &[i64]) -> [i64; 6]
     ensures { λ r. ⌜ r ≡ sixOf (now (nums .entry)) ⌝ }
 {
@@ -130,6 +132,7 @@ fn six(nums: &[i64]) -> [i64; 6]
     ]
 }
 
+// A notice with the numbers a, through its exported function.
 fn notify(n: Notice, a: &[i64; 6], list: &[u8], register: &mut [u8], answer: &mut [u8]) -> i64
     ensures { λ r. ⌜ (r, (now (register .exit), now (answer .exit))) ≡ written (noticed n (tableIn (now (register .entry))) (now (a .entry)) (holidaysIn (now (list .entry)))) (now (register .entry)) (now (answer .entry)) ⌝ }
 {
@@ -145,6 +148,7 @@ fn notify(n: Notice, a: &[i64; 6], list: &[u8], register: &mut [u8], answer: &mu
     }
 }
 
+// And a query.
 fn ask(q: Query, a: &[i64; 6], register: &[u8], answer: &mut [u8], table: &mut [u8]) -> i64
     ensures { λ r. ⌜ (r, (now (table .exit), now (answer .exit))) ≡ written (asked q (tableIn (now (register .entry))) (now (a .entry)) (length (now (table .entry)) / 8)) (now (table .entry)) (now (answer .entry)) ⌝ }
 {

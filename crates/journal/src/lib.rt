@@ -28,8 +28,8 @@ pub enum Call {
     Query(Query),
 }
 
-// What a word of a journal asks for: a call, or a line of the journal's own. Lend is `tlen`, and Room is `alen`; the word
-// after `hub` names a call on bytes.
+// What a word of a journal asks for: a call, or a line of the journal's own. Lend is `tlen`, and Room is `alen`; the
+// word after `hub` names a call on bytes.
 pub enum Command {
     Call(Call),
     Look,

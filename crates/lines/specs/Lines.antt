@@ -1,5 +1,5 @@
--- What each line of a journal does on the register's buffer, as bytes: the text that it prints, and the buffer after it. A
--- line with another count of numbers, or with a number out of bounds, is no call, and does nothing.
+-- What each line of a journal does on the register's buffer, as bytes: the text that it prints and the buffer after it.
+-- A line with another count of numbers, or with a number out of bounds, is no call, and does nothing.
 use mathlib.Core.Bool.{Bool, cond, _&&_}
 use mathlib.Core.List.{List, [], _∷_, _++_}
 use mathlib.Core.Option.{Option, none, some}
@@ -64,8 +64,10 @@ acted l = (rowOf (numbersOf (l .answer) ++ numbersOf (l .table)), l .register)
 unfoldable pub callLine : Call → List ℕ → ℕ → List ℤ → LineResult
 callLine call lent room xs =
     let f : Form = formOf call in
-    let list : List ℤ = drop (ownNumbers f) xs in
-    let l : Left = called call xs (bytesOf list) lent (replicate (8 * f .gives) 0) (bytesOf (replicate (places f room) (negsuc 6))) in
+    let list : List ℕ = bytesOf (drop (ownNumbers f) xs) in
+    let answer : List ℕ = replicate (8 * f .gives) 0 in
+    let table : List ℕ = bytesOf (replicate (places f room) (negsuc 6)) in
+    let l : Left = called call xs list lent answer table in
     cond (eqb (length xs) (sizeOf f xs)) (some (acted l)) none
 
 -- ---- lines of the journal's own
@@ -83,7 +85,8 @@ lookLine lent xs =
 -- Sets one number of the register.
 unfoldable pub pokeLine : List ℕ → List ℤ → LineResult
 pokeLine b xs =
-    cond (ltb (natOf (num xs 0)) tableLength) (taking 2 xs (pos 0 ∷ [], withWord b (8 * natOf (num xs 0)) (num xs 1))) none
+    let place : ℕ = natOf (num xs 0) in
+    cond (ltb place tableLength) (taking 2 xs (pos 0 ∷ [], withWord b (8 * place) (num xs 1))) none
 
 -- The sums of the register, and the second one of the numbers past it.
 unfoldable pub tableLine : List ℕ → List ℤ → LineResult
@@ -143,7 +146,8 @@ unfoldable pub hubLine : Call → List ℕ → List ℤ → LineResult
 hubLine call b xs =
     let f : Form = formOf call in
     let n : ℕ = size xs 0 in
-    let l : Left = called call (drop (lengths f) xs) [] (take n b) (buffer (size xs 1)) (buffer (places f (size xs 2))) in
+    let table : List ℕ = buffer (places f (size xs 2)) in
+    let l : Left = called call (drop (lengths f) xs) [] (take n b) (buffer (size xs 1)) table in
     cond (lendable f xs) (onLent b n (some (showed f l))) none
 
 -- ---- what the code does

@@ -1,5 +1,5 @@
-// The lines of a journal: each takes its numbers, works on the bytes of the register's buffer and writes its text at place
-// `at` of the output. It answers the place after the text, or `at` where the line is no call.
+// The lines of a journal: each takes its numbers, works on the bytes of the register's buffer and writes its text at
+// place `at` of the output. It answers the place after the text, or `at` where the line is no call.
 ghost use mathlib.Core.List.{[], _++_};
 ghost use mathlib.Core.Option.{some};
 ghost use mathlib.Core.Path.{_≡_};
@@ -9,12 +9,15 @@ ghost use Rattle.buffers.specs.Buffers.{withNumbers};
 ghost use Rattle.printing.specs.Rows.{rowBytes, rowOf, Printed};
 ghost use Rattle.calls.specs.Calls.{called};
 ghost use Rattle.lines.specs.Lines.{bufferNumbers, bufferBytes, lineNumbers, mostRoom, mostBytes, numbersOf, places as Lines·places, acted, callLine, lookLine, pokeLine, tableLine, lineOf, lengths as Lines·lengths, lendable as Lines·lendable, shown, showed, hubLine, Played};
+ghost use Rattle.lines.specs.InnerLines.{answerBytes, tableBytes};
 use calls::Form;
 use journal::Call;
 use journal::Command;
 use printing::row;
 
 // The register's buffer: the register's numbers and sixteen past them.
+pub const REGISTER_NUMBERS: usize = 7688;
+
 pub const BUFFER_NUMBERS: usize = 7704;
 
 pub const BUFFER_BYTES: usize = 61632;
@@ -23,6 +26,13 @@ pub const BUFFER_BYTES: usize = 61632;
 pub const LINE_NUMBERS: usize = 4096;
 
 pub const MOST_ROOM: usize = 64;
+
+// The bytes of a call's list, of its answer and of its answer table at most.
+const LIST_BYTES: usize = 32768;
+
+const ANSWER_BYTES: usize = 144;
+
+const TABLE_BYTES: usize = 512;
 
 // The bytes of an answer or of an answer table at most, where a line says how many.
 const MOST_BYTES: usize = 300;
@@ -40,7 +50,7 @@ fn bytes_of<'a, 'b>(xs: &'a [i64], b: &'b mut [u8]) -> &'b mut [u8]
 
 // The row of an answer and an answer table.
 fn print_row(out: &mut [u8], at: usize, answer: &[u8], table: &[u8]) -> usize
-    requires { ⌜ (length (now answer) ≤ 144) × (length (now table) ≤ 512) × (at + rowBytes ≤ length (now out)) ⌝ }
+    requires { ⌜ (length (now answer) ≤ answerBytes) × (length (now table) ≤ tableBytes) × (at + rowBytes ≤ length (now out)) ⌝ }
     ensures { λ r. ⌜ (r ≤ at + rowBytes) × Printed (now (out .entry)) at (rowOf (numbersOf (now (answer .entry)) ++ numbersOf (now (table .entry)))) (now (out .exit)) r ⌝ }
 {
     let n = answer.len() / 8;
@@ -52,6 +62,7 @@ fn print_row(out: &mut [u8], at: usize, answer: &[u8], table: &[u8]) -> usize
     printing::signed_row(out, at, &numbers[0..end])
 }
 
+// The numbers of a call's answer table.
 fn places(f: Form, room: usize) -> usize
     ensures { λ r. ⌜ (r ≡ Lines·places f room) × (r ≤ room) ⌝ }
 {
@@ -72,7 +83,7 @@ fn act(
     out: &mut [u8],
     at: usize,
 ) -> usize
-    requires { ⌜ (length (now answer) ≤ 144) × (length (now table) ≤ 512) × (at + rowBytes ≤ length (now out)) ⌝ }
+    requires { ⌜ (length (now answer) ≤ answerBytes) × (length (now table) ≤ tableBytes) × (at + rowBytes ≤ length (now out)) ⌝ }
     ensures { λ r. ⌜ Played (some (acted (called call (now (nums .entry)) (now (list .entry)) (now (register .entry)) (now (answer .entry)) (now (table .entry))))) (now (register .entry)) (now (out .entry)) at (now (register .exit)) (now (out .exit)) r ⌝ }
 {
     calls::invoke(call, nums, list, register, answer, table);
@@ -98,9 +109,9 @@ fn call(
     let own = calls::own_numbers(f);
     let gives = 8 * f.gives;
     let shares = places(f, room);
-    let mut list = [0u8; 32768];
-    let mut answer = [0u8; 144];
-    let mut table = [0u8; 512];
+    let mut list = [0u8; LIST_BYTES];
+    let mut answer = [0u8; ANSWER_BYTES];
+    let mut table = [0u8; TABLE_BYTES];
     let sevens = [-7i64; MOST_ROOM];
     let days = bytes_of(&nums[own..], &mut list);
     let given = bytes_of(&sevens[0..shares], &mut table);
@@ -143,8 +154,8 @@ fn table(register: &[u8], nums: &[i64], out: &mut [u8], at: usize) -> usize
     let mut t = [0i64; BUFFER_NUMBERS];
     let numbers = buffers::numbers_in(register, &mut t, BUFFER_NUMBERS);
     let all = &numbers[..];
-    let s = words::sums(&all[0..7688]);
-    let past = words::sums(&all[7688..]);
+    let s = words::sums(&all[0..REGISTER_NUMBERS]);
+    let past = words::sums(&all[REGISTER_NUMBERS..]);
     row(out, at, &[0, s.s1, s.s2, past.s2])
 }
 
@@ -157,7 +168,7 @@ fn poke(register: &mut [u8], nums: &[i64], out: &mut [u8], at: usize) -> usize
         return at;
     }
     let place = numbers::get(nums, 0);
-    if 7688 <= place {
+    if REGISTER_NUMBERS as u64 <= place {
         return at;
     }
     words::put_word(register, 8 * place as usize, nums[1]);
@@ -187,6 +198,7 @@ pub fn answer(
     }
 }
 
+// How many lengths a line on bytes begins with.
 fn lengths(f: Form) -> usize
     ensures { λ r. ⌜ (r ≡ Lines·lengths f) × (r ≤ 3) ⌝ }
 {
@@ -196,6 +208,7 @@ fn lengths(f: Form) -> usize
     2
 }
 
+// Whether it has the numbers of its form, and lengths within their bounds.
 fn lendable(f: Form, nums: &[i64]) -> bool
     requires { ⌜ f .takes ≤ 6 ⌝ }
     ensures { λ r. ⌜ r ≡ Lines·lendable f (now (nums .entry)) ⌝ }

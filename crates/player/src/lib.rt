@@ -13,8 +13,8 @@ const LINE_BYTES: usize = 8192;
 const OUT_BYTES: usize = 16384;
 
 // Where a player stands: the numbers of the buffer that calls are lent, those of the answer table, the lines that have
-// ended, the bytes of the present line (one more than LINE_BYTES if it is longer), the bytes of output that wait, and whether input
-// may follow.
+// ended, the bytes of the present line (one more than LINE_BYTES if it is longer), the bytes of output that wait, and
+// whether input may follow.
 pub struct Standing {
     pub lent: usize,
     pub room: usize,
@@ -306,8 +306,8 @@ fn turn(
     flush(out, r)
 }
 
-// A proved loop has to end, and nothing says that the input does. So the loop counts its turns down, from a number that no
-// run uses up.
+// A proved loop has to end, and nothing says that the input does. So the loop counts its turns down, from a number that
+// no run uses up.
 fn follow(
     register: &mut [u8],
     line: &mut [u8],
@@ -336,7 +336,7 @@ fn mark(register: &mut [u8])
 {
     let mut i: usize = 0;
     while i < 16 {
-        words::put_number8(register, 8 * (7688 + i), 1000 + i as u64);
+        words::put_number8(register, 8 * (lines::REGISTER_NUMBERS + i), 1000 + i as u64);
         i += 1;
     }
 }
@@ -348,7 +348,7 @@ pub fn run() {
     let mut out = [0u8; OUT_BYTES];
     mark(&mut register);
     let start = Standing {
-        lent: 7688,
+        lent: lines::REGISTER_NUMBERS,
         room: 32,
         lines: 0,
         filled: 0,

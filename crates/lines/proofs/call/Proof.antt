@@ -23,12 +23,6 @@ returns c =
     let a = counted .before .before .before .before .args in
     nothing _ _ _ (not-counted (a .call) (a .nums .now) (counted .before .form-of .result) (counted .counted .result) (counted .before .form-of .ensures .is) (counted .counted .ensures) (a .register .now) (a .room) (c .if1 .taken))
 
-sub-bytes-of : tie.Need-sub-bytes-of
-sub-bytes-of c = omega (arith, fits c)
-
-part-bytes-of-start : tie.Need-part-bytes-of-start
-part-bytes-of-start c = omega (arith, fits c)
-
 returns-2 : tie.Need-returns-2
 returns-2 c =
     let after = c .before .before .before .before .before .before .before in
@@ -45,27 +39,12 @@ pub call-spec : {M : Type 1} → statement M
 call-spec =
     tie.close
     (tie.spec
-    (λ c κs. search needs)
-    (λ c κs. search needs)
+    (λ c κs. search needs) (λ c κs. search needs)
     returns
-    (λ c κs. search needs)
-    (λ c. search needs)
-    (λ c κs. search needs)
-    (λ c. search needs)
-    sub-bytes-of
-    part-bytes-of-start
-    (λ c. search needs)
-    (λ c. search needs)
-    (λ c κs. search needs)
-    (λ c. search needs)
-    (λ c. search needs)
-    (λ c. search needs)
-    (λ c. search needs)
-    (λ c κs. search needs)
-    (λ c. search needs)
-    (λ c. search needs)
-    (λ c. search needs)
-    (λ c κs. search needs)
-    (λ c. search needs)
-    (λ c. search needs)
+    (λ c κs. search needs) (λ c. search needs) (λ c κs. search needs) (λ c. search needs)
+    (λ c. omega (arith, fits c))
+    (λ c. omega (arith, fits c))
+    (λ c. search needs) (λ c. search needs) (λ c κs. search needs) (λ c. search needs) (λ c. search needs)
+    (λ c. search needs) (λ c. search needs) (λ c κs. search needs) (λ c. search needs) (λ c. search needs)
+    (λ c. search needs) (λ c κs. search needs) (λ c. search needs) (λ c. search needs)
     returns-2)

@@ -46,24 +46,6 @@ returns c =
     let a = test .before .before .before .before .args in
     nothing _ _ _ (not-lent (a .call) (a .nums .now) (test .before .form-of .result) (test .lendable .result) (test .before .form-of .ensures .is) (test .lendable .ensures) (a .register .now) (c .if1 .taken))
 
-mul-show : tie.Need-mul-show
-mul-show c = let h = start-fits c in search needs
-
-sub-show : tie.Need-sub-show
-sub-show c = let h = start-fits c in search needs
-
-part-show-start : tie.Need-part-show-start
-part-show-start c = let h = start-fits c in search needs
-
-part-show-end-2 : tie.Need-part-show-end-2
-part-show-end-2 c = let h = register-fits (c .before) in search needs
-
-part-answer-end : tie.Need-part-answer-end
-part-answer-end c = let h = answer-fits (c .before .before) in search needs
-
-part-table-end : tie.Need-part-table-end
-part-table-end c = let h = table-fits (c .before .before .before) in search needs
-
 show-requires : tie.Need-show-requires
 show-requires c κs =
     let place = c .before .before .before .before .before in
@@ -86,28 +68,18 @@ pub on-bytes-spec : {M : Type 1} → statement M
 on-bytes-spec =
     tie.close
     (tie.spec
-    (λ c κs. search needs)
-    (λ c κs. search needs)
+    (λ c κs. search needs) (λ c κs. search needs)
     returns
-    (λ c κs. search needs)
-    (λ c κs. search needs)
-    (λ c κs. search needs)
-    (λ c κs. search needs)
-    (λ c κs. search needs)
-    mul-show
-    sub-show
-    part-show-start
-    (λ c. search needs)
-    (λ c. search needs)
-    (λ c. search needs)
-    part-show-end-2
-    (λ c. search needs)
-    (λ c. search needs)
-    part-answer-end
-    (λ c. search needs)
-    (λ c. search needs)
-    part-table-end
+    (λ c κs. search needs) (λ c κs. search needs) (λ c κs. search needs) (λ c κs. search needs) (λ c κs. search needs)
+    (λ c. let h = start-fits c in search needs)
+    (λ c. let h = start-fits c in search needs)
+    (λ c. let h = start-fits c in search needs)
+    (λ c. search needs) (λ c. search needs) (λ c. search needs)
+    (λ c. let h = register-fits (c .before) in search needs)
+    (λ c. search needs) (λ c. search needs)
+    (λ c. let h = answer-fits (c .before .before) in search needs)
+    (λ c. search needs) (λ c. search needs)
+    (λ c. let h = table-fits (c .before .before .before) in search needs)
     show-requires
-    (λ c. search needs)
-    (λ c. search needs)
+    (λ c. search needs) (λ c. search needs)
     returns-2)
