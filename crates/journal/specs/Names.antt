@@ -1,10 +1,15 @@
--- Which call a word names.
+-- What a word asks for.
 use mathlib.Core.Bool.{Bool, true, false, _&&_}
 use mathlib.Core.List.{List, [], _∷_}
 use Prim.Native.Nat.{ℕ}
 use lib.Dec.{eqb}
+use Rattle.journal.specs.declared.Notice.{Notice}
+use Rattle.journal.specs.declared.Notice.the-variants as Notice·
+use Rattle.journal.specs.declared.Query.{Query}
+use Rattle.journal.specs.declared.Query.the-variants as Query·
+use Rattle.journal.specs.declared.Call.the-variants as Call·
 use Rattle.journal.specs.declared.Command.{Command}
-use Rattle.journal.specs.declared.Command.the-variants.{Fresh, Open, Energy, Status, Request, Withdraw, Account, Allocate, Date, Look, Table, Poke, Lend, Room, Hub, Unknown}
+use Rattle.journal.specs.declared.Command.the-variants.{Call, Look, Table, Poke, Lend, Room, Hub, Unknown}
 
 unfoldable pub sameBytes : List ℕ → List ℕ → Bool
 sameBytes [] [] = true
@@ -16,32 +21,49 @@ abbrev pub pick : Bool → Command → Command → Command
 pick true a b = a
 pick false a b = b
 
--- fresh, open, energy, status, request, withdraw
-abbrev pub noticeNamed : List ℕ → Command
-noticeNamed w =
-    (pick (sameBytes w (102 ∷ 114 ∷ 101 ∷ 115 ∷ 104 ∷ [])) Fresh
-    (pick (sameBytes w (111 ∷ 112 ∷ 101 ∷ 110 ∷ [])) Open
-    (pick (sameBytes w (101 ∷ 110 ∷ 101 ∷ 114 ∷ 103 ∷ 121 ∷ [])) Energy
-    (pick (sameBytes w (115 ∷ 116 ∷ 97 ∷ 116 ∷ 117 ∷ 115 ∷ [])) Status
-    (pick (sameBytes w (114 ∷ 101 ∷ 113 ∷ 117 ∷ 101 ∷ 115 ∷ 116 ∷ [])) Request
-    (pick (sameBytes w (119 ∷ 105 ∷ 116 ∷ 104 ∷ 100 ∷ 114 ∷ 97 ∷ 119 ∷ [])) Withdraw
-    Unknown))))))
+-- The rows below: what a word asks for if it is the name, else what the rows under it say.
+abbrev pub notice : List ℕ → List ℕ → Notice → Command → Command
+notice w name is other = pick (sameBytes w name) (Call (Call·.Notice is)) other
 
--- account, allocate, date, look, table; else a notice or none
-abbrev pub queryNamed : List ℕ → Command
-queryNamed w =
-    (pick (sameBytes w (97 ∷ 99 ∷ 99 ∷ 111 ∷ 117 ∷ 110 ∷ 116 ∷ [])) Account
-    (pick (sameBytes w (97 ∷ 108 ∷ 108 ∷ 111 ∷ 99 ∷ 97 ∷ 116 ∷ 101 ∷ [])) Allocate
-    (pick (sameBytes w (100 ∷ 97 ∷ 116 ∷ 101 ∷ [])) Date
-    (pick (sameBytes w (108 ∷ 111 ∷ 111 ∷ 107 ∷ [])) Look
-    (pick (sameBytes w (116 ∷ 97 ∷ 98 ∷ 108 ∷ 101 ∷ [])) Table
-    (noticeNamed w))))))
+abbrev pub query : List ℕ → List ℕ → Query → Command → Command
+query w name is other = pick (sameBytes w name) (Call (Call·.Query is)) other
 
--- poke, tlen, alen, hub; else one of those above or none
-abbrev pub commandNamed : List ℕ → Command
+-- withdraw, request, status, energy, open, fresh
+unfoldable pub noticeOr : List ℕ → Command → Command
+noticeOr w other =
+    (notice w (119 ∷ 105 ∷ 116 ∷ 104 ∷ 100 ∷ 114 ∷ 97 ∷ 119 ∷ []) Notice·.Withdraw
+    (notice w (114 ∷ 101 ∷ 113 ∷ 117 ∷ 101 ∷ 115 ∷ 116 ∷ []) Notice·.Request
+    (notice w (115 ∷ 116 ∷ 97 ∷ 116 ∷ 117 ∷ 115 ∷ []) Notice·.Status
+    (notice w (101 ∷ 110 ∷ 101 ∷ 114 ∷ 103 ∷ 121 ∷ []) Notice·.Energy
+    (notice w (111 ∷ 112 ∷ 101 ∷ 110 ∷ []) Notice·.Open
+    (notice w (102 ∷ 114 ∷ 101 ∷ 115 ∷ 104 ∷ []) Notice·.Fresh
+    other))))))
+
+-- date, allocate, account
+unfoldable pub queryOr : List ℕ → Command → Command
+queryOr w other =
+    (query w (100 ∷ 97 ∷ 116 ∷ 101 ∷ []) Query·.Date
+    (query w (97 ∷ 108 ∷ 108 ∷ 111 ∷ 99 ∷ 97 ∷ 116 ∷ 101 ∷ []) Query·.Allocate
+    (query w (97 ∷ 99 ∷ 99 ∷ 111 ∷ 117 ∷ 110 ∷ 116 ∷ []) Query·.Account
+    other)))
+
+-- a notice, a query; hub, alen, tlen, poke, table, look
+unfoldable pub commandNamed : List ℕ → Command
 commandNamed w =
-    (pick (sameBytes w (112 ∷ 111 ∷ 107 ∷ 101 ∷ [])) Poke
-    (pick (sameBytes w (116 ∷ 108 ∷ 101 ∷ 110 ∷ [])) Lend
-    (pick (sameBytes w (97 ∷ 108 ∷ 101 ∷ 110 ∷ [])) Room
+    noticeOr w
+    (queryOr w
     (pick (sameBytes w (104 ∷ 117 ∷ 98 ∷ [])) Hub
-    (queryNamed w)))))
+    (pick (sameBytes w (97 ∷ 108 ∷ 101 ∷ 110 ∷ [])) Room
+    (pick (sameBytes w (116 ∷ 108 ∷ 101 ∷ 110 ∷ [])) Lend
+    (pick (sameBytes w (112 ∷ 111 ∷ 107 ∷ 101 ∷ [])) Poke
+    (pick (sameBytes w (116 ∷ 97 ∷ 98 ∷ 108 ∷ 101 ∷ [])) Table
+    (pick (sameBytes w (108 ∷ 111 ∷ 111 ∷ 107 ∷ [])) Look
+    Unknown)))))))
+
+-- energy, allocate, account: the words that may follow `hub`
+unfoldable pub namedOnBytes : List ℕ → Command
+namedOnBytes w =
+    (notice w (101 ∷ 110 ∷ 101 ∷ 114 ∷ 103 ∷ 121 ∷ []) Notice·.Energy
+    (query w (97 ∷ 108 ∷ 108 ∷ 111 ∷ 99 ∷ 97 ∷ 116 ∷ 101 ∷ []) Query·.Allocate
+    (query w (97 ∷ 99 ∷ 99 ∷ 111 ∷ 117 ∷ 110 ∷ 116 ∷ []) Query·.Account
+    Unknown)))

@@ -1,22 +1,37 @@
-// The text of a journal: the words of a line, the call that its first word names, and numbers.
+// The text of a journal: the words of a line, what its first word asks for, and numbers.
 ghost use mathlib.Core.Path.{_≡_};
 ghost use Prim.Native.Nat.{_+_, _*_, _<_, _≤_};
 ghost use lib.ListN.{length, drop};
 ghost use Rattle.journal.specs.Text.{isDigit, valueOfDigits, nonNegative, negative as Text·negative, numberOf, valueOf, wordsOf, numbersOf, readInto, takenCount};
 ghost use Rattle.journal.specs.InnerText.{capped, Skipped, Ended};
-ghost use Rattle.journal.specs.Names.{sameBytes, noticeNamed, queryNamed, commandNamed};
+ghost use Rattle.journal.specs.Names.{sameBytes, pick as Names·pick, noticeOr, queryOr, commandNamed, namedOnBytes};
 
-// The calls of a journal. Lend is `tlen`, and Room is `alen`; the word after `hub` names a call on bytes.
-pub enum Command {
+// The notices, which may change a register.
+pub enum Notice {
     Fresh,
     Open,
     Energy,
     Status,
     Request,
     Withdraw,
+}
+
+// The calls that change none.
+pub enum Query {
     Account,
     Allocate,
     Date,
+}
+
+pub enum Call {
+    Notice(Notice),
+    Query(Query),
+}
+
+// What a word of a journal asks for: a call, or a line of the journal's own. Lend is `tlen`, and Room is `alen`; the
+// word after `hub` names a call on bytes.
+pub enum Command {
+    Call(Call),
     Look,
     Table,
     Poke,
@@ -153,69 +168,67 @@ fn same(a: &[u8], b: &[u8]) -> bool
     true
 }
 
-fn notice(w: &[u8]) -> Command
-    ensures { λ r. ⌜ r ≡ noticeNamed (now (w .entry)) ⌝ }
+// What a name stands for, if the word is that name; else another.
+fn pick(w: &[u8], name: &[u8], is: Command, other: Command) -> Command
+    ensures { λ r. ⌜ r ≡ Names·pick (sameBytes (now (w .entry)) (now (name .entry))) is other ⌝ }
 {
-    if same(w, b"fresh") {
-        return Command::Fresh;
+    if same(w, name) {
+        return is;
     }
-    if same(w, b"open") {
-        return Command::Open;
-    }
-    if same(w, b"energy") {
-        return Command::Energy;
-    }
-    if same(w, b"status") {
-        return Command::Status;
-    }
-    if same(w, b"request") {
-        return Command::Request;
-    }
-    if same(w, b"withdraw") {
-        return Command::Withdraw;
-    }
-    Command::Unknown
+    other
 }
 
-// The calls that change nothing, and the notices.
-fn query(w: &[u8]) -> Command
-    ensures { λ r. ⌜ r ≡ queryNamed (now (w .entry)) ⌝ }
+fn pick_notice(w: &[u8], name: &[u8], is: Notice, other: Command) -> Command
+    ensures { λ r. ⌜ r ≡ Names·pick (sameBytes (now (w .entry)) (now (name .entry))) (Command.Call (Call.Notice is)) other ⌝ }
 {
-    if same(w, b"account") {
-        return Command::Account;
-    }
-    if same(w, b"allocate") {
-        return Command::Allocate;
-    }
-    if same(w, b"date") {
-        return Command::Date;
-    }
-    if same(w, b"look") {
-        return Command::Look;
-    }
-    if same(w, b"table") {
-        return Command::Table;
-    }
-    notice(w)
+    pick(w, name, Command::Call(Call::Notice(is)), other)
 }
 
-// The call that a word names.
+fn pick_query(w: &[u8], name: &[u8], is: Query, other: Command) -> Command
+    ensures { λ r. ⌜ r ≡ Names·pick (sameBytes (now (w .entry)) (now (name .entry))) (Command.Call (Call.Query is)) other ⌝ }
+{
+    pick(w, name, Command::Call(Call::Query(is)), other)
+}
+
+fn notice_or(w: &[u8], other: Command) -> Command
+    ensures { λ r. ⌜ r ≡ noticeOr (now (w .entry)) other ⌝ }
+{
+    let c = pick_notice(w, b"fresh", Notice::Fresh, other);
+    let c = pick_notice(w, b"open", Notice::Open, c);
+    let c = pick_notice(w, b"energy", Notice::Energy, c);
+    let c = pick_notice(w, b"status", Notice::Status, c);
+    let c = pick_notice(w, b"request", Notice::Request, c);
+    pick_notice(w, b"withdraw", Notice::Withdraw, c)
+}
+
+fn query_or(w: &[u8], other: Command) -> Command
+    ensures { λ r. ⌜ r ≡ queryOr (now (w .entry)) other ⌝ }
+{
+    let c = pick_query(w, b"account", Query::Account, other);
+    let c = pick_query(w, b"allocate", Query::Allocate, c);
+    pick_query(w, b"date", Query::Date, c)
+}
+
+// What a word asks for.
 pub fn named(w: &[u8]) -> Command
     ensures { λ r. ⌜ r ≡ commandNamed (now (w .entry)) ⌝ }
 {
-    if same(w, b"poke") {
-        return Command::Poke;
-    }
-    if same(w, b"tlen") {
-        return Command::Lend;
-    }
-    if same(w, b"alen") {
-        return Command::Room;
-    }
-    if same(w, b"hub") {
-        return Command::Hub;
-    }
-    query(w)
+    let c = pick(w, b"look", Command::Look, Command::Unknown);
+    let c = pick(w, b"table", Command::Table, c);
+    let c = pick(w, b"poke", Command::Poke, c);
+    let c = pick(w, b"tlen", Command::Lend, c);
+    let c = pick(w, b"alen", Command::Room, c);
+    let c = pick(w, b"hub", Command::Hub, c);
+    notice_or(w, query_or(w, c))
+}
+
+// What the word after `hub` asks for.
+pub fn named_on_bytes(w: &[u8]) -> Command
+    ensures { λ r. ⌜ r ≡ namedOnBytes (now (w .entry)) ⌝ }
+{
+    let c = pick_query(w, b"account", Query::Account, Command::Unknown);
+    let c = pick_query(w, b"allocate", Query::Allocate, c);
+    pick_notice(w, b"energy", Notice::Energy, c)
 }
 
 // Reads the words from at on as numbers.

@@ -4,24 +4,33 @@ use mathlib.Core.Path.{_≡_}
 use Prim.Native.Nat.{ℕ, _+_, _≤_}
 use lib.IntN.{ℤ}
 use lib.ListN.{length}
+use Rattle.printing.specs.Rows.{rowBytes}
+use Rattle.lines.specs.Lines.{bufferNumbers, bufferBytes, lineNumbers, mostRoom}
 use Rattle.player.specs.declared.Standing.{Standing}
+
+-- The bytes of a line and those of the output.
+abbrev pub lineBytes : ℕ
+lineBytes = 8192
+
+abbrev pub outBytes : ℕ
+outBytes = 16384
 
 -- The output has room for one more row.
 pub record Ready (s : Standing) : Type 0 where
-  pub lent : s .lent ≤ 7704
-  pub room : s .room ≤ 64
-  pub filled : s .filled ≤ 8193
-  pub one-more : s .at ≤ 14336
+  pub lent : s .lent ≤ bufferNumbers
+  pub room : s .room ≤ mostRoom
+  pub filled : s .filled ≤ lineBytes + 1
+  pub one-more : s .at + rowBytes ≤ outBytes
 
--- Where a line leaves a player that was ready: a row has at most 2,048 bytes.
+-- Where a line leaves a player that was ready.
 pub record Answered (s r : Standing) : Type 0 where
-  pub lent : r .lent ≤ 7704
-  pub room : r .room ≤ 64
-  pub row : r .at ≤ s .at + 2048
+  pub lent : r .lent ≤ bufferNumbers
+  pub room : r .room ≤ mostRoom
+  pub row : r .at ≤ s .at + rowBytes
 
 -- The buffers: the register's, a line's, that of a line's numbers and the output's.
-pub record Sized (t : List ℤ) (line : List ℕ) (nums : List ℤ) (out : List ℕ) : Type 0 where
-  pub of-t : length t ≡ 7704
-  pub of-line : length line ≡ 8192
-  pub of-nums : length nums ≡ 4096
-  pub of-out : length out ≡ 16384
+pub record Sized (register line : List ℕ) (nums : List ℤ) (out : List ℕ) : Type 0 where
+  pub of-register : length register ≡ bufferBytes
+  pub of-line : length line ≡ lineBytes
+  pub of-nums : length nums ≡ lineNumbers
+  pub of-out : length out ≡ outBytes

@@ -2,13 +2,19 @@
 ghost use mathlib.Core.Path.{_≡_};
 ghost use Prim.Native.Nat.{_+_, _≤_};
 ghost use lib.ListN.{length};
-ghost use Rattle.player.specs.InnerReady.{Ready, Answered, Sized};
+ghost use Rattle.lines.specs.Lines.{bufferBytes, lineNumbers};
+ghost use Rattle.player.specs.InnerReady.{lineBytes, outBytes, Ready, Answered, Sized};
 use journal::Command;
 use journal::Taken;
 
+// The buffers of a line and of the output.
+const LINE_BYTES: usize = 8192;
+
+const OUT_BYTES: usize = 16384;
+
 // Where a player stands: the numbers of the buffer that calls are lent, those of the answer table, the lines that have
-// ended, the bytes of the present line (8,193 if it is longer than 8,192), the bytes of output that wait, and whether input
-// may follow.
+// ended, the bytes of the present line (one more than LINE_BYTES if it is longer), the bytes of output that wait, and
+// whether input may follow.
 pub struct Standing {
     pub lent: usize,
     pub room: usize,
@@ -28,11 +34,11 @@ fn only_number(nums: &[i64]) -> u64 {
 
 // The call tlen.
 fn set_lent(nums: &[i64], out: &mut [u8], s: Standing) -> Standing
-    requires { ⌜ Ready s × (length (now out) ≡ 16384) ⌝ }
+    requires { ⌜ Ready s × (length (now out) ≡ outBytes) ⌝ }
     ensures { λ r. ⌜ Answered s r ⌝ }
 {
     let n = only_number(nums);
-    if 7704 < n {
+    if n > lines::BUFFER_NUMBERS as u64 {
         return s;
     }
     let at = s.at;
@@ -44,11 +50,11 @@ fn set_lent(nums: &[i64], out: &mut [u8], s: Standing) -> Standing
 
 // The call alen.
 fn set_room(nums: &[i64], out: &mut [u8], s: Standing) -> Standing
-    requires { ⌜ Ready s × (length (now out) ≡ 16384) ⌝ }
+    requires { ⌜ Ready s × (length (now out) ≡ outBytes) ⌝ }
     ensures { λ r. ⌜ Answered s r ⌝ }
 {
     let n = only_number(nums);
-    if 64 < n {
+    if n > lines::MOST_ROOM as u64 {
         return s;
     }
     let at = s.at;
@@ -58,12 +64,18 @@ fn set_room(nums: &[i64], out: &mut [u8], s: Standing) -> Standing
     r
 }
 
-// Any call, with the numbers of its line.
-fn obey(call: Command, t: &mut [i64], nums: &[i64], out: &mut [u8], s: Standing) -> Standing
-    requires { ⌜ Ready s × (length (now t) ≡ 7704) × (length (now out) ≡ 16384) ⌝ }
+// Any line but those on bytes, with its numbers.
+fn obey(
+    command: Command,
+    register: &mut [u8],
+    nums: &[i64],
+    out: &mut [u8],
+    s: Standing,
+) -> Standing
+    requires { ⌜ Ready s × (length (now register) ≡ bufferBytes) × (length (now nums) ≤ lineNumbers) × (length (now out) ≡ outBytes) ⌝ }
     ensures { λ r. ⌜ Answered s r ⌝ }
 {
-    match call {
+    match command {
         Command::Lend => set_lent(nums, out, s),
         Command::Room => set_room(nums, out, s),
         _ => {
@@ -71,72 +83,75 @@ fn obey(call: Command, t: &mut [i64], nums: &[i64], out: &mut [u8], s: Standing)
             let room = s.room;
             let at = s.at;
             let mut r = s;
-            r.at = dispatch::answer(call, t, lent, room, nums, out, at);
+            r.at = lines::answer(command, register, lent, room, nums, out, at);
             r
         }
     }
 }
 
-// The call that a word of a line names, and the word's end.
 struct Word {
-    call: Command,
+    start: usize,
     end: usize,
 }
 
+// The first word from at on.
 fn first_word(line: &[u8], at: usize) -> Word
     requires { ⌜ at ≤ length (now line) ⌝ }
-    ensures { λ r. ⌜ r .end ≤ length (now (line .entry)) ⌝ }
+    ensures { λ r. ⌜ (r .start ≤ r .end) × (r .end ≤ length (now (line .entry))) ⌝ }
 {
     let start = journal::skip(line, at);
     let end = journal::word_end(line, start);
-    let call = journal::named(&line[start..end]);
-    Word { call, end }
+    Word { start, end }
 }
 
 // A call on bytes. The first word from at on names it.
 fn on_bytes(
-    t: &mut [i64],
+    register: &mut [u8],
     line: &[u8],
     at: usize,
     nums: &mut [i64],
     out: &mut [u8],
     s: Standing,
 ) -> Standing
-    requires { ⌜ Ready s × (at ≤ length (now line)) × (length (now t) ≡ 7704) × (length (now line) ≤ 8192) × (length (now nums) ≡ 4096) × (length (now out) ≡ 16384) ⌝ }
+    requires { ⌜ Ready s × (at ≤ length (now line)) × (length (now register) ≡ bufferBytes) × (length (now line) ≤ lineBytes) × (length (now nums) ≡ lineNumbers) × (length (now out) ≡ outBytes) ⌝ }
     ensures { λ r. ⌜ Answered s r ⌝ }
 {
     let word = first_word(line, at);
+    let start = word.start;
     let end = word.end;
-    let call = word.call;
+    let Command::Call(call) = journal::named_on_bytes(&line[start..end]) else {
+        return s;
+    };
     let Taken::Count(n) = journal::take_numbers(line, end, nums) else {
         return s;
     };
     let from = s.at;
     let mut r = s;
-    r.at = hublines::answer(call, t, &nums[0..n], out, from);
+    r.at = lines::on_bytes(call, register, &nums[0..n], out, from);
     r
 }
 
 // A line that has a word. It is left alone, with no row, where it is no call.
-fn call(t: &mut [i64], line: &[u8], nums: &mut [i64], out: &mut [u8], s: Standing) -> Standing
-    requires { ⌜ Ready s × (length (now t) ≡ 7704) × (length (now line) ≤ 8192) × (length (now nums) ≡ 4096) × (length (now out) ≡ 16384) ⌝ }
+fn call(register: &mut [u8], line: &[u8], nums: &mut [i64], out: &mut [u8], s: Standing) -> Standing
+    requires { ⌜ Ready s × (length (now register) ≡ bufferBytes) × (length (now line) ≤ lineBytes) × (length (now nums) ≡ lineNumbers) × (length (now out) ≡ outBytes) ⌝ }
     ensures { λ r. ⌜ Answered s r ⌝ }
 {
     let word = first_word(line, 0);
+    let start = word.start;
     let end = word.end;
-    let call = word.call;
-    if let Command::Hub = call {
-        return on_bytes(t, line, end, nums, out, s);
+    let command = journal::named(&line[start..end]);
+    if let Command::Hub = command {
+        return on_bytes(register, line, end, nums, out, s);
     }
     let Taken::Count(n) = journal::take_numbers(line, end, nums) else {
         return s;
     };
-    obey(call, t, &nums[0..n], out, s)
+    obey(command, register, &nums[0..n], out, s)
 }
 
-// A line of at most 8,192 bytes, which is the next after those that have ended.
-fn play(t: &mut [i64], line: &[u8], nums: &mut [i64], out: &mut [u8], s: Standing) -> Standing
-    requires { ⌜ Ready s × (length (now t) ≡ 7704) × (length (now line) ≤ 8192) × (length (now nums) ≡ 4096) × (length (now out) ≡ 16384) ⌝ }
+// A line of at most LINE_BYTES, which is the next after those that have ended.
+fn play(register: &mut [u8], line: &[u8], nums: &mut [i64], out: &mut [u8], s: Standing) -> Standing
+    requires { ⌜ Ready s × (length (now register) ≡ bufferBytes) × (length (now line) ≤ lineBytes) × (length (now nums) ≡ lineNumbers) × (length (now out) ≡ outBytes) ⌝ }
     ensures { λ r. ⌜ Answered s r ⌝ }
 {
     if journal::skip(line, 0) == line.len() {
@@ -145,7 +160,7 @@ fn play(t: &mut [i64], line: &[u8], nums: &mut [i64], out: &mut [u8], s: Standin
     if line[0] == b'#' {
         return s;
     }
-    let played = call(t, line, nums, out, s);
+    let played = call(register, line, nums, out, s);
     if played.at == s.at {
         return unknown(out, s);
     }
@@ -154,7 +169,7 @@ fn play(t: &mut [i64], line: &[u8], nums: &mut [i64], out: &mut [u8], s: Standin
 
 // A line that is no call.
 fn unknown(out: &mut [u8], s: Standing) -> Standing
-    requires { ⌜ Ready s × (length (now out) ≡ 16384) ⌝ }
+    requires { ⌜ Ready s × (length (now out) ≡ outBytes) ⌝ }
     ensures { λ r. ⌜ Answered s r ⌝ }
 {
     let at = s.at;
@@ -179,31 +194,37 @@ fn flush(out: &[u8], s: Standing) -> Standing
 
 // The line that the buffer holds.
 fn play_filled(
-    t: &mut [i64],
+    register: &mut [u8],
     line: &[u8],
     nums: &mut [i64],
     out: &mut [u8],
     s: Standing,
 ) -> Standing
-    requires { ⌜ Ready s × Sized (now t) (now line) (now nums) (now out) ⌝ }
+    requires { ⌜ Ready s × Sized (now register) (now line) (now nums) (now out) ⌝ }
     ensures { λ r. ⌜ Answered s r ⌝ }
 {
     let filled = s.filled;
-    if 8192 < filled {
+    if LINE_BYTES < filled {
         return unknown(out, s);
     }
-    play(t, &line[0..filled], nums, out, s)
+    play(register, &line[0..filled], nums, out, s)
 }
 
 // The line has ended.
-fn end_line(t: &mut [i64], line: &[u8], nums: &mut [i64], out: &mut [u8], s: Standing) -> Standing
-    requires { ⌜ Ready s × Sized (now t) (now line) (now nums) (now out) ⌝ }
+fn end_line(
+    register: &mut [u8],
+    line: &[u8],
+    nums: &mut [i64],
+    out: &mut [u8],
+    s: Standing,
+) -> Standing
+    requires { ⌜ Ready s × Sized (now register) (now line) (now nums) (now out) ⌝ }
     ensures { λ r. ⌜ Ready r ⌝ }
 {
-    let mut r = play_filled(t, line, nums, out, s);
+    let mut r = play_filled(register, line, nums, out, s);
     r.lines = std::num::wrapping_add_u64(s.lines, 1);
     r.filled = 0;
-    if 14336 < r.at {
+    if OUT_BYTES - printing::ROW_BYTES < r.at {
         return flush(out, r);
     }
     r
@@ -211,60 +232,66 @@ fn end_line(t: &mut [i64], line: &[u8], nums: &mut [i64], out: &mut [u8], s: Sta
 
 // One more byte of the line; of a line that is too long the rest is dropped.
 fn keep(line: &mut [u8], s: Standing, b: u8) -> Standing
-    requires { ⌜ Ready s × (length (now line) ≡ 8192) ⌝ }
+    requires { ⌜ Ready s × (length (now line) ≡ lineBytes) ⌝ }
     ensures { λ r. ⌜ Ready r ⌝ }
 {
     let filled = s.filled;
     let mut r = s;
-    if filled < 8192 {
+    if filled < LINE_BYTES {
         line[filled] = b;
         r.filled = filled + 1;
         return r;
     }
-    r.filled = 8193;
+    r.filled = LINE_BYTES + 1;
     r
 }
 
 fn byte(
-    t: &mut [i64],
+    register: &mut [u8],
     line: &mut [u8],
     nums: &mut [i64],
     out: &mut [u8],
     s: Standing,
     b: u8,
 ) -> Standing
-    requires { ⌜ Ready s × Sized (now t) (now line) (now nums) (now out) ⌝ }
+    requires { ⌜ Ready s × Sized (now register) (now line) (now nums) (now out) ⌝ }
     ensures { λ r. ⌜ Ready r ⌝ }
 {
     if b == b'\n' {
-        return end_line(t, line, nums, out, s);
+        return end_line(register, line, nums, out, s);
     }
     keep(line, s, b)
 }
 
 fn walk(
-    t: &mut [i64],
+    register: &mut [u8],
     line: &mut [u8],
     nums: &mut [i64],
     out: &mut [u8],
     s: Standing,
     chunk: &[u8],
 ) -> Standing
-    requires { ⌜ Ready s × Sized (now t) (now line) (now nums) (now out) ⌝ }
+    requires { ⌜ Ready s × Sized (now register) (now line) (now nums) (now out) ⌝ }
     ensures { λ r. ⌜ Ready r ⌝ }
 {
     let mut r = s;
     let mut i = 0;
     while i < chunk.len() {
-        r = byte(t, line, nums, out, r, chunk[i]);
+        r = byte(register, line, nums, out, r, chunk[i]);
         i += 1;
     }
     r
 }
 
 // Reads once, plays the lines that end, and writes their rows: who types a line sees its row.
-fn turn(t: &mut [i64], line: &mut [u8], nums: &mut [i64], out: &mut [u8], s: Standing) -> Standing
-    requires { ⌜ Ready s × Sized (now t) (now line) (now nums) (now out) ⌝ }
+fn turn(
+    register: &mut [u8],
+    line: &mut [u8],
+    nums: &mut [i64],
+    out: &mut [u8],
+    s: Standing,
+) -> Standing
+    requires { ⌜ Ready s × Sized (now register) (now line) (now nums) (now out) ⌝ }
     ensures { λ r. ⌜ Ready r ⌝ }
 {
     let mut chunk = io::large_buffer();
@@ -275,20 +302,26 @@ fn turn(t: &mut [i64], line: &mut [u8], nums: &mut [i64], out: &mut [u8], s: Sta
         return r;
     }
     let n = io::count(got, &chunk);
-    let r = walk(t, line, nums, out, s, &chunk[..n]);
+    let r = walk(register, line, nums, out, s, &chunk[..n]);
     flush(out, r)
 }
 
-// A proved loop has to end, and nothing says that the input does. So the loop counts its turns down, from a number that no
-// run uses up.
-fn follow(t: &mut [i64], line: &mut [u8], nums: &mut [i64], out: &mut [u8], s: Standing) -> Standing
-    requires { ⌜ Ready s × Sized (now t) (now line) (now nums) (now out) ⌝ }
+// A proved loop has to end, and nothing says that the input does. So the loop counts its turns down, from a number that
+// no run uses up.
+fn follow(
+    register: &mut [u8],
+    line: &mut [u8],
+    nums: &mut [i64],
+    out: &mut [u8],
+    s: Standing,
+) -> Standing
+    requires { ⌜ Ready s × Sized (now register) (now line) (now nums) (now out) ⌝ }
     ensures { λ r. ⌜ Ready r ⌝ }
 {
     let mut r = s;
     let mut turns = u64::MAX;
     while turns > 0 {
-        r = turn(t, line, nums, out, r);
+        r = turn(register, line, nums, out, r);
         if !r.more {
             return r;
         }
@@ -298,33 +331,33 @@ fn follow(t: &mut [i64], line: &mut [u8], nums: &mut [i64], out: &mut [u8], s: S
 }
 
 // The sixteen numbers past the register.
-fn mark(t: &mut [i64])
-    requires { ⌜ length (now t) ≡ 7704 ⌝ }
+fn mark(register: &mut [u8])
+    requires { ⌜ length (now register) ≡ bufferBytes ⌝ }
 {
     let mut i: usize = 0;
     while i < 16 {
-        numbers::put(t, 7688 + i, 1000 + i as u64);
+        words::put_number8(register, 8 * (lines::REGISTER_NUMBERS + i), 1000 + i as u64);
         i += 1;
     }
 }
 
 pub fn run() {
-    let mut t = [0i64; 7704];
-    let mut line = [0u8; 8192];
-    let mut nums = [0i64; 4096];
-    let mut out = [0u8; 16384];
-    mark(&mut t);
+    let mut register = [0u8; lines::BUFFER_BYTES];
+    let mut line = [0u8; LINE_BYTES];
+    let mut nums = [0i64; lines::LINE_NUMBERS];
+    let mut out = [0u8; OUT_BYTES];
+    mark(&mut register);
     let start = Standing {
-        lent: 7688,
+        lent: lines::REGISTER_NUMBERS,
         room: 32,
         lines: 0,
         filled: 0,
         at: 0,
         more: true,
     };
-    let s = follow(&mut t, &mut line, &mut nums, &mut out, start);
+    let s = follow(&mut register, &mut line, &mut nums, &mut out, start);
     if 0 < s.filled {
-        let last = end_line(&mut t, &line, &mut nums, &mut out, s);
+        let last = end_line(&mut register, &line, &mut nums, &mut out, s);
         flush(&out, last);
     }
 }

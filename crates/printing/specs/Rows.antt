@@ -8,6 +8,10 @@ use lib.IntN.{ℤ, pos, negsuc}
 use lib.ListN.{take}
 use Rattle.io.specs.Digits.{glyph}
 
+-- The room that is kept for a row.
+abbrev pub rowBytes : ℕ
+rowBytes = 2048
+
 -- n in base ten, if f digits hold it.
 unfoldable pub decimalWithin : ℕ → ℕ → List ℕ
 decimalWithin zero n = []

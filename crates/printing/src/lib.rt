@@ -9,6 +9,9 @@ ghost use lib.ListN.{length, take};
 ghost use Rattle.io.specs.Digits.{glyph};
 ghost use Rattle.printing.specs.Rows.{decimalOf, textOf, rowOf, unknownOf, hexDigits, hexOf, Printed};
 
+// The room that a caller keeps for a row.
+pub const ROW_BYTES: usize = 2048;
+
 fn copy(text: &[u8], out: &mut [u8], at: usize)
     requires { ⌜ at + length (now text) ≤ length (now out) ⌝ }
     ensures { λ _. ⌜ take (at + length (now (text .entry))) (now (out .exit)) ≡ take at (now (out .entry)) ++ now (text .entry) ⌝ }

@@ -10,12 +10,22 @@ part-obey-end c =
     let after-n = c .before .before .before in
     omega (arith, ap takenCount (after-n .n .given .1), after-n .before .before .before .take-numbers .ensures .1)
 
+obey-requires : tie.Need-obey-requires
+obey-requires c κs =
+    let after-n = c .before .before .before .before .before in
+    let e = ap takenCount (after-n .n .given .1) in
+    let h = after-n .before .before .before .take-numbers .ensures .1 in
+    search needs
+
 pub call-spec : {M : Type 1} → statement M
 call-spec =
     tie.close
     (tie.spec
-    (λ c κs. search needs) (λ c. search needs) (λ c κs. search needs) (λ c. search needs) (λ c. search needs)
-    (λ c. search needs) (λ c. search needs) (λ c κs. search needs) (λ c. search needs) (λ c. search needs)
-    (λ c. search needs) (λ c. search needs) (λ c. search needs) (λ c. search needs)
+    (λ c κs. search needs) (λ c. search needs) (λ c. search needs) (λ c. search needs) (λ c κs. search needs)
+    (λ c. search needs) (λ c κs. search needs) (λ c. search needs) (λ c. search needs) (λ c. search needs)
+    (λ c. search needs) (λ c κs. search needs) (λ c. search needs) (λ c. search needs) (λ c. search needs)
+    (λ c. search needs) (λ c. search needs) (λ c. search needs)
     part-obey-end
-    (λ c κs. search needs) (λ c. search needs) (λ c. search needs) (λ c. search needs) (λ c. search needs))
+    obey-requires
+    (λ c. search needs) (λ c. search needs) (λ c. search needs)
+    (λ c. search needs))

@@ -1,2 +1,0 @@
--- Laws of the lines of a journal.
-pub mod Lines

@@ -1,2 +1,0 @@
--- What the notices of a journal print and leave.
-pub mod Lines

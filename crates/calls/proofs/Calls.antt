@@ -1,0 +1,59 @@
+-- A call's numbers as the code has them, and a call without an answer table. Assumes nothing.
+use mathlib.Core.Path.{_≡_, refl, sym, ap}
+use mathlib.Core.List.{List, []}
+use Prim.Native.Nat.{ℕ, _/_}
+use lib.IntN.{ℤ, pos}
+use lib.ListN.{length}
+use mir.Facts.{toZ-ofZ}
+use mir.Syntax.{w64}
+use mir.Val.{toZ, ofZ, SFits}
+use Rattle.numbers.specs.Naturals.{sameZ}
+use Rattle.numbers.proofs.Bools.{cond-same}
+use Rattle.words.specs.Tables.{encodedInto}
+use Rattle.daybook.specs.Notices.{Numbers}
+use Rattle.buffers.specs.Buffers.{tableIn, holidaysIn, withNumbers, replied, written}
+use Rattle.journal.specs.declared.Notice.{Notice}
+use Rattle.journal.specs.declared.Notice.the-variants.{Fresh, Open, Energy, Status, Request, Withdraw}
+use Rattle.journal.specs.declared.Query.{Query}
+use Rattle.journal.specs.declared.Query.the-variants.{Account, Allocate, Date}
+use Rattle.journal.specs.declared.Call.{Call}
+use Rattle.journal.specs.declared.Call.the-variants as Call·
+use Rattle.calls.specs.Calls.{noticed, asked, Left, called}
+use Rattle.calls.specs.InnerCalls.{sixOf}
+
+pub six-noticed : (n : Notice) (t xs list : List ℤ) → noticed n t (sixOf xs) list ≡ noticed n t xs list
+six-noticed Fresh t xs list = refl
+six-noticed Open t xs list = refl
+six-noticed Energy t xs list = refl
+six-noticed Status t xs list = refl
+six-noticed Request t xs list = refl
+six-noticed Withdraw t xs list = refl
+
+pub six-asked : (q : Query) (t xs : List ℤ) (room : ℕ) → asked q t (sixOf xs) room ≡ asked q t xs room
+six-asked Account t xs room = refl
+six-asked Allocate t xs room = refl
+six-asked Date t xs room = refl
+
+-- a signed number is read back from its bits
+pub back : (z : ℤ) → SFits w64 z → toZ w64 (ofZ w64 z) ≡ z
+back z f = toZ-ofZ f
+
+-- a call that has no numbers for an answer table leaves it
+pub table-kept : (ns : Numbers) (r : ℤ) (table answer answer' : List ℕ) → (r, answer') ≡ replied ns answer → (r, (table, answer')) ≡ written (ns, []) table answer
+unfolding written withNumbers encodedInto
+table-kept ns r table answer answer' e = rw (← e, cond-same (sameZ r (pos 0)) table)
+
+-- ---- from the exported functions to what a call leaves
+
+abbrev after-notice : List ℕ → ℤ × (List ℕ × List ℕ) → Left
+after-notice table w = record { result = w .0; register = w .1 .0; answer = w .1 .1; table = table }
+
+abbrev after-query : List ℕ → ℤ × (List ℕ × List ℕ) → Left
+after-query register w = record { result = w .0; register = register; answer = w .1 .1; table = w .1 .0 }
+
+module _ (xs six : List ℤ) (list register answer table : List ℕ) {w : ℤ × (List ℕ × List ℕ)} (e : six ≡ sixOf xs) where
+  pub notice-left : {call : Call} {n : Notice} → call ≡ Call·.Notice n → w ≡ written (noticed n (tableIn register) six (holidaysIn list)) register answer → called call xs list register answer table ≡ after-notice table w
+  notice-left {n = n} t h = rw t (ap (after-notice table) (sym (rw (e, six-noticed n (tableIn register) xs (holidaysIn list)) at h)))
+
+  pub query-left : {call : Call} {q : Query} → call ≡ Call·.Query q → w ≡ written (asked q (tableIn register) six (length table / 8)) table answer → called call xs list register answer table ≡ after-query register w
+  query-left {q = q} t h = rw t (ap (after-query register) (sym (rw (e, six-asked q (tableIn register) xs (length table / 8)) at h)))

@@ -1,0 +1,89 @@
+-- The calls of the register as a journal has them: the form of each one's line, and what it does on bytes.
+use mathlib.Core.Bool.{Bool, true, false, cond}
+use mathlib.Core.List.{List, []}
+use Prim.Native.Nat.{ℕ, _+_, _/_}
+use lib.IntN.{ℤ}
+use lib.ListN.{length}
+use Rattle.numbers.specs.Naturals.{natOf}
+use Rattle.calendar.specs.Calendar.{dateCall}
+use Rattle.daybook.specs.Notices.{Numbers}
+use Rattle.daybook.specs.Conversions.{num, rangesOf, openingOf, energyNoticeOf, statusOf, requestOf, withdrawalOf, accountQueryOf, allocationQueryOf}
+use Rattle.opening.specs.Opening.{freshCall, openCall}
+use Rattle.energy.specs.Energy.{energyCall}
+use Rattle.status.specs.Status.{statusCall}
+use Rattle.transfer.specs.Transfer.{requestCall, withdrawCall}
+use Rattle.account.specs.Account.{accountCall}
+use Rattle.allocate.specs.Allocate.{allocateCall}
+use Rattle.buffers.specs.Buffers.{tableIn, holidaysIn, written}
+use Rattle.journal.specs.declared.Notice.{Notice}
+use Rattle.journal.specs.declared.Notice.the-variants.{Fresh, Open, Energy, Status, Request, Withdraw}
+use Rattle.journal.specs.declared.Query.{Query}
+use Rattle.journal.specs.declared.Query.the-variants.{Account, Allocate, Date}
+use Rattle.journal.specs.declared.Call.{Call}
+use Rattle.journal.specs.declared.Call.the-variants as Call·
+use Rattle.calls.specs.declared.Form.{Form}
+
+-- ---- the form of a line
+
+-- How many numbers a call and its answer have; whether a list follows the call's numbers, with its count in front; and
+-- whether an answer table is lent.
+abbrev pub shapeOf : ℕ → ℕ → Bool → Bool → Form
+shapeOf takes gives list table = record { takes = takes; gives = gives; list = list; table = table }
+
+abbrev pub noticeForm : Notice → Form
+noticeForm Fresh = shapeOf 2 1 false false
+noticeForm Open = shapeOf 5 1 false false
+noticeForm Energy = shapeOf 6 5 false false
+noticeForm Status = shapeOf 3 1 false false
+noticeForm Request = shapeOf 4 3 true false
+noticeForm Withdraw = shapeOf 2 1 false false
+
+abbrev pub queryForm : Query → Form
+queryForm Account = shapeOf 3 2 false false
+queryForm Allocate = shapeOf 6 18 false true
+queryForm Date = shapeOf 3 2 false false
+
+abbrev pub formOf : Call → Form
+formOf (Call·.Notice n) = noticeForm n
+formOf (Call·.Query q) = queryForm q
+
+-- The numbers of a line up to its list: a call's own, and the list's count.
+abbrev pub ownNumbers : Form → ℕ
+ownNumbers f = cond (f .list) (f .takes + 1) (f .takes)
+
+-- All numbers of a line.
+abbrev pub sizeOf : Form → List ℤ → ℕ
+sizeOf f xs = ownNumbers f + cond (f .list) (natOf (num xs (f .takes))) 0
+
+-- ---- what a call does
+
+-- A notice's answer and the table after it.
+abbrev pub noticed : Notice → List ℤ → List ℤ → List ℤ → Numbers × List ℤ
+noticed Fresh t xs list = freshCall t (rangesOf xs)
+noticed Open t xs list = openCall t (openingOf xs)
+noticed Energy t xs list = energyCall t (energyNoticeOf xs)
+noticed Status t xs list = statusCall t (statusOf xs)
+noticed Request t xs list = requestCall t (requestOf xs) list
+noticed Withdraw t xs list = withdrawCall t (withdrawalOf xs)
+
+-- A query's answer, and its numbers for an answer table of `room` places.
+abbrev pub asked : Query → List ℤ → List ℤ → ℕ → Numbers × List ℤ
+asked Account t xs room = (accountCall t (accountQueryOf xs), [])
+asked Allocate t xs room = allocateCall t (allocationQueryOf xs) room
+asked Date t xs room = (dateCall (num xs 0) (num xs 1) (num xs 2), [])
+
+-- What a call leaves: its result, and the bytes of the register, of its answer and of its answer table.
+pub record Left : Type 0 where
+  pub result : ℤ
+  pub register : List ℕ
+  pub answer : List ℕ
+  pub table : List ℕ
+
+-- A call with the numbers xs, on the bytes of its list, the register, the answer and the answer table.
+abbrev pub called : Call → List ℤ → List ℕ → List ℕ → List ℕ → List ℕ → Left
+called (Call·.Notice n) xs list register answer table =
+    let w : ℤ × (List ℕ × List ℕ) = written (noticed n (tableIn register) xs (holidaysIn list)) register answer in
+    record { result = w .0; register = w .1 .0; answer = w .1 .1; table = table }
+called (Call·.Query q) xs list register answer table =
+    let w : ℤ × (List ℕ × List ℕ) = written (asked q (tableIn register) xs (length table / 8)) table answer in
+    record { result = w .0; register = register; answer = w .1 .1; table = w .1 .0 }

@@ -1,2 +1,0 @@
--- Laws of the dispatch.
-pub mod Calls

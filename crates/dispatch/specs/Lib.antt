@@ -1,3 +1,0 @@
--- Which line each call is.
-pub mod Calls
-pub mod InnerCalls

@@ -1,0 +1,50 @@
+use Prim.Native.Nat.{_≤_}
+use lib.ListN.{length}
+use mathlib.Core.Path.{refl, sym, _∙_}
+use native.Mathlib.Omega.{arith}
+use Rattle.lines.proofs.Outcomes.{nothing}
+use Rattle.lines.proofs.Calls.{not-counted, own-fits, call-made}
+use borrow.Author.Tests.{not-false}
+use borrow.Author.Needs.{needs}
+use Rattle.lines.proofs.call.Statement.{statement}
+use Rattle.lines.proofs.call.Tie as tie
+
+-- a line that is counted has the numbers up to its list
+abbrev fits : (c : tie.After-places) → c .before .before .own-numbers .result ≤ length (c .before .before .before .before .before .before .before .before .args .nums .now)
+fits c =
+    let own = c .before .before in
+    let counted = own .before .before in
+    let s = counted .before .before .before .before in
+    own-fits (s .args .call) (s .args .nums .now) (counted .before .form-of .result) (counted .counted .result) (counted .before .form-of .ensures .is) (counted .counted .ensures) (own .own-numbers .result) (own .own-numbers .ensures .0) (not-false _ (own .before .if1 .left))
+
+returns : tie.Need-returns
+returns c =
+    let counted = c .before in
+    let a = counted .before .before .before .before .args in
+    nothing _ _ _ (not-counted (a .call) (a .nums .now) (counted .before .form-of .result) (counted .counted .result) (counted .before .form-of .ensures .is) (counted .counted .ensures) (a .register .now) (a .room) (c .if1 .taken))
+
+returns-2 : tie.Need-returns-2
+returns-2 c =
+    let after = c .before .before .before .before .before .before .before in
+    let shares = after .before .before .before .before .before in
+    let days = shares .before .before .before .before in
+    let place = days .before .before .before in
+    let own = place .before .before in
+    let counted = own .before .before in
+    let s = counted .before .before .before .before in
+    let a = s .args in
+    call-made (a .call) (a .nums .now) (counted .before .form-of .result) (counted .counted .result) (counted .before .form-of .ensures .is) (counted .counted .ensures) (a .register .now) _ _ _ (own .own-numbers .result) (a .room) (place .places .result) _ (not-false _ (own .before .if1 .left)) (own .own-numbers .ensures .0) (fits place) (s .pre .1) (days .bytes-of .ensures .0) (place .places .ensures .0) (omega (arith, place .places .ensures .1, s .pre .0)) (shares .bytes-of2 .ensures .0) refl (omega (arith, counted .before .form-of .ensures .short)) refl (after .act .ensures)
+
+pub call-spec : {M : Type 1} → statement M
+call-spec =
+    tie.close
+    (tie.spec
+    (λ c κs. search needs) (λ c κs. search needs)
+    returns
+    (λ c κs. search needs) (λ c. search needs) (λ c κs. search needs) (λ c. search needs)
+    (λ c. omega (arith, fits c))
+    (λ c. omega (arith, fits c))
+    (λ c. search needs) (λ c. search needs) (λ c κs. search needs) (λ c. search needs) (λ c. search needs)
+    (λ c. search needs) (λ c. search needs) (λ c κs. search needs) (λ c. search needs) (λ c. search needs)
+    (λ c. search needs) (λ c κs. search needs) (λ c. search needs) (λ c. search needs)
+    returns-2)

@@ -1,0 +1,85 @@
+use mathlib.Core.List.{List}
+use lib.IntN.{ℤ}
+use Rattle.calls.specs.declared.Form.{Form}
+use mathlib.Core.Path.{refl, ap, _∙_}
+use Prim.Native.Nat.{_≤_}
+use native.Mathlib.Omega.{arith}
+use borrow.Author.Tests.{not-false}
+use lib.ListN.{length}
+use Rattle.lines.specs.Lines.{bufferBytes, mostBytes, places}
+use Rattle.lines.proofs.Outcomes.{nothing}
+use Rattle.lines.proofs.Calls.{Lent, lent, not-lent, hub-made}
+use borrow.Author.Needs.{needs}
+use Rattle.lines.proofs.on_bytes.Statement.{statement}
+use Rattle.lines.proofs.on_bytes.Tie as tie
+
+-- ---- what the test says of the lengths
+
+abbrev form : tie.After-places → Form
+form c = c .before .before .before .before .before .before .before .form-of .result
+
+abbrev nums : tie.After-places → List ℤ
+nums c = c .before .before .before .before .before .before .before .before .before .before .args .nums .now
+
+holds : (c : tie.After-places) → Lent (form c) (nums c)
+holds c =
+    let test = c .before .before .before .before .before .before in
+    lent (form c) (nums c) (test .lendable .result) (test .lendable .ensures) (not-false _ (c .before .before .before .before .before .if1 .left))
+
+start-fits : (c : tie.After-places) → c .before .before .before .before .lengths .result ≤ length (nums c)
+start-fits c = omega (arith, holds c .count, c .before .before .before .before .lengths .ensures .0)
+
+register-fits : (c : tie.After-places) → c .before .before .before .natural .result ≤ bufferBytes
+register-fits c = omega (arith, holds c .register, c .before .before .before .natural .ensures .0)
+
+answer-fits : (c : tie.After-places) → c .before .before .natural2 .result ≤ mostBytes
+answer-fits c = omega (arith, holds c .answer, c .before .before .natural2 .ensures .0)
+
+table-fits : (c : tie.After-places) → c .places .result ≤ mostBytes
+table-fits c =
+    let k = c .places .ensures .0 ∙ ap (places (form c)) (c .before .natural3 .ensures .0) in
+    omega (arith, holds c .table, k)
+
+returns : tie.Need-returns
+returns c =
+    let test = c .before in
+    let a = test .before .before .before .before .args in
+    nothing _ _ _ (not-lent (a .call) (a .nums .now) (test .before .form-of .result) (test .lendable .result) (test .before .form-of .ensures .is) (test .lendable .ensures) (a .register .now) (c .if1 .taken))
+
+show-requires : tie.Need-show-requires
+show-requires c κs =
+    let place = c .before .before .before .before .before in
+    let h = answer-fits place in
+    let k = table-fits place in
+    search needs
+
+returns-2 : tie.Need-returns-2
+returns-2 c =
+    let f = c .before .before .before .before .before .before in
+    let place = f .before .before .before .before .before .before in
+    let first = place .before .before .before in
+    let test = first .before .before .before in
+    let a = test .before .before .before .before .args in
+    let form = test .before .form-of in
+    let k = place .places .ensures .0 ∙ ap (places (form .result)) (place .before .natural3 .ensures .0) in
+    hub-made (a .call) (a .nums .now) (form .result) (test .lendable .result) (form .ensures .is) (test .lendable .ensures) (a .register .now) _ _ (first .before .lengths .result) (first .natural .result) (place .before .before .natural2 .result) (place .places .result) (not-false _ (first .before .before .if1 .left)) (first .before .lengths .ensures .0) (first .natural .ensures .0) (place .before .before .natural2 .ensures .0) (answer-fits place) k (table-fits place) refl refl (f .show .ensures)
+
+pub on-bytes-spec : {M : Type 1} → statement M
+on-bytes-spec =
+    tie.close
+    (tie.spec
+    (λ c κs. search needs) (λ c κs. search needs)
+    returns
+    (λ c κs. search needs) (λ c κs. search needs) (λ c κs. search needs) (λ c κs. search needs) (λ c κs. search needs)
+    (λ c. let h = start-fits c in search needs)
+    (λ c. let h = start-fits c in search needs)
+    (λ c. let h = start-fits c in search needs)
+    (λ c. search needs) (λ c. search needs) (λ c. search needs)
+    (λ c. let h = register-fits (c .before) in search needs)
+    (λ c. search needs) (λ c. search needs)
+    (λ c. let h = answer-fits (c .before .before) in search needs)
+    (λ c. search needs) (λ c. search needs)
+    (λ c. let h = table-fits (c .before .before .before) in search needs)
+    show-requires
+    (λ c. search needs) (λ c. search needs)
+    returns-2)

@@ -1,0 +1,3 @@
+-- What the lines of a journal print and leave.
+pub mod Lines
+pub mod InnerLines

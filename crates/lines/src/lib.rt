@@ -1,0 +1,286 @@
+// The lines of a journal: each takes its numbers, works on the bytes of the register's buffer and writes its text at
+// place `at` of the output. It answers the place after the text, or `at` where the line is no call.
+ghost use mathlib.Core.List.{[], _++_};
+ghost use mathlib.Core.Option.{some};
+ghost use mathlib.Core.Path.{_≡_};
+ghost use Prim.Native.Nat.{_+_, _*_, _≤_};
+ghost use lib.ListN.{length, take};
+ghost use Rattle.buffers.specs.Buffers.{withNumbers};
+ghost use Rattle.printing.specs.Rows.{rowBytes, rowOf, Printed};
+ghost use Rattle.calls.specs.Calls.{called};
+ghost use Rattle.lines.specs.Lines.{bufferNumbers, bufferBytes, lineNumbers, mostRoom, mostBytes, numbersOf, places as Lines·places, acted, callLine, lookLine, pokeLine, tableLine, lineOf, lengths as Lines·lengths, lendable as Lines·lendable, shown, showed, hubLine, Played};
+ghost use Rattle.lines.specs.InnerLines.{answerBytes, tableBytes};
+use calls::Form;
+use journal::Call;
+use journal::Command;
+use printing::row;
+
+// The register's buffer: the register's numbers and sixteen past them.
+pub const REGISTER_NUMBERS: usize = 7688;
+
+pub const BUFFER_NUMBERS: usize = 7704;
+
+pub const BUFFER_BYTES: usize = 61632;
+
+// The numbers of a line, and those of an allocation's answer table, at most.
+pub const LINE_NUMBERS: usize = 4096;
+
+pub const MOST_ROOM: usize = 64;
+
+// The bytes of a call's list, of its answer and of its answer table at most.
+const LIST_BYTES: usize = 32768;
+
+const ANSWER_BYTES: usize = 144;
+
+const TABLE_BYTES: usize = 512;
+
+// The bytes of an answer or of an answer table at most, where a line says how many.
+const MOST_BYTES: usize = 300;
+
+// Numbers as bytes, the first of b.
+fn bytes_of<'a, 'b>(xs: &'a [i64], b: &'b mut [u8]) -> &'b mut [u8]
+    requires { ⌜ 8 * length (now xs) ≤ length (now b) ⌝ }
+    ensures { λ r. ⌜ (now r ≡ withNumbers (now (xs .entry)) (take (8 * length (now (xs .entry))) (now (b .entry)))) × (length (now r) ≡ 8 * length (now (xs .entry))) ⌝ }
+{
+    let n = 8 * xs.len();
+    let r = &mut b[..n];
+    words::encode(xs, 0, r, 0, xs.len());
+    r
+}
+
+// The row of an answer and an answer table.
+fn print_row(out: &mut [u8], at: usize, answer: &[u8], table: &[u8]) -> usize
+    requires { ⌜ (length (now answer) ≤ answerBytes) × (length (now table) ≤ tableBytes) × (at + rowBytes ≤ length (now out)) ⌝ }
+    ensures { λ r. ⌜ (r ≤ at + rowBytes) × Printed (now (out .entry)) at (rowOf (numbersOf (now (answer .entry)) ++ numbersOf (now (table .entry)))) (now (out .exit)) r ⌝ }
+{
+    let n = answer.len() / 8;
+    let m = table.len() / 8;
+    let end = n + m;
+    let mut numbers = [0i64; 82];
+    words::decode(answer, 0, &mut numbers, 0, n);
+    words::decode(table, 0, &mut numbers, n, m);
+    printing::signed_row(out, at, &numbers[0..end])
+}
+
+// The numbers of a call's answer table.
+fn places(f: Form, room: usize) -> usize
+    ensures { λ r. ⌜ (r ≡ Lines·places f room) × (r ≤ room) ⌝ }
+{
+    if f.table {
+        return room;
+    }
+    0
+}
+
+// A call on buffers, and its row.
+fn act(
+    call: Call,
+    nums: &[i64],
+    list: &[u8],
+    register: &mut [u8],
+    answer: &mut [u8],
+    table: &mut [u8],
+    out: &mut [u8],
+    at: usize,
+) -> usize
+    requires { ⌜ (length (now answer) ≤ answerBytes) × (length (now table) ≤ tableBytes) × (at + rowBytes ≤ length (now out)) ⌝ }
+    ensures { λ r. ⌜ Played (some (acted (called call (now (nums .entry)) (now (list .entry)) (now (register .entry)) (now (answer .entry)) (now (table .entry))))) (now (register .entry)) (now (out .entry)) at (now (register .exit)) (now (out .exit)) r ⌝ }
+{
+    calls::invoke(call, nums, list, register, answer, table);
+    print_row(out, at, answer, table)
+}
+
+// A call on the bytes that are lent, with an answer table of `room` numbers.
+fn call(
+    call: Call,
+    register: &mut [u8],
+    room: usize,
+    nums: &[i64],
+    out: &mut [u8],
+    at: usize,
+) -> usize
+    requires { ⌜ (room ≤ mostRoom) × (length (now nums) ≤ lineNumbers) × (at + rowBytes ≤ length (now out)) ⌝ }
+    ensures { λ r. ⌜ Played (callLine call (now (register .entry)) room (now (nums .entry))) (now (register .entry)) (now (out .entry)) at (now (register .exit)) (now (out .exit)) r ⌝ }
+{
+    let f = calls::form_of(call);
+    if !calls::counted(f, nums) {
+        return at;
+    }
+    let own = calls::own_numbers(f);
+    let gives = 8 * f.gives;
+    let shares = places(f, room);
+    let mut list = [0u8; LIST_BYTES];
+    let mut answer = [0u8; ANSWER_BYTES];
+    let mut table = [0u8; TABLE_BYTES];
+    let sevens = [-7i64; MOST_ROOM];
+    let days = bytes_of(&nums[own..], &mut list);
+    let given = bytes_of(&sevens[0..shares], &mut table);
+    act(
+        call,
+        nums,
+        days,
+        register,
+        &mut answer[0..gives],
+        given,
+        out,
+        at,
+    )
+}
+
+// The part of a point that the look-up hands back: its length and its sums.
+fn look(register: &[u8], nums: &[i64], out: &mut [u8], at: usize) -> usize
+    requires { ⌜ (length (now register) ≤ bufferBytes) × (at + rowBytes ≤ length (now out)) ⌝ }
+    ensures { λ r. ⌜ Played (lookLine (now (register .entry)) (now (nums .entry))) (now (register .entry)) (now (out .entry)) at (now (register .entry)) (now (out .exit)) r ⌝ }
+{
+    if nums.len() != 1 {
+        return at;
+    }
+    let mut t = [0i64; BUFFER_NUMBERS];
+    let n = register.len() / 8;
+    let numbers = buffers::numbers_in(register, &mut t, n);
+    let part = table::look_up(numbers, nums[0]);
+    let s = words::sums(part);
+    row(out, at, &[part.len() as u64, s.s1, s.s2])
+}
+
+// The sums of the register, and of the sixteen numbers past it.
+fn table(register: &[u8], nums: &[i64], out: &mut [u8], at: usize) -> usize
+    requires { ⌜ (length (now register) ≡ bufferBytes) × (at + rowBytes ≤ length (now out)) ⌝ }
+    ensures { λ r. ⌜ Played (tableLine (now (register .entry)) (now (nums .entry))) (now (register .entry)) (now (out .entry)) at (now (register .entry)) (now (out .exit)) r ⌝ }
+{
+    if nums.len() != 0 {
+        return at;
+    }
+    let mut t = [0i64; BUFFER_NUMBERS];
+    let numbers = buffers::numbers_in(register, &mut t, BUFFER_NUMBERS);
+    let all = &numbers[..];
+    let s = words::sums(&all[0..REGISTER_NUMBERS]);
+    let past = words::sums(&all[REGISTER_NUMBERS..]);
+    row(out, at, &[0, s.s1, s.s2, past.s2])
+}
+
+// Sets one number of the register.
+fn poke(register: &mut [u8], nums: &[i64], out: &mut [u8], at: usize) -> usize
+    requires { ⌜ (length (now register) ≡ bufferBytes) × (at + rowBytes ≤ length (now out)) ⌝ }
+    ensures { λ r. ⌜ Played (pokeLine (now (register .entry)) (now (nums .entry))) (now (register .entry)) (now (out .entry)) at (now (register .exit)) (now (out .exit)) r ⌝ }
+{
+    if nums.len() != 2 {
+        return at;
+    }
+    let place = numbers::get(nums, 0);
+    if REGISTER_NUMBERS as u64 <= place {
+        return at;
+    }
+    words::put_word(register, 8 * place as usize, nums[1]);
+    row(out, at, &[0])
+}
+
+// Any line but tlen, alen and those on bytes. Table and poke reach the whole buffer.
+pub fn answer(
+    command: Command,
+    register: &mut [u8],
+    lent: usize,
+    room: usize,
+    nums: &[i64],
+    out: &mut [u8],
+    at: usize,
+) -> usize
+    requires { ⌜ (length (now register) ≡ bufferBytes) × (lent ≤ bufferNumbers) × (room ≤ mostRoom) × (length (now nums) ≤ lineNumbers) × (at + rowBytes ≤ length (now out)) ⌝ }
+    ensures { λ r. ⌜ Played (lineOf command (now (register .entry)) lent room (now (nums .entry))) (now (register .entry)) (now (out .entry)) at (now (register .exit)) (now (out .exit)) r ⌝ }
+{
+    let n = 8 * lent;
+    match command {
+        Command::Call(c) => call(c, &mut register[0..n], room, nums, out, at),
+        Command::Look => look(&register[0..n], nums, out, at),
+        Command::Table => table(register, nums, out, at),
+        Command::Poke => poke(register, nums, out, at),
+        _ => at,
+    }
+}
+
+// How many lengths a line on bytes begins with.
+fn lengths(f: Form) -> usize
+    ensures { λ r. ⌜ (r ≡ Lines·lengths f) × (r ≤ 3) ⌝ }
+{
+    if f.table {
+        return 3;
+    }
+    2
+}
+
+// Whether it has the numbers of its form, and lengths within their bounds.
+fn lendable(f: Form, nums: &[i64]) -> bool
+    requires { ⌜ f .takes ≤ 6 ⌝ }
+    ensures { λ r. ⌜ r ≡ Lines·lendable f (now (nums .entry)) ⌝ }
+{
+    let counted = nums.len() == lengths(f) + f.takes;
+    let register = calls::natural(nums, 0) <= BUFFER_BYTES as u64;
+    let answer = calls::natural(nums, 1) <= MOST_BYTES as u64;
+    let table = places(f, calls::natural(nums, 2) as usize) <= MOST_BYTES;
+    counted & (register & (answer & table))
+}
+
+// The result, the answer's bytes and those of an answer table.
+fn print_bytes(
+    f: Form,
+    result: i64,
+    answer: &[u8],
+    table: &[u8],
+    out: &mut [u8],
+    at: usize,
+) -> usize
+    requires { ⌜ (length (now answer) ≤ mostBytes) × (length (now table) ≤ mostBytes) × (at + rowBytes ≤ length (now out)) ⌝ }
+    ensures { λ r. ⌜ (r ≤ at + rowBytes) × Printed (now (out .entry)) at (shown f result (now (answer .entry)) (now (table .entry))) (now (out .exit)) r ⌝ }
+{
+    let end = printing::put_signed(out, at, result, b' ');
+    if f.table {
+        let next = printing::put_bytes(out, end, answer, b' ');
+        return printing::put_bytes(out, next, table, b'\n');
+    }
+    printing::put_bytes(out, end, answer, b'\n')
+}
+
+// A call on buffers, and what it leaves of them.
+fn show(
+    f: Form,
+    call: Call,
+    nums: &[i64],
+    register: &mut [u8],
+    answer: &mut [u8],
+    table: &mut [u8],
+    out: &mut [u8],
+    at: usize,
+) -> usize
+    requires { ⌜ (length (now answer) ≤ mostBytes) × (length (now table) ≤ mostBytes) × (at + rowBytes ≤ length (now out)) ⌝ }
+    ensures { λ r. ⌜ Played (some (showed f (called call (now (nums .entry)) [] (now (register .entry)) (now (answer .entry)) (now (table .entry))))) (now (register .entry)) (now (out .entry)) at (now (register .exit)) (now (out .exit)) r ⌝ }
+{
+    let result = calls::invoke(call, nums, b"", register, answer, table);
+    print_bytes(f, result, answer, table, out, at)
+}
+
+// A call on buffers of the lengths that the line begins with.
+pub fn on_bytes(call: Call, register: &mut [u8], nums: &[i64], out: &mut [u8], at: usize) -> usize
+    requires { ⌜ (length (now register) ≡ bufferBytes) × (at + rowBytes ≤ length (now out)) ⌝ }
+    ensures { λ r. ⌜ Played (hubLine call (now (register .entry)) (now (nums .entry))) (now (register .entry)) (now (out .entry)) at (now (register .exit)) (now (out .exit)) r ⌝ }
+{
+    let f = calls::form_of(call);
+    if !lendable(f, nums) {
+        return at;
+    }
+    let from = lengths(f);
+    let n = calls::natural(nums, 0) as usize;
+    let m = calls::natural(nums, 1) as usize;
+    let k = places(f, calls::natural(nums, 2) as usize);
+    let mut answer = [0xAAu8; MOST_BYTES];
+    let mut table = [0xAAu8; MOST_BYTES];
+    show(
+        f,
+        call,
+        &nums[from..],
+        &mut register[0..n],
+        &mut answer[0..m],
+        &mut table[0..k],
+        out,
+        at,
+    )
+}

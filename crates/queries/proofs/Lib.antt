@@ -1,3 +1,0 @@
--- Laws of these calls.
-pub mod Lines
-pub mod Rows
