@@ -1,6 +1,6 @@
 -- From a call on buffers to the outcome of its line. Assumes nothing.
-use mathlib.Core.Path.{_≡_, refl, sym, _∙_}
-use mathlib.Core.Bool.{Bool, true, false, not, _&&_}
+use mathlib.Core.Path.{_≡_, refl, _∙_}
+use mathlib.Core.Bool.{Bool, true, not, _&&_}
 use mathlib.Core.List.{List, [], _∷_, _++_, append-assoc}
 use mathlib.Core.Option.{none, some}
 use Prim.Native.Nat.{ℕ, _+_, _-_, _*_, _≤_}
@@ -16,7 +16,8 @@ use Rattle.journal.specs.declared.Call.{Call}
 use Rattle.printing.specs.Rows.{rowBytes, rowOf, Printed}
 use Rattle.calls.specs.declared.Form.{Form}
 use Rattle.calls.specs.Calls.{Left, formOf, ownNumbers, sizeOf, called}
-use Rattle.lines.specs.Lines.{numbersOf, bytesOf, places, acted, callLine, onLent, lengths, size, mostBytes, bufferBytes, buffer, lendable, shown, showed, hubLine, Played}
+use Rattle.lines.specs.Lines.{lineNumbers, mostRoom, numbersOf, bytesOf, places, acted, callLine, lengths, size, mostBytes, bufferBytes, buffer, lendable, shown, showed, hubLine, Played}
+use Rattle.lines.specs.InnerLines.{answerBytes, tableBytes}
 use Rattle.lines.proofs.Bytes.{take-replicate}
 use Rattle.lines.proofs.Outcomes.{on-lent}
 use Rattle.lines.proofs.Rows.{rest}
@@ -47,19 +48,19 @@ module _ (call : Call) (xs : List ℤ) (f : Form) (t : Bool) (is : f ≡ formOf 
 
   -- its buffers are made in zeros, and its answer table of numbers -7
   pub call-made : {out out' b' : List ℕ} {at r : ℕ} (b list answer table : List ℕ) (own room n gives : ℕ)
-      → t ≡ true → own ≡ ownNumbers f → own ≤ length xs → length xs ≤ 4096
-      → list ≡ withNumbers (take (length xs - own) (drop own xs)) (take (8 * length (take (length xs - own) (drop own xs))) (replicate 32768 0))
-      → n ≡ places f room → n ≤ 64
-      → table ≡ withNumbers (take (n - 0) (replicate 64 (negsuc 6))) (take (8 * length (take (n - 0) (replicate 64 (negsuc 6)))) (replicate 512 0))
-      → gives ≡ 8 * f .gives → gives ≤ 144 → answer ≡ take (gives - 0) (replicate 144 0)
+      → t ≡ true → own ≡ ownNumbers f → own ≤ length xs → length xs ≤ lineNumbers
+      → list ≡ withNumbers (take (length xs - own) (drop own xs)) (take (8 * length (take (length xs - own) (drop own xs))) (replicate (8 * lineNumbers) 0))
+      → n ≡ places f room → n ≤ mostRoom
+      → table ≡ withNumbers (take (n - 0) (replicate mostRoom (negsuc 6))) (take (8 * length (take (n - 0) (replicate mostRoom (negsuc 6)))) (replicate tableBytes 0))
+      → gives ≡ 8 * f .gives → gives ≤ answerBytes → answer ≡ take (gives - 0) (replicate answerBytes 0)
       → Played (some (acted (called call xs list b answer table))) b out at b' out' r → Played (callLine call b room xs) b out at b' out' r
   unfolding callLine
   call-made b list answer table own room n gives z own-is fits few list-is n-is small table-is gives-is short answer-is p =
-      let long : 8 * length (drop own xs) ≤ 32768 = omega (arith, length-drop own xs) in
-      let l : list ≡ bytesOf (drop (ownNumbers f) xs) = rw (rest xs own, take-replicate {A = ℕ} (8 * length (drop own xs)) 32768 0 long, own-is) at list-is in
-      let m : 8 * length (replicate n (negsuc 6)) ≤ 512 = omega (arith, length-replicate n (negsuc 6)) in
-      let s : table ≡ bytesOf (replicate (places f room) (negsuc 6)) = rw (sub-zero n, take-replicate n 64 (negsuc 6) small, take-replicate {A = ℕ} (8 * length (replicate n (negsuc 6))) 512 0 m, n-is) at table-is in
-      let a : answer ≡ replicate (8 * f .gives) 0 = rw (sub-zero gives, take-replicate {A = ℕ} gives 144 0 short, gives-is) at answer-is in
+      let long : 8 * length (drop own xs) ≤ 8 * lineNumbers = omega (arith, length-drop own xs) in
+      let l : list ≡ bytesOf (drop (ownNumbers f) xs) = rw (rest xs own, take-replicate {A = ℕ} (8 * length (drop own xs)) (8 * lineNumbers) 0 long, own-is) at list-is in
+      let m : 8 * length (replicate n (negsuc 6)) ≤ tableBytes = omega (arith, length-replicate n (negsuc 6)) in
+      let s : table ≡ bytesOf (replicate (places f room) (negsuc 6)) = rw (sub-zero n, take-replicate n mostRoom (negsuc 6) small, take-replicate {A = ℕ} (8 * length (replicate n (negsuc 6))) tableBytes 0 m, n-is) at table-is in
+      let a : answer ≡ replicate (8 * f .gives) 0 = rw (sub-zero gives, take-replicate {A = ℕ} gives answerBytes 0 short, gives-is) at answer-is in
       rw (← is, ← test, z) (rw (l, s, a) at p)
 
 -- ---- a call on buffers whose lengths the line says
@@ -93,13 +94,13 @@ module _ (call : Call) (xs : List ℤ) (f : Form) (t : Bool) (is : f ≡ formOf 
 
   -- its buffers are the first bytes of others, each 170
   pub hub-made : {out out' u : List ℕ} {at r : ℕ} (b answer table : List ℕ) (from n m k : ℕ)
-      → t ≡ true → from ≡ lengths f → n ≡ size xs 0 → m ≡ size xs 1 → m ≤ 300 → k ≡ places f (size xs 2) → k ≤ 300
-      → answer ≡ take (m - 0) (replicate 300 170) → table ≡ take (k - 0) (replicate 300 170)
+      → t ≡ true → from ≡ lengths f → n ≡ size xs 0 → m ≡ size xs 1 → m ≤ mostBytes → k ≡ places f (size xs 2) → k ≤ mostBytes
+      → answer ≡ take (m - 0) (buffer mostBytes) → table ≡ take (k - 0) (buffer mostBytes)
       → Played (some (showed f (called call (take (length xs - from) (drop from xs)) [] (take (n - 0) b) answer table))) (take (n - 0) b) out at u out' r
       → Played (hubLine call b xs) b out at (u ++ drop (n - 0) b) out' r
   unfolding hubLine
   hub-made b answer table from n m k z from-is n-is m-is few k-is small answer-is table-is p =
-      let a : answer ≡ buffer (size xs 1) = rw (sub-zero m, take-replicate {A = ℕ} m 300 170 few, m-is) at answer-is in
-      let s : table ≡ buffer (places f (size xs 2)) = rw (sub-zero k, take-replicate {A = ℕ} k 300 170 small, k-is) at table-is in
+      let a : answer ≡ buffer (size xs 1) = rw (sub-zero m, take-replicate {A = ℕ} m mostBytes 170 few, m-is) at answer-is in
+      let s : table ≡ buffer (places f (size xs 2)) = rw (sub-zero k, take-replicate {A = ℕ} k mostBytes 170 small, k-is) at table-is in
       let q = rw (rest xs from, sub-zero n, a, s, from-is, n-is) at p in
       rw (← is, ← test, z, sub-zero n, n-is) (on-lent b _ (size xs 0) _ q)

@@ -48,7 +48,7 @@ fn bytes_of<'a, 'b>(xs: &'a [i64], b: &'b mut [u8]) -> &'b mut [u8]
     r
 }
 
-// The row of an answer and an answer table.
+// The row of an answer and an answer table, 18 and 64 numbers at most.
 fn print_row(out: &mut [u8], at: usize, answer: &[u8], table: &[u8]) -> usize
     requires { ⌜ (length (now answer) ≤ answerBytes) × (length (now table) ≤ tableBytes) × (at + rowBytes ≤ length (now out)) ⌝ }
     ensures { λ r. ⌜ (r ≤ at + rowBytes) × Printed (now (out .entry)) at (rowOf (numbersOf (now (answer .entry)) ++ numbersOf (now (table .entry)))) (now (out .exit)) r ⌝ }

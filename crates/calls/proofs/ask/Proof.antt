@@ -1,4 +1,3 @@
-use mathlib.Core.Path.{_≡_}
 use Rattle.daybook.specs.Conversions.{num}
 use borrow.Author.Needs.{needs}
 use Rattle.calls.proofs.Calls.{back, table-kept}

@@ -1,4 +1,3 @@
-use native.Mathlib.Omega.{arith}
 use borrow.Author.Needs.{needs}
 use Rattle.calls.proofs.own_numbers.Statement.{statement}
 use Rattle.calls.proofs.own_numbers.Tie as tie
