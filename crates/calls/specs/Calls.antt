@@ -15,12 +15,12 @@ use Rattle.transfer.specs.Transfer.{requestCall, withdrawCall}
 use Rattle.account.specs.Account.{accountCall}
 use Rattle.allocate.specs.Allocate.{allocateCall}
 use Rattle.buffers.specs.Buffers.{tableIn, holidaysIn, written}
-use Rattle.journal.specs.declared.Notice.{Notice}
-use Rattle.journal.specs.declared.Notice.the-variants.{Fresh, Open, Energy, Status, Request, Withdraw}
-use Rattle.journal.specs.declared.Query.{Query}
-use Rattle.journal.specs.declared.Query.the-variants.{Account, Allocate, Date}
-use Rattle.journal.specs.declared.Call.{Call}
-use Rattle.journal.specs.declared.Call.the-variants as Call·
+use Rattle.journal.specs.declared.NoticeWord.{NoticeWord}
+use Rattle.journal.specs.declared.NoticeWord.the-variants.{Fresh, Open, Energy, Status, Request, Withdraw}
+use Rattle.journal.specs.declared.QueryWord.{QueryWord}
+use Rattle.journal.specs.declared.QueryWord.the-variants.{Account, Allocate, Date}
+use Rattle.journal.specs.declared.CallWord.{CallWord}
+use Rattle.journal.specs.declared.CallWord.the-variants as Call·
 use Rattle.calls.specs.declared.Form.{Form}
 
 -- ---- the form of a line
@@ -30,7 +30,7 @@ use Rattle.calls.specs.declared.Form.{Form}
 abbrev pub shapeOf : ℕ → ℕ → Bool → Bool → Form
 shapeOf takes gives list table = record { takes = takes; gives = gives; list = list; table = table }
 
-abbrev pub noticeForm : Notice → Form
+abbrev pub noticeForm : NoticeWord → Form
 noticeForm Fresh = shapeOf 2 1 false false
 noticeForm Open = shapeOf 5 1 false false
 noticeForm Energy = shapeOf 6 5 false false
@@ -38,12 +38,12 @@ noticeForm Status = shapeOf 3 1 false false
 noticeForm Request = shapeOf 4 3 true false
 noticeForm Withdraw = shapeOf 2 1 false false
 
-abbrev pub queryForm : Query → Form
+abbrev pub queryForm : QueryWord → Form
 queryForm Account = shapeOf 3 2 false false
 queryForm Allocate = shapeOf 6 18 false true
 queryForm Date = shapeOf 3 2 false false
 
-abbrev pub formOf : Call → Form
+abbrev pub formOf : CallWord → Form
 formOf (Call·.Notice n) = noticeForm n
 formOf (Call·.Query q) = queryForm q
 
@@ -58,7 +58,7 @@ sizeOf f xs = ownNumbers f + cond (f .list) (natOf (num xs (f .takes))) 0
 -- ---- what a call does
 
 -- A notice's answer and the table after it.
-abbrev pub noticed : Notice → List ℤ → List ℤ → List ℤ → Numbers × List ℤ
+abbrev pub noticed : NoticeWord → List ℤ → List ℤ → List ℤ → Numbers × List ℤ
 noticed Fresh t xs list = freshCall t (rangesOf xs)
 noticed Open t xs list = openCall t (openingOf xs)
 noticed Energy t xs list = energyCall t (energyNoticeOf xs)
@@ -67,7 +67,7 @@ noticed Request t xs list = requestCall t (requestOf xs) list
 noticed Withdraw t xs list = withdrawCall t (withdrawalOf xs)
 
 -- A query's answer, and its numbers for an answer table of `room` places.
-abbrev pub asked : Query → List ℤ → List ℤ → ℕ → Numbers × List ℤ
+abbrev pub asked : QueryWord → List ℤ → List ℤ → ℕ → Numbers × List ℤ
 asked Account t xs room = (accountCall t (accountQueryOf xs), [])
 asked Allocate t xs room = allocateCall t (allocationQueryOf xs) room
 asked Date t xs room = (dateCall (num xs 0) (num xs 1) (num xs 2), [])
@@ -80,7 +80,7 @@ pub record Left : Type 0 where
   pub table : List ℕ
 
 -- A call with the numbers xs, on the bytes of its list, the register, the answer and the answer table.
-abbrev pub called : Call → List ℤ → List ℕ → List ℕ → List ℕ → List ℕ → Left
+abbrev pub called : CallWord → List ℤ → List ℕ → List ℕ → List ℕ → List ℕ → Left
 called (Call·.Notice n) xs list register answer table =
     let w : ℤ × (List ℕ × List ℕ) = written (noticed n (tableIn register) xs (holidaysIn list)) register answer in
     record { result = w .0; register = w .1 .0; answer = w .1 .1; table = table }

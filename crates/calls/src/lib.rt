@@ -9,9 +9,9 @@ ghost use Rattle.daybook.specs.Conversions.{num};
 ghost use Rattle.buffers.specs.Buffers.{tableIn, holidaysIn, written};
 ghost use Rattle.calls.specs.Calls.{shapeOf, noticeForm, queryForm, formOf, ownNumbers, sizeOf, noticed, asked, called};
 ghost use Rattle.calls.specs.InnerCalls.{Formed, sixOf};
-use journal::Call;
-use journal::Notice;
-use journal::Query;
+use journal::CallWord;
+use journal::NoticeWord;
+use journal::QueryWord;
 
 // How many numbers a call and its answer have; whether a list follows the call's numbers, with its count in front; and
 // whether an answer table is lent.
@@ -34,35 +34,35 @@ fn shape(takes: usize, gives: usize, list: bool, table: bool) -> Form
     }
 }
 
-fn notice_form(n: Notice) -> Form
+fn notice_form(n: NoticeWord) -> Form
     ensures { λ r. ⌜ Formed r (noticeForm n) ⌝ }
 {
     match n {
-        Notice::Fresh => shape(2, 1, false, false),
-        Notice::Open => shape(5, 1, false, false),
-        Notice::Energy => shape(6, 5, false, false),
-        Notice::Status => shape(3, 1, false, false),
-        Notice::Request => shape(4, 3, true, false),
-        Notice::Withdraw => shape(2, 1, false, false),
+        NoticeWord::Fresh => shape(2, 1, false, false),
+        NoticeWord::Open => shape(5, 1, false, false),
+        NoticeWord::Energy => shape(6, 5, false, false),
+        NoticeWord::Status => shape(3, 1, false, false),
+        NoticeWord::Request => shape(4, 3, true, false),
+        NoticeWord::Withdraw => shape(2, 1, false, false),
     }
 }
 
-fn query_form(q: Query) -> Form
+fn query_form(q: QueryWord) -> Form
     ensures { λ r. ⌜ Formed r (queryForm q) ⌝ }
 {
     match q {
-        Query::Account => shape(3, 2, false, false),
-        Query::Allocate => shape(6, 18, false, true),
-        Query::Date => shape(3, 2, false, false),
+        QueryWord::Account => shape(3, 2, false, false),
+        QueryWord::Allocate => shape(6, 18, false, true),
+        QueryWord::Date => shape(3, 2, false, false),
     }
 }
 
-pub fn form_of(call: Call) -> Form
+pub fn form_of(call: CallWord) -> Form
     ensures { λ r. ⌜ Formed r (formOf call) ⌝ }
 {
     match call {
-        Call::Notice(n) => notice_form(n),
-        Call::Query(q) => query_form(q),
+        CallWord::Notice(n) => notice_form(n),
+        CallWord::Query(q) => query_form(q),
     }
 }
 
@@ -133,37 +133,39 @@ fn six(nums: &[i64]) -> [i64; 6]
 }
 
 // A notice with the numbers a, through its exported function.
-fn notify(n: Notice, a: &[i64; 6], list: &[u8], register: &mut [u8], answer: &mut [u8]) -> i64
+fn notify(n: NoticeWord, a: &[i64; 6], list: &[u8], register: &mut [u8], answer: &mut [u8]) -> i64
     ensures { λ r. ⌜ (r, (now (register .exit), now (answer .exit))) ≡ written (noticed n (tableIn (now (register .entry))) (now (a .entry)) (holidaysIn (now (list .entry)))) (now (register .entry)) (now (answer .entry)) ⌝ }
 {
     match n {
-        Notice::Fresh => hub::petlumas_fresh(register, answer, a[0], a[1]),
-        Notice::Open => hub::petlumas_open(register, answer, a[0], a[1], a[2], a[3], a[4]),
-        Notice::Energy => {
+        NoticeWord::Fresh => hub::petlumas_fresh(register, answer, a[0], a[1]),
+        NoticeWord::Open => hub::petlumas_open(register, answer, a[0], a[1], a[2], a[3], a[4]),
+        NoticeWord::Energy => {
             hub::petlumas_energy(register, answer, a[0], a[1], a[2], a[3], a[4], a[5])
         }
-        Notice::Status => hub::petlumas_status(register, answer, a[0], a[1], a[2]),
-        Notice::Request => { hub::petlumas_request(register, answer, list, a[0], a[1], a[2], a[3]) }
-        Notice::Withdraw => hub::petlumas_withdraw(register, answer, a[0], a[1]),
+        NoticeWord::Status => hub::petlumas_status(register, answer, a[0], a[1], a[2]),
+        NoticeWord::Request => {
+            hub::petlumas_request(register, answer, list, a[0], a[1], a[2], a[3])
+        }
+        NoticeWord::Withdraw => hub::petlumas_withdraw(register, answer, a[0], a[1]),
     }
 }
 
 // And a query.
-fn ask(q: Query, a: &[i64; 6], register: &[u8], answer: &mut [u8], table: &mut [u8]) -> i64
+fn ask(q: QueryWord, a: &[i64; 6], register: &[u8], answer: &mut [u8], table: &mut [u8]) -> i64
     ensures { λ r. ⌜ (r, (now (table .exit), now (answer .exit))) ≡ written (asked q (tableIn (now (register .entry))) (now (a .entry)) (length (now (table .entry)) / 8)) (now (table .entry)) (now (answer .entry)) ⌝ }
 {
     match q {
-        Query::Account => hub::petlumas_account(register, answer, a[0], a[1], a[2]),
-        Query::Allocate => {
+        QueryWord::Account => hub::petlumas_account(register, answer, a[0], a[1], a[2]),
+        QueryWord::Allocate => {
             hub::petlumas_allocate(register, answer, table, a[0], a[1], a[2], a[3], a[4], a[5])
         }
-        Query::Date => hub::petlumas_date(answer, a[0], a[1], a[2]),
+        QueryWord::Date => hub::petlumas_date(answer, a[0], a[1], a[2]),
     }
 }
 
 // A call on the buffers that it is lent.
 pub fn invoke(
-    call: Call,
+    call: CallWord,
     nums: &[i64],
     list: &[u8],
     register: &mut [u8],
@@ -174,7 +176,7 @@ pub fn invoke(
 {
     let a = six(nums);
     match call {
-        Call::Notice(n) => notify(n, &a, list, register, answer),
-        Call::Query(q) => ask(q, &a, register, answer, table),
+        CallWord::Notice(n) => notify(n, &a, list, register, answer),
+        CallWord::Query(q) => ask(q, &a, register, answer, table),
     }
 }

@@ -21,7 +21,7 @@ use Rattle.daybook.specs.Book.{Facts}
 use Rattle.daybook.specs.Notices.{Row, Numbers, factsOf}
 use Rattle.daybook.specs.Calls.{Notice, fresh!, open!, energy!, status!, request!, withdraw! }
 use Rattle.lists.specs.Lists.{Lists, Register}
-use Rattle.lists.specs.InnerSteps.{findLists, putLists, withLists, onLists, openedLists, openingLists, energyLists, statusLists, requestLists, withdrawLists, listed}
+use Rattle.lists.specs.InnerSteps.{findLists, putLists, withLists, onLists, openedLists, openingLists, energyLists, statusLists, requestLists, withdrawLists, noticeLists}
 use Rattle.lists.specs.InnerWell.{Points, WellFormed}
 use Rattle.lists.proofs.Rows.{decide-keeps}
 use Rattle.lists.proofs.Notices.{notice-step, notice-keeps}
@@ -188,14 +188,14 @@ module _ (t : List ℤ) (s : sound (editionOf t) t ≡ true) where
 
   -- any notice
 
-  notice-framed : (c : Notice) (own : ℕ → Bool) → Kept own (listed c ed R .1) → Framed own t (noticeCall c t .1)
+  notice-framed : (c : Notice) (own : ℕ → Bool) → Kept own (noticeLists c ed R .1) → Framed own t (noticeCall c t .1)
   unfolding tableBook
   notice-framed c own f =
       subst (λ (w : Numbers × List ℤ). Framed own t (w .1))
-      (sym (notice-is t s c ∙ ap (answerAndTable ed t) (notice-step c ed R ok) ∙ leaves-is ed t (listed c ed R) (notice-keeps c ed ok)))
-      (go (refused (listed c ed R .0)))
+      (sym (notice-is t s c ∙ ap (answerAndTable ed t) (notice-step c ed R ok) ∙ leaves-is ed t (noticeLists c ed R) (notice-keeps c ed ok)))
+      (go (refused (noticeLists c ed R .0)))
     where
-      go : (b : Bool) → Framed own t (cond b t (laid (listed c ed R .1)))
+      go : (b : Bool) → Framed own t (cond b t (laid (noticeLists c ed R .1)))
       go true = unchanged own t
       go false = f (notice-keeps c ed ok)
 
@@ -220,7 +220,7 @@ left-alone t s (request! n holidays) e = rw s refl
 left-alone t s (withdraw! n) e = rw s refl
 
 framed : (c : Notice) → isFresh c ≡ false → (t : List ℤ) (own : ℕ → Bool)
-    → ((s : sound (editionOf t) t ≡ true) → Kept t s own (listed c (editionOf t) (registerOf (editionOf t) t) .1))
+    → ((s : sound (editionOf t) t ≡ true) → Kept t s own (noticeLists c (editionOf t) (registerOf (editionOf t) t) .1))
     → Framed own t (noticeCall c t .1)
 framed c e t own f = go (sound (editionOf t) t) refl
   where
@@ -229,7 +229,7 @@ framed c e t own f = go (sound (editionOf t) t) refl
     go false s = subst (Framed own t) (sym (left-alone t s c e)) (unchanged own t)
 
 pub frames : Frames
-unfolding noticeCall listed energyLists statusLists requestLists withdrawLists
+unfolding noticeCall noticeLists energyLists statusLists requestLists withdrawLists
 frames =
     record {
       opening = λ t n. framed (open! n) refl t (ofNewPoint t) (λ s. on-opening t s n);

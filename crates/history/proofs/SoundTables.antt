@@ -26,7 +26,7 @@ use Rattle.layout.proofs.TableSound.{sound-lays}
 use Rattle.table.proofs.Calls.{query-sound}
 use Rattle.account.specs.Account.{accountCall}
 use Rattle.allocate.specs.Allocate.{allocateCall}
-use Rattle.history.specs.Agreement.{pointNo, query, accountFrom, loadIn, totalsIn, added, Stands, Allocated, AddsUp}
+use Rattle.history.specs.Agreement.{pointNo, accountQuery, accountFrom, loadIn, totalsIn, added, Stands, Allocated, AddsUp}
 use Rattle.history.proofs.Accounts.{account-splits, accounts-add-up}
 use Rattle.history.proofs.Entries.{entry-stands}
 use Rattle.history.proofs.Allocations.{totals-add-up, shares-add-up, shares-32}
@@ -45,7 +45,7 @@ module _ (t : List ℤ) (s : sound (editionOf t) t ≡ true) where
   -- ---- accounts
 
   module _ (u a c : ℕ) (low : 1 ≤ u) (high : u ≤ 16) (h : a ≤ c) (k : c ≤ 39999) where
-    no-row : least (accountRows (query u a c)) ≡ 0
+    no-row : least (accountRows (accountQuery u a c)) ≡ 0
     unfolding accountRows least
     no-row =
         let user = join (le-leb 1 u low) (le-leb u 16 high) in
@@ -53,7 +53,7 @@ module _ (t : List ℤ) (s : sound (editionOf t) t ≡ true) where
         let to = join (le-leb 0 c (omega arith)) (le-leb c 39999 k) in
         least-skip 2 _ [] (ap not (join (join (join user from) to) (le-leb a c h)))
 
-    account-given : accountCall t (query u a c) ≡ pos 0 ∷ accountOf u a c B ∷ []
+    account-given : accountCall t (accountQuery u a c) ≡ pos 0 ∷ accountOf u a c B ∷ []
     unfolding accountCall account
     account-given =
         query-sound _ _ ed t s ∙ ap (λ r. decide r 1 B (accountOf u a c B ∷ [], B) .0) no-row

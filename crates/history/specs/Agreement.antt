@@ -29,11 +29,11 @@ pointNo zero (p ∷ ps) = some p
 pointNo (suc i) (p ∷ ps) = pointNo i ps
 
 -- User u's account over the days a to b, and the sum in its answer.
-abbrev pub query : ℕ → ℕ → ℕ → AccountQuery
-query u a b = record { user = pos u; from = pos a; to = pos b }
+abbrev pub accountQuery : ℕ → ℕ → ℕ → AccountQuery
+accountQuery u a b = record { user = pos u; from = pos a; to = pos b }
 
 unfoldable pub accountFrom : List ℤ → ℕ → ℕ → ℕ → ℤ
-accountFrom t u a b = getD (accountCall t (query u a b)) 1 (pos 0)
+accountFrom t u a b = getD (accountCall t (accountQuery u a b)) 1 (pos 0)
 
 -- The net section load and the sixteen totals in an allocation's answer.
 abbrev pub loadIn : Numbers → ℤ
@@ -85,7 +85,7 @@ pub record AddsUp (ed : Edition) (t : List ℤ) (B : Book) : Type 0 where
   -- 3. A User's account from the table is the sum of the shares of its days in B, and splits between any two days.
   pub accounts :
       (u a c : ℕ) → 1 ≤ u → u ≤ 16 → a ≤ c → c ≤ 39999
-      → accountCall t (query u a c) ≡ pos 0 ∷ accountOf u a c B ∷ []
+      → accountCall t (accountQuery u a c) ≡ pos 0 ∷ accountOf u a c B ∷ []
   pub accountsSplit :
       (u a b c : ℕ) → 1 ≤ u → u ≤ 16 → a ≤ b → b < c → c ≤ 39999
       → accountFrom t u a c ≡ accountFrom t u a b +ℤ accountFrom t u (suc b) c

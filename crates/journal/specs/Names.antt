@@ -3,11 +3,11 @@ use mathlib.Core.Bool.{Bool, true, false, _&&_}
 use mathlib.Core.List.{List, [], _∷_}
 use Prim.Native.Nat.{ℕ}
 use lib.Dec.{eqb}
-use Rattle.journal.specs.declared.Notice.{Notice}
-use Rattle.journal.specs.declared.Notice.the-variants as Notice·
-use Rattle.journal.specs.declared.Query.{Query}
-use Rattle.journal.specs.declared.Query.the-variants as Query·
-use Rattle.journal.specs.declared.Call.the-variants as Call·
+use Rattle.journal.specs.declared.NoticeWord.{NoticeWord}
+use Rattle.journal.specs.declared.NoticeWord.the-variants as Notice·
+use Rattle.journal.specs.declared.QueryWord.{QueryWord}
+use Rattle.journal.specs.declared.QueryWord.the-variants as Query·
+use Rattle.journal.specs.declared.CallWord.the-variants as Call·
 use Rattle.journal.specs.declared.Command.{Command}
 use Rattle.journal.specs.declared.Command.the-variants.{Call, Look, Table, Poke, Lend, Room, Hub, Unknown}
 
@@ -22,10 +22,10 @@ pick true a b = a
 pick false a b = b
 
 -- The rows below: what a word asks for if it is the name, else what the rows under it say.
-abbrev pub notice : List ℕ → List ℕ → Notice → Command → Command
+abbrev pub notice : List ℕ → List ℕ → NoticeWord → Command → Command
 notice w name is other = pick (sameBytes w name) (Call (Call·.Notice is)) other
 
-abbrev pub query : List ℕ → List ℕ → Query → Command → Command
+abbrev pub query : List ℕ → List ℕ → QueryWord → Command → Command
 query w name is other = pick (sameBytes w name) (Call (Call·.Query is)) other
 
 -- withdraw, request, status, energy, open, fresh

@@ -7,7 +7,7 @@ ghost use Rattle.journal.specs.InnerText.{capped, Skipped, Ended};
 ghost use Rattle.journal.specs.Names.{sameBytes, pick as Names·pick, noticeOr, queryOr, commandNamed, namedOnBytes};
 
 // The notices, which may change a register.
-pub enum Notice {
+pub enum NoticeWord {
     Fresh,
     Open,
     Energy,
@@ -17,21 +17,21 @@ pub enum Notice {
 }
 
 // The calls that change none.
-pub enum Query {
+pub enum QueryWord {
     Account,
     Allocate,
     Date,
 }
 
-pub enum Call {
-    Notice(Notice),
-    Query(Query),
+pub enum CallWord {
+    Notice(NoticeWord),
+    Query(QueryWord),
 }
 
 // What a word of a journal asks for: a call, or a line of the journal's own. Lend is `tlen`, and Room is `alen`; the
 // word after `hub` names a call on bytes.
 pub enum Command {
-    Call(Call),
+    Call(CallWord),
     Look,
     Table,
     Poke,
@@ -178,35 +178,35 @@ fn pick(w: &[u8], name: &[u8], is: Command, other: Command) -> Command
     other
 }
 
-fn pick_notice(w: &[u8], name: &[u8], is: Notice, other: Command) -> Command
-    ensures { λ r. ⌜ r ≡ Names·pick (sameBytes (now (w .entry)) (now (name .entry))) (Command.Call (Call.Notice is)) other ⌝ }
+fn pick_notice(w: &[u8], name: &[u8], is: NoticeWord, other: Command) -> Command
+    ensures { λ r. ⌜ r ≡ Names·pick (sameBytes (now (w .entry)) (now (name .entry))) (Command.Call (CallWord.Notice is)) other ⌝ }
 {
-    pick(w, name, Command::Call(Call::Notice(is)), other)
+    pick(w, name, Command::Call(CallWord::Notice(is)), other)
 }
 
-fn pick_query(w: &[u8], name: &[u8], is: Query, other: Command) -> Command
-    ensures { λ r. ⌜ r ≡ Names·pick (sameBytes (now (w .entry)) (now (name .entry))) (Command.Call (Call.Query is)) other ⌝ }
+fn pick_query(w: &[u8], name: &[u8], is: QueryWord, other: Command) -> Command
+    ensures { λ r. ⌜ r ≡ Names·pick (sameBytes (now (w .entry)) (now (name .entry))) (Command.Call (CallWord.Query is)) other ⌝ }
 {
-    pick(w, name, Command::Call(Call::Query(is)), other)
+    pick(w, name, Command::Call(CallWord::Query(is)), other)
 }
 
 fn notice_or(w: &[u8], other: Command) -> Command
     ensures { λ r. ⌜ r ≡ noticeOr (now (w .entry)) other ⌝ }
 {
-    let c = pick_notice(w, b"fresh", Notice::Fresh, other);
-    let c = pick_notice(w, b"open", Notice::Open, c);
-    let c = pick_notice(w, b"energy", Notice::Energy, c);
-    let c = pick_notice(w, b"status", Notice::Status, c);
-    let c = pick_notice(w, b"request", Notice::Request, c);
-    pick_notice(w, b"withdraw", Notice::Withdraw, c)
+    let c = pick_notice(w, b"fresh", NoticeWord::Fresh, other);
+    let c = pick_notice(w, b"open", NoticeWord::Open, c);
+    let c = pick_notice(w, b"energy", NoticeWord::Energy, c);
+    let c = pick_notice(w, b"status", NoticeWord::Status, c);
+    let c = pick_notice(w, b"request", NoticeWord::Request, c);
+    pick_notice(w, b"withdraw", NoticeWord::Withdraw, c)
 }
 
 fn query_or(w: &[u8], other: Command) -> Command
     ensures { λ r. ⌜ r ≡ queryOr (now (w .entry)) other ⌝ }
 {
-    let c = pick_query(w, b"account", Query::Account, other);
-    let c = pick_query(w, b"allocate", Query::Allocate, c);
-    pick_query(w, b"date", Query::Date, c)
+    let c = pick_query(w, b"account", QueryWord::Account, other);
+    let c = pick_query(w, b"allocate", QueryWord::Allocate, c);
+    pick_query(w, b"date", QueryWord::Date, c)
 }
 
 // What a word asks for.
@@ -226,9 +226,9 @@ pub fn named(w: &[u8]) -> Command
 pub fn named_on_bytes(w: &[u8]) -> Command
     ensures { λ r. ⌜ r ≡ namedOnBytes (now (w .entry)) ⌝ }
 {
-    let c = pick_query(w, b"account", Query::Account, Command::Unknown);
-    let c = pick_query(w, b"allocate", Query::Allocate, c);
-    pick_notice(w, b"energy", Notice::Energy, c)
+    let c = pick_query(w, b"account", QueryWord::Account, Command::Unknown);
+    let c = pick_query(w, b"allocate", QueryWord::Allocate, c);
+    pick_notice(w, b"energy", NoticeWord::Energy, c)
 }
 
 // Reads the words from at on as numbers.

@@ -12,7 +12,7 @@ use Rattle.daybook.specs.Book.{Book}
 use Rattle.daybook.specs.Notices.{Numbers}
 use Rattle.daybook.specs.Calls.{Notice, noted}
 use Rattle.lists.specs.Lists.{Register, bookOf}
-use Rattle.lists.specs.InnerSteps.{listed}
+use Rattle.lists.specs.InnerSteps.{noticeLists}
 use Rattle.lists.specs.InnerWell.{WellFormed}
 use Rattle.lists.proofs.Notices.{notice-step, notice-keeps, notice-sent-back}
 use Rattle.layout.specs.Layout.{tableLength, Fits, layout, registerOf, tableBook, withBook}
@@ -58,7 +58,7 @@ module _ (ed : Edition) (fits : Fits ed) where
     ok : WellFormed ed (registerOf ed t)
     ok = sound-lays ed fits t s .0
 
-    after : noted c ed B ≡ (listed c ed (registerOf ed t) .0, bookOf (listed c ed (registerOf ed t) .1))
+    after : noted c ed B ≡ (noticeLists c ed (registerOf ed t) .0, bookOf (noticeLists c ed (registerOf ed t) .1))
     unfolding tableBook
     after = notice-step c ed (registerOf ed t) ok
 

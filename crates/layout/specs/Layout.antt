@@ -7,6 +7,7 @@ use lib.ListN.{length, getD, take, drop, replicate}
 use Rattle.numbers.specs.Naturals.{natOf}
 use Rattle.daybook.specs.declared.Edition.{Edition}
 use Rattle.daybook.specs.Book.{Entry, Pending, Facts, Point, Book, records, registrations, spans}
+use Rattle.daybook.specs.Queries.{shareCount}
 use Rattle.lists.specs.Lists.{Lists, Register, bookOf}
 use Rattle.layout.specs.Places.{pointsPlace, nondailyPlace, dailyPlace, headerLength, mirnPlace, kindPlace, installPlace, basePlace, regCount, offCount, recCount, pendingUser, pendingFirst, pendingLast, sparePlace, regsPlace, offsPlace, recsPlace, regLength, offLength, recLength, recPlace}
 
@@ -24,10 +25,10 @@ stride ed = recPlace (ed .records)
 abbrev pub placeOf : Edition → ℕ → ℕ
 placeOf ed i = headerLength + stride ed * i
 
--- An edition whose points fit the table, and their shares an answer table of 32 numbers.
+-- An edition whose points fit the table, and their shares an allocation's answer table.
 pub record Fits (ed : Edition) : Type 0 where
   pub some : 1 ≤ ed .points
-  pub few : ed .points ≤ 32
+  pub few : ed .points ≤ shareCount
   pub inTable : placeOf ed (ed .points) ≤ tableLength
 
 -- Document 01's edition.

@@ -12,11 +12,11 @@ use lib.IntN.{ℤ, negsuc}
 use lib.ListN.{length, take, drop, replicate, length-drop, length-replicate}
 use Rattle.numbers.proofs.Bools.{both}
 use Rattle.buffers.specs.Buffers.{withNumbers}
-use Rattle.journal.specs.declared.Call.{Call}
+use Rattle.journal.specs.declared.CallWord.{CallWord}
 use Rattle.printing.specs.Rows.{rowBytes, rowOf, Printed}
 use Rattle.calls.specs.declared.Form.{Form}
 use Rattle.calls.specs.Calls.{Left, formOf, ownNumbers, sizeOf, called}
-use Rattle.lines.specs.Lines.{lineNumbers, mostRoom, numbersOf, bytesOf, places, acted, callLine, lengths, size, mostBytes, bufferBytes, buffer, lendable, shown, showed, hubLine, Played}
+use Rattle.lines.specs.Lines.{lineNumbers, mostRoom, numbersHeld, bytesOf, places, acted, callLine, lengths, size, mostBytes, bufferBytes, buffer, lendable, shown, showed, hubLine, Played}
 use Rattle.lines.specs.InnerLines.{answerBytes, tableBytes}
 use Rattle.lines.proofs.Bytes.{take-replicate}
 use Rattle.lines.proofs.Outcomes.{on-lent}
@@ -25,7 +25,7 @@ use Rattle.lines.proofs.Rows.{rest}
 -- ---- a call that has been made, its buffers printed
 
 module _ {l : Left} {b b' out out' answer table : List ℕ} {result : ℤ} {at r : ℕ} (e : l ≡ record { result = result; register = b'; answer = answer; table = table }) (h : r ≤ at + rowBytes) where
-  pub acted-is : Printed out at (rowOf (numbersOf answer ++ numbersOf table)) out' r → Played (some (acted l)) b out at b' out' r
+  pub acted-is : Printed out at (rowOf (numbersHeld answer ++ numbersHeld table)) out' r → Played (some (acted l)) b out at b' out' r
   acted-is w = rw e (record { room = h; left = refl; text = w })
 
   pub showed-is : (f : Form) → Printed out at (shown f result answer table) out' r → Played (some (showed f l)) b out at b' out' r
@@ -38,7 +38,7 @@ joined a b x p q =
 
 -- ---- a call on the bytes that are lent; f is its form as the code has it
 
-module _ (call : Call) (xs : List ℤ) (f : Form) (t : Bool) (is : f ≡ formOf call) (test : t ≡ eqb (length xs) (sizeOf f xs)) where
+module _ (call : CallWord) (xs : List ℤ) (f : Form) (t : Bool) (is : f ≡ formOf call) (test : t ≡ eqb (length xs) (sizeOf f xs)) where
   pub not-counted : (b : List ℕ) (room : ℕ) → not t ≡ true → callLine call b room xs ≡ none
   unfolding callLine
   not-counted b room z = rw (← is, ← test, not-true t z)
@@ -87,7 +87,7 @@ lent f xs t test z =
       table = leb-true (places f (size xs 2)) mostBytes (third .1);
     }
 
-module _ (call : Call) (xs : List ℤ) (f : Form) (t : Bool) (is : f ≡ formOf call) (test : t ≡ lendable f xs) where
+module _ (call : CallWord) (xs : List ℤ) (f : Form) (t : Bool) (is : f ≡ formOf call) (test : t ≡ lendable f xs) where
   pub not-lent : (b : List ℕ) → not t ≡ true → hubLine call b xs ≡ none
   unfolding hubLine
   not-lent b z = rw (← is, ← test, not-true t z)

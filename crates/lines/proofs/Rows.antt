@@ -11,8 +11,7 @@ use lib.ListN.{length, take, drop, length-drop}
 use lib.Seq.{take-all}
 use Rattle.numbers.specs.Naturals.{natOf}
 use Rattle.numbers.proofs.Bools.{cond-same}
-use Rattle.words.specs.Words.{withWord}
-use Rattle.words.specs.Words.{bitsOf}
+use Rattle.words.specs.Words.{withWord, bitsOf}
 use Rattle.words.specs.Sums.{sumsOf}
 use Rattle.daybook.specs.Conversions.{num}
 use Rattle.table.specs.Lookup.{lookUp}

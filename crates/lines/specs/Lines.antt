@@ -10,14 +10,13 @@ use lib.IntN.{ℤ, pos, negsuc}
 use lib.ListN.{length, take, drop, replicate}
 use Rattle.numbers.specs.Naturals.{natOf}
 use Rattle.numbers.specs.Search.{maybe}
-use Rattle.words.specs.Words.{withWord}
-use Rattle.words.specs.Words.{bitsOf}
+use Rattle.words.specs.Words.{withWord, bitsOf}
 use Rattle.words.specs.Sums.{sumsOf}
 use Rattle.daybook.specs.Conversions.{num}
 use Rattle.layout.specs.Layout.{tableLength}
 use Rattle.table.specs.Lookup.{lookUp}
 use Rattle.buffers.specs.Buffers.{numbersIn, withNumbers}
-use Rattle.journal.specs.declared.Call.{Call}
+use Rattle.journal.specs.declared.CallWord.{CallWord}
 use Rattle.journal.specs.declared.Command.{Command}
 use Rattle.journal.specs.declared.Command.the-variants as Command·
 use Rattle.printing.specs.Rows.{rowBytes, rowOf, textOf, hexOf, Printed}
@@ -44,8 +43,8 @@ abbrev pub LineResult : Type 0
 LineResult = Option (List ℕ × List ℕ)
 
 -- The numbers of bytes, and the bytes of numbers.
-abbrev pub numbersOf : List ℕ → List ℤ
-numbersOf b = numbersIn b (length b / 8)
+abbrev pub numbersHeld : List ℕ → List ℤ
+numbersHeld b = numbersIn b (length b / 8)
 
 abbrev pub bytesOf : List ℤ → List ℕ
 bytesOf xs = withNumbers xs (replicate (8 * length xs) 0)
@@ -58,10 +57,10 @@ places f room = cond (f .table) room 0
 
 -- A row of the answer and then the answer table.
 abbrev pub acted : Left → List ℕ × List ℕ
-acted l = (rowOf (numbersOf (l .answer) ++ numbersOf (l .table)), l .register)
+acted l = (rowOf (numbersHeld (l .answer) ++ numbersHeld (l .table)), l .register)
 
 -- The numbers of the answer table are -7 before the call.
-unfoldable pub callLine : Call → List ℕ → ℕ → List ℤ → LineResult
+unfoldable pub callLine : CallWord → List ℕ → ℕ → List ℤ → LineResult
 callLine call lent room xs =
     let f : Form = formOf call in
     let list : List ℕ = bytesOf (drop (ownNumbers f) xs) in
@@ -79,7 +78,7 @@ taking n xs o = cond (eqb (length xs) n) (some (rowOf (o .0), o .1)) none
 -- The length of the part that the look-up hands back, and its sums.
 unfoldable pub lookLine : List ℕ → List ℤ → LineResult
 lookLine lent xs =
-    let part : List ℤ = lookUp (numbersOf lent) (num xs 0) in
+    let part : List ℤ = lookUp (numbersHeld lent) (num xs 0) in
     taking 1 xs (pos (length part) ∷ pos (sumsOf (bitsOf part) .0) ∷ pos (sumsOf (bitsOf part) .1) ∷ [], lent)
 
 -- Sets one number of the register.
@@ -91,8 +90,8 @@ pokeLine b xs =
 -- The sums of the register, and the second one of the numbers past it.
 unfoldable pub tableLine : List ℕ → List ℤ → LineResult
 tableLine b xs =
-    let s : ℕ × ℕ = sumsOf (bitsOf (take tableLength (numbersOf b))) in
-    let past : ℕ × ℕ = sumsOf (bitsOf (drop tableLength (numbersOf b))) in
+    let s : ℕ × ℕ = sumsOf (bitsOf (take tableLength (numbersHeld b))) in
+    let past : ℕ × ℕ = sumsOf (bitsOf (drop tableLength (numbersHeld b))) in
     taking 0 xs (pos 0 ∷ pos (s .0) ∷ pos (s .1) ∷ pos (past .1) ∷ [], b)
 
 -- ---- any line but tlen, alen and those on bytes
@@ -142,7 +141,7 @@ shown f result answer table =
 abbrev pub showed : Form → Left → List ℕ × List ℕ
 showed f l = (shown f (l .result) (l .answer) (l .table), l .register)
 
-unfoldable pub hubLine : Call → List ℕ → List ℤ → LineResult
+unfoldable pub hubLine : CallWord → List ℕ → List ℤ → LineResult
 hubLine call b xs =
     let f : Form = formOf call in
     let n : ℕ = size xs 0 in

@@ -8,10 +8,10 @@ ghost use lib.ListN.{length, take};
 ghost use Rattle.buffers.specs.Buffers.{withNumbers};
 ghost use Rattle.printing.specs.Rows.{rowBytes, rowOf, Printed};
 ghost use Rattle.calls.specs.Calls.{called};
-ghost use Rattle.lines.specs.Lines.{bufferNumbers, bufferBytes, lineNumbers, mostRoom, mostBytes, numbersOf, places as Lines·places, acted, callLine, lookLine, pokeLine, tableLine, lineOf, lengths as Lines·lengths, lendable as Lines·lendable, shown, showed, hubLine, Played};
+ghost use Rattle.lines.specs.Lines.{bufferNumbers, bufferBytes, lineNumbers, mostRoom, mostBytes, numbersHeld, places as Lines·places, acted, callLine, lookLine, pokeLine, tableLine, lineOf, lengths as Lines·lengths, lendable as Lines·lendable, shown, showed, hubLine, Played};
 ghost use Rattle.lines.specs.InnerLines.{answerBytes, tableBytes};
 use calls::Form;
-use journal::Call;
+use journal::CallWord;
 use journal::Command;
 use printing::row;
 
@@ -51,7 +51,7 @@ fn bytes_of<'a, 'b>(xs: &'a [i64], b: &'b mut [u8]) -> &'b mut [u8]
 // The row of an answer and an answer table, 18 and 64 numbers at most.
 fn print_row(out: &mut [u8], at: usize, answer: &[u8], table: &[u8]) -> usize
     requires { ⌜ (length (now answer) ≤ answerBytes) × (length (now table) ≤ tableBytes) × (at + rowBytes ≤ length (now out)) ⌝ }
-    ensures { λ r. ⌜ (r ≤ at + rowBytes) × Printed (now (out .entry)) at (rowOf (numbersOf (now (answer .entry)) ++ numbersOf (now (table .entry)))) (now (out .exit)) r ⌝ }
+    ensures { λ r. ⌜ (r ≤ at + rowBytes) × Printed (now (out .entry)) at (rowOf (numbersHeld (now (answer .entry)) ++ numbersHeld (now (table .entry)))) (now (out .exit)) r ⌝ }
 {
     let n = answer.len() / 8;
     let m = table.len() / 8;
@@ -74,7 +74,7 @@ fn places(f: Form, room: usize) -> usize
 
 // A call on buffers, and its row.
 fn act(
-    call: Call,
+    call: CallWord,
     nums: &[i64],
     list: &[u8],
     register: &mut [u8],
@@ -92,7 +92,7 @@ fn act(
 
 // A call on the bytes that are lent, with an answer table of `room` numbers.
 fn call(
-    call: Call,
+    call: CallWord,
     register: &mut [u8],
     room: usize,
     nums: &[i64],
@@ -243,7 +243,7 @@ fn print_bytes(
 // A call on buffers, and what it leaves of them.
 fn show(
     f: Form,
-    call: Call,
+    call: CallWord,
     nums: &[i64],
     register: &mut [u8],
     answer: &mut [u8],
@@ -259,7 +259,13 @@ fn show(
 }
 
 // A call on buffers of the lengths that the line begins with.
-pub fn on_bytes(call: Call, register: &mut [u8], nums: &[i64], out: &mut [u8], at: usize) -> usize
+pub fn on_bytes(
+    call: CallWord,
+    register: &mut [u8],
+    nums: &[i64],
+    out: &mut [u8],
+    at: usize,
+) -> usize
     requires { ⌜ (length (now register) ≡ bufferBytes) × (at + rowBytes ≤ length (now out)) ⌝ }
     ensures { λ r. ⌜ Played (hubLine call (now (register .entry)) (now (nums .entry))) (now (register .entry)) (now (out .entry)) at (now (register .exit)) (now (out .exit)) r ⌝ }
 {

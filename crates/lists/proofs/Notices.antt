@@ -9,7 +9,7 @@ use Rattle.daybook.specs.Book.{Book}
 use Rattle.daybook.specs.Notices.{Numbers, decide, onPoint, fresh, opening, energy, status, request, withdraw}
 use Rattle.daybook.specs.Calls.{Notice, fresh!, open!, energy!, status!, request!, withdraw!, noted}
 use Rattle.lists.specs.Lists.{Register, bookOf}
-use Rattle.lists.specs.InnerSteps.{listed}
+use Rattle.lists.specs.InnerSteps.{noticeLists}
 use Rattle.lists.specs.InnerWell.{WellFormed}
 use Rattle.lists.proofs.OpenStep.{fresh-step, fresh-keeps, open-step, open-keeps}
 use Rattle.lists.proofs.EnergyStep.{energy-step, energy-keeps}
@@ -17,8 +17,8 @@ use Rattle.lists.proofs.StatusStep.{status-step, status-keeps}
 use Rattle.lists.proofs.TransferStep.{request-step, request-keeps, withdraw-step, withdraw-keeps}
 
 pub notice-step : (c : Notice) (ed : Edition) (R : Register) → WellFormed ed R
-    → noted c ed (bookOf R) ≡ (listed c ed R .0, bookOf (listed c ed R .1))
-unfolding noted listed
+    → noted c ed (bookOf R) ≡ (noticeLists c ed R .0, bookOf (noticeLists c ed R .1))
+unfolding noted noticeLists
 notice-step (fresh! n) ed R ok = fresh-step n R
 notice-step (open! n) ed R ok = open-step ed n R
 notice-step (energy! n) ed R ok = energy-step ed n R ok
@@ -26,8 +26,8 @@ notice-step (status! n) ed R ok = status-step n R ok
 notice-step (request! n holidays) ed R ok = request-step n holidays R ok
 notice-step (withdraw! n) ed R ok = withdraw-step n R ok
 
-pub notice-keeps : (c : Notice) (ed : Edition) {R : Register} → WellFormed ed R → WellFormed ed (listed c ed R .1)
-unfolding listed
+pub notice-keeps : (c : Notice) (ed : Edition) {R : Register} → WellFormed ed R → WellFormed ed (noticeLists c ed R .1)
+unfolding noticeLists
 notice-keeps (fresh! n) ed ok = fresh-keeps n ok
 notice-keeps (open! n) ed ok = open-keeps ed n ok
 notice-keeps (energy! n) ed ok = energy-keeps ed n ok

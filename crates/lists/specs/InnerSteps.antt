@@ -185,10 +185,10 @@ withdrawLists n R =
     (λ q. ([], withPendingLists none q)) R
 
 -- Each notice on the lists.
-unfoldable pub listed : Notice → Edition → Register → Numbers × Register
-listed (fresh! n) ed R = freshLists n R
-listed (open! n) ed R = openingLists ed n R
-listed (energy! n) ed R = energyLists ed n R
-listed (status! n) ed R = statusLists n R
-listed (request! n holidays) ed R = requestLists n holidays R
-listed (withdraw! n) ed R = withdrawLists n R
+unfoldable pub noticeLists : Notice → Edition → Register → Numbers × Register
+noticeLists (fresh! n) ed R = freshLists n R
+noticeLists (open! n) ed R = openingLists ed n R
+noticeLists (energy! n) ed R = energyLists ed n R
+noticeLists (status! n) ed R = statusLists n R
+noticeLists (request! n holidays) ed R = requestLists n holidays R
+noticeLists (withdraw! n) ed R = withdrawLists n R
