@@ -51,6 +51,10 @@ pendingFirst = 8
 abbrev pub pendingLast : ℕ
 pendingLast = 9
 
+-- The place past the request.
+abbrev pub pendingEnd : ℕ
+pendingEnd = 10
+
 abbrev pub sparePlace : ℕ
 sparePlace = 10
 

@@ -13,7 +13,7 @@ use Rattle.daybook.specs.declared.Edition.{Edition}
 use Rattle.daybook.specs.Book.{Entry, Pending, Facts, lastOf, appendDay}
 use Rattle.daybook.specs.Notices.{fitsKind, isRange, offWithin}
 use Rattle.lists.specs.Lists.{Lists, pointOf}
-use Rattle.layout.specs.Places.{pointsPlace, nondailyPlace, dailyPlace, headerSpare, headerLength, regCount, offCount, recCount, pendingUser, sparePlace, regsPlace, offsPlace, recsPlace, recLength, regPlace, offPlace, recPlace}
+use Rattle.layout.specs.Places.{pointsPlace, nondailyPlace, dailyPlace, headerSpare, headerLength, regCount, offCount, recCount, pendingUser, pendingEnd, sparePlace, regsPlace, offsPlace, recsPlace, recLength, regPlace, offPlace, recPlace}
 use Rattle.layout.specs.Layout.{tableLength, placeOf, partOf, numAt, pointFrom, pointsFrom}
 
 unfoldable pub each : {A : Type 0} → (A → Bool) → List A → Bool
@@ -92,7 +92,7 @@ unfoldable pub unusedZero : List ℤ → Bool
 unusedZero p =
     zeros p sparePlace regsPlace && zeros p (regPlace (numAt p regCount)) offsPlace
     && zeros p (offPlace (numAt p offCount)) recsPlace && zeros p (recPlace (numAt p recCount)) (length p)
-    && cond (eqb (numAt p pendingUser) 0) (zeros p pendingUser sparePlace) true
+    && cond (eqb (numAt p pendingUser) 0) (zeros p pendingUser pendingEnd) true
 
 unfoldable pub partSound : List ℤ → Bool
 partSound p = countsSound p && unusedZero p && listsSound (pointFrom p)

@@ -42,6 +42,8 @@ pub const PENDING_FIRST: usize = 8;
 
 pub const PENDING_LAST: usize = 9;
 
+pub const PENDING_END: usize = 10;
+
 pub const SPARE: usize = 10;
 
 // Then its registrations (start, User), off spans (off day, on day) and records (start, end, energy, type).

@@ -86,7 +86,7 @@ fn unused_zero(p: &[i64]) -> bool
         & zeros_in(p, spans, places::RECS)
         & zeros_in(p, recs, p.len());
     if places::pending_user(p) == 0 {
-        return zero & zeros_in(p, places::PENDING_USER, places::SPARE);
+        return zero & zeros_in(p, places::PENDING_USER, places::PENDING_END);
     }
     zero
 }
