@@ -12,9 +12,8 @@ use Rattle.numbers.specs.Naturals.{sameZ}
 use Rattle.numbers.specs.Answers.{refused}
 use Rattle.numbers.proofs.Bools.{cond-same}
 use Rattle.words.specs.Tables.{encodedInto}
-use Rattle.daybook.specs.declared.Edition.{Edition}
 use Rattle.daybook.specs.Notices.{Numbers}
-use Rattle.daybook.specs.Calls.{Notice, Call, notice!, State, Answer, noted, step}
+use Rattle.daybook.specs.Calls.{Notice, notice!, State, Answer, noted, step}
 use Rattle.layout.specs.Layout.{tableLength, editionOf, tableBook, withBook}
 use Rattle.layout.specs.Sound.{sound}
 use Rattle.layout.specs.Calls.{answerAndTable}
@@ -25,7 +24,7 @@ use Rattle.history.specs.Agreement.{StandsFor}
 use Rattle.history.proofs.Steps as OnTables
 use Rattle.history.proofs.Steps.{stateOf, notice-is, step-agrees, state-is, own-sound}
 use Rattle.buffers.specs.Buffers.{withNumbers, tableIn, replied, written}
-use Rattle.bytelists.specs.ByteLists.{HubCall, hub-notice, hub-query, Reply, noticeIn, queryIn, callIn, LentBytes, lentIn, byteStep, bookStep}
+use Rattle.bytelists.specs.ByteLists.{HubCall, hub-notice, hub-query, Reply, noticeIn, callIn, LentBytes, lentIn, byteStep, bookStep}
 use Rattle.bytelists.proofs.Back.{bytes-length, table-whole, table-back}
 
 -- Bytes of a register that stands for the state S.

@@ -13,7 +13,6 @@ use Rattle.daybook.specs.declared.TransferRequest.{TransferRequest}
 use Rattle.daybook.specs.declared.Withdrawal.{Withdrawal}
 use Rattle.daybook.specs.declared.AccountQuery.{AccountQuery}
 use Rattle.daybook.specs.declared.AllocationQuery.{AllocationQuery}
-use Rattle.daybook.specs.Notices.{Numbers}
 use Rattle.daybook.specs.Calls.{Notice, fresh!, open!, energy!, status!, request!, withdraw!, Query, account!, allocate!, Call, notice!, query!, State, Answer, step}
 use Rattle.history.specs.Runs.{Lent, noticeCall, queryCall}
 use Rattle.buffers.specs.Buffers.{tableIn, holidaysIn, written}

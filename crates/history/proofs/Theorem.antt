@@ -1,7 +1,5 @@
 -- The claim about every list of calls. Assumes nothing.
-use mathlib.Core.Path.{_≡_, ap, subst}
-use mathlib.Core.Bool.{true}
-use mathlib.Core.List.{List}
+use mathlib.Core.Path.{subst}
 use Rattle.daybook.specs.Book.{Book}
 use Rattle.daybook.specs.Calls.{State}
 use Rattle.history.specs.Runs.{Lent}

@@ -4,7 +4,6 @@ use mathlib.Core.Path.{_≡_, refl}
 use mathlib.Core.List.{List}
 use lib.Dec.{lit≤}
 use lib.IntN.{ℤ}
-use Rattle.daybook.specs.declared.Edition.{Edition}
 use Rattle.daybook.specs.Book.{Book}
 use Rattle.layout.specs.Layout.{Fits, editionOf, withBook}
 

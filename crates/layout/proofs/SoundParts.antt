@@ -1,9 +1,9 @@
 -- A sound part is the layout of its own well-formed lists, and each point in use of a sound table has one. Assumes
 -- nothing.
-use mathlib.Core.Path.{_≡_, sym, _∙_, ap, subst}
+use mathlib.Core.Path.{_≡_}
 use mathlib.Core.Bool.{true}
 use mathlib.Core.List.{List}
-use Prim.Native.Nat.{ℕ, _+_, _-_, _*_, _/_, _%_, _≤_, _<_}
+use Prim.Native.Nat.{ℕ, _+_, _-_, _*_, _/_, _≤_, _<_}
 use native.Mathlib.Omega.{arith}
 use native.Mathlib.Nat.{mul-le-mul-left}
 use lib.IntN.{ℤ}
@@ -13,8 +13,8 @@ use Rattle.numbers.proofs.Rows.{all-at}
 use Rattle.daybook.specs.declared.Edition.{Edition}
 use Rattle.lists.specs.Lists.{Lists}
 use Rattle.lists.specs.InnerWell.{Well}
-use Rattle.layout.specs.Layout.{tableLength, stride, placeOf, Fits, partOf, pointNumbers, numAt, pointFrom}
-use Rattle.layout.specs.Sound.{countsSound, partSound, sound}
+use Rattle.layout.specs.Layout.{tableLength, stride, Fits, partOf, pointNumbers, numAt, pointFrom}
+use Rattle.layout.specs.Sound.{partSound, sound}
 use Rattle.layout.specs.InnerParts.{roomOf, SoundPart}
 use Rattle.layout.proofs.Numbers.{Few, few, length-point}
 use Rattle.layout.proofs.PartSound.{lays-part}

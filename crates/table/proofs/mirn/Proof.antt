@@ -1,5 +1,4 @@
 use mathlib.Core.Path.{_∙_, ap}
-use native.Mathlib.Omega.{arith}
 use borrow.Author.Needs.{needs}
 use Rattle.layout.specs.Layout.{numAt}
 use Rattle.layout.proofs.Parts.{part-ends}

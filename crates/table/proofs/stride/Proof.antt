@@ -1,5 +1,4 @@
 use mathlib.Core.Path.{refl}
-use native.Mathlib.Omega.{arith}
 use borrow.Author.Needs.{needs}
 use Rattle.layout.proofs.SoundParts.{stride-small}
 use Rattle.table.proofs.stride.Statement.{statement}
