@@ -1,106 +1,120 @@
--- The energy call, test by test. Assumes nothing.
+-- The energy call: the row of its numbers, and what it does once it has been told where its point is. Assumes nothing.
 use mathlib.Core.Path.{_≡_, refl, sym, _∙_, ap}
-use mathlib.Core.Bool.{true, false, not}
+use mathlib.Core.Bool.{Bool, true, false, not, _&&_}
 use mathlib.Core.List.{List, [], _∷_}
 use Prim.Native.Nat.{ℕ, _≤_}
 use native.Mathlib.Omega.{arith}
-use lib.IntN.{ℤ, pos}
+use borrow.Author.Tests.{not-false}
+use lib.IntN.{ℤ, pos, negsuc}
 use lib.ListN.{getD, replicate}
 use Rattle.numbers.specs.Naturals.{natOf}
 use Rattle.numbers.specs.InnerEnergies.{biasOf}
-use Rattle.numbers.specs.Search.{maybe}
+use Rattle.numbers.specs.Answers.{refused}
 use Rattle.numbers.proofs.Naturals.{bias-is}
+use Rattle.calendar.specs.Calendar.{within, isDay}
 use Rattle.daybook.specs.declared.Edition.{Edition}
 use Rattle.daybook.specs.declared.EnergyNotice.{EnergyNotice}
-use Rattle.daybook.specs.Notices.{least, entryOf, energyEarly, energyRows, energy}
+use Rattle.daybook.specs.Notices.{least, Numbers, isMirn, isFlag, entryOf, energyEarly, energyRows, energy}
 use Rattle.lists.specs.Lists.{Register}
 use Rattle.lists.specs.InnerSteps.{enterLists, energyListsRows, energyLists}
 use Rattle.lists.specs.InnerWell.{WellFormed}
-use Rattle.lists.proofs.Rows.{above, least-first, least-skip}
+use Rattle.lists.proofs.Rows.{above, upTo, least-first, least-skip, least-none}
 use Rattle.lists.proofs.EnergyStep.{energy-step, energy-keeps, energy-clear, enter-keeps}
-use Rattle.layout.specs.Layout.{Fits, editionOf, partOf, registerOf}
-use Rattle.layout.specs.InnerWrites.{withPart}
+use Rattle.layout.specs.Layout.{editionOf, registerOf}
 use Rattle.layout.specs.Sound.{sound}
 use Rattle.layout.specs.InnerParts.{roomOf}
-use Rattle.layout.specs.Calls.{onEdition}
+use Rattle.layout.proofs.Editions.{edition-fits}
 use Rattle.layout.proofs.Numbers.{few}
 use Rattle.layout.proofs.TableSound.{sound-lays}
-use Rattle.table.specs.Lookup.{indexOf}
-use Rattle.table.specs.InnerTable.{onPart}
-use Rattle.table.proofs.Laws.{range-small}
-use Rattle.table.proofs.Calls.{call-unsound}
-use Rattle.table.proofs.OnPart.{CallOn, room-found, on-early, on-missing, on-point}
+use Rattle.table.specs.declared.Located.the-variants.{Refused}
+use Rattle.table.specs.InnerTable.{onPart, located}
+use Rattle.table.proofs.Laws.{lent, backIn, range-small}
+use Rattle.table.proofs.Locating.{Standing, at-part}
+use Rattle.table.proofs.OnPart.{CallOn, room-found, call-back, call-done}
 use Rattle.energy.specs.declared.RaisedNotice.{RaisedNotice}
 use Rattle.energy.specs.Energy.{energyCall}
 use Rattle.energy.specs.InnerParts.{raisedNotice, noticeOf, inRange, editionWith, energyRowsOf, energyPart}
 use Rattle.energy.proofs.Raised.{in-range-tells}
 
-module _ (ed : Edition) (fits : Fits ed) (t : List ℤ) (g : ed ≡ editionOf t) (n : EnergyNotice) where
-  here : energyCall t n ≡ onEdition 4 (energy ed n) ed t
+-- ---- row 2
+
+module _ (n : EnergyNotice) where
+  pub range-read : {a b c d : Bool} {energy type : ℤ}
+      → a ≡ isMirn (n .mirn) → b ≡ isDay (n .start) → c ≡ isDay (n .end) → energy ≡ n .energy → type ≡ n .«type_» → d ≡ isFlag (n .confirmed)
+      → (a && b && c && within (negsuc 999999) (pos 1000000) energy && within (pos 0) (pos 2) type && d) ≡ inRange n
+  range-read p q r s u v = rw (p, q, r, s, u, v)
+
+  pub energy-passed : inRange n ≡ true → 0 ≡ least (energyEarly n)
+  unfolding energyEarly least
+  energy-passed e = sym (least-skip 2 _ [] (ap not e))
+
+  pub energy-range : inRange n ≡ false → 2 ≡ least (energyEarly n)
+  unfolding energyEarly above
+  energy-range e = sym (least-first 2 _ [] refl (ap not e))
+
+  pub in-range-here : least (energyEarly n) ≡ 0 → inRange n ≡ true
+  unfolding energyEarly
+  in-range-here e = not-false (inRange n) (least-none 1 (not (inRange n)) [] e .0)
+
+-- ---- the call
+
+module _ (t : List ℤ) (n : EnergyNotice) (e : ℕ) (is : e ≡ least (energyEarly n)) where
+  abbrev ed : Edition
+  ed = editionOf t
+
+  abbrev R : Register
+  R = registerOf ed t
+
+  well-formed : sound ed t ≡ true → WellFormed ed R
+  well-formed s = sound-lays ed (edition-fits t) t s .0
+
+  call : sound ed t ≡ true → CallOn ed R 4 (n .mirn) (energyEarly n) (energyListsRows ed n R) (enterLists (entryOf n)) (energy ed n)
+  unfolding energyLists energyEarly energyListsRows energyRows above upTo
+  call s =
+      let ok = well-formed s in
+      record {
+        numbered = refl;
+        low = refl;
+        high = λ q. refl;
+        is = energy-step ed n R ok;
+        keeps = energy-keeps ed n ok;
+        room = λ q w e. few (enter-keeps w (entryOf n) (energy-clear ed n R q e));
+      }
+
+  pub energy-back : (r : ℕ) → Refused r ≡ located t (n .mirn) e
+      → (pos r ∷ replicate 4 (pos 0) ≡ energyCall t n .0) × (t ≡ energyCall t n .1) × (true ≡ refused (pos r ∷ replicate 4 (pos 0)))
   unfolding energyCall
-  here = ap (λ ed. onEdition 4 (energy ed n) ed t) (sym g)
+  energy-back = call-back t call e is
 
-  pub energy-unsound : sound ed t ≡ false → energyCall t n ≡ (pos 1 ∷ replicate 4 (pos 0), t)
-  energy-unsound e = here ∙ call-unsound 4 (energy ed n) ed t e
-
-  module _ (s : sound ed t ≡ true) where
-    abbrev R : Register
-    R = registerOf ed t
-
-    ok : WellFormed ed R
-    ok = sound-lays ed fits t s .0
-
-    call : CallOn ed R 4 (n .mirn) (energyEarly n) (energyListsRows ed n R) (enterLists (entryOf n)) (energy ed n)
-    unfolding energyLists energyEarly above
-    call =
-        record {
-          numbered = refl;
-          is = energy-step ed n R ok;
-          keeps = energy-keeps ed n ok;
-          room = λ q w e. few (enter-keeps w (entryOf n) (energy-clear ed n R q e));
-        }
-
+  module _ {a b : ℕ} (h : Standing t (n .mirn) e a b) (nondaily daily : ℕ)
+      (en : nondaily ≡ biasOf (getD t 1 (pos 0))) (ed′ : daily ≡ biasOf (getD t 2 (pos 0))) where
     -- the ranges that the call reads
-    pub ranges-small : (a b : ℕ) → a ≡ biasOf (getD t 1 (pos 0)) → b ≡ biasOf (getD t 2 (pos 0)) → (a ≤ 2000000) × (b ≤ 2000000)
+    pub ranges-small : (nondaily ≤ 2000000) × (daily ≤ 2000000)
     unfolding registerOf
-    ranges-small a b ea eb =
+    ranges-small =
+        let ok = well-formed (h .isSound) in
         (omega (arith, range-small (getD t 1 (pos 0)) (ok .nondailyOk)), omega (arith, range-small (getD t 2 (pos 0)) (ok .dailyOk)))
 
-    pub energy-range : inRange n ≡ false → energyCall t n ≡ (pos 2 ∷ replicate 4 (pos 0), t)
-    unfolding energyEarly energyListsRows energyRows above
-    energy-range e = here ∙ on-early ed fits t s call 1 (omega arith) (least-first 2 _ [] refl (ap not e)) (λ q. refl)
+    -- the notice's rows and effect, from the numbers that the code hands on
+    part-same : onPart 4 (energyListsRows ed n R) (enterLists (entryOf n)) (lent t a b)
+        ≡ energyPart (raisedNotice n) (biasOf (R .nondaily)) (biasOf (R .daily)) (lent t a b)
+    unfolding energyPart energyRowsOf energyListsRows energyRows entryOf
+    part-same =
+        let ok = well-formed (h .isSound) in
+        let back : n ≡ noticeOf (raisedNotice n) = in-range-tells n (in-range-here n (sym is ∙ h .passed)) .0 in
+        let nondaily′ = sym (bias-is (R .nondaily) (range-small (R .nondaily) (ok .nondailyOk))) in
+        let daily′ = sym (bias-is (R .daily) (range-small (R .daily) (ok .dailyOk))) in
+        let room : ed .records ≡ roomOf (lent t a b) = sym (ap roomOf (at-part h) ∙ room-found ed (edition-fits t) t (h .isSound) (natOf (n .mirn)) (h .i) (h .index)) in
+        λ i. onPart 4 (energyListsRows (editionWith (room i)) (back i) (record { nondaily = nondaily′ i; daily = daily′ i; points = [] })) (enterLists (entryOf (back i))) (lent t a b)
 
-    module _ (r : inRange n ≡ true) (x : RaisedNotice) (ex : x ≡ raisedNotice n)
-        (i : ℕ) (e : i ≡ maybe (ed .points) (λ k. k) (indexOf ed t (x .mirn))) where
-      passed : least (energyEarly n) ≡ 0
-      unfolding energyEarly least
-      passed = least-skip 2 _ [] (ap not r)
+    module _ (x : RaisedNotice) (ex : x ≡ raisedNotice n) where
+      given : energyPart x nondaily daily (lent t a b) ≡ onPart 4 (energyListsRows ed n R) (enterLists (entryOf n)) (lent t a b)
+      unfolding registerOf
+      given = rw (ex, en, ed′) (sym part-same)
 
-      index : i ≡ maybe (ed .points) (λ k. k) (indexOf ed t (natOf (n .mirn)))
-      index = e ∙ ap (λ x. maybe (ed .points) (λ k. k) (indexOf ed t (x .mirn))) ex
-
-      pub energy-missing : i ≡ ed .points → energyCall t n ≡ (pos 4 ∷ replicate 4 (pos 0), t)
-      energy-missing z = here ∙ on-missing ed fits t s call passed i index z
-
-      module _ (a b : ℕ) (ea : a ≡ biasOf (getD t 1 (pos 0))) (eb : b ≡ biasOf (getD t 2 (pos 0))) (z : i ≡ ed .points → ⊥) where
-        abbrev p : List ℤ
-        p = partOf ed t i
-
-        -- the notice's rows and effect, from the numbers that the code hands on
-        part-same : onPart 4 (energyListsRows ed n R) (enterLists (entryOf n)) p
-            ≡ energyPart (raisedNotice n) (biasOf (R .nondaily)) (biasOf (R .daily)) p
-        unfolding energyPart energyRowsOf energyListsRows energyRows entryOf
-        part-same =
-            let back : n ≡ noticeOf (raisedNotice n) = in-range-tells n r .0 in
-            let nondaily = sym (bias-is (R .nondaily) (range-small (R .nondaily) (ok .nondailyOk))) in
-            let daily = sym (bias-is (R .daily) (range-small (R .daily) (ok .dailyOk))) in
-            let room : ed .records ≡ roomOf p = sym (room-found ed fits t s (natOf (n .mirn)) i index z) in
-            λ i. onPart 4 (energyListsRows (editionWith (room i)) (back i) (record { nondaily = nondaily i; daily = daily i; points = [] })) (enterLists (entryOf (back i))) p
-
-        given : energyPart (raisedNotice n) (biasOf (R .nondaily)) (biasOf (R .daily)) p ≡ energyPart x a b p
-        unfolding registerOf
-        given = rw (ex, ea, eb)
-
-        pub energy-point : energyCall t n ≡ (energyPart x a b (partOf ed t i) .0, withPart ed t i (energyPart x a b (partOf ed t i) .1))
-        energy-point =
-            here ∙ on-point ed fits t s call passed i index z ∙ ap (λ w. (w .0, withPart ed t i (w .1))) (part-same ∙ given)
+      pub energy-done : (r : Numbers) (p : List ℤ) {c : Bool}
+          → (r ≡ energyPart x nondaily daily (lent t a b) .0) × (p ≡ energyPart x nondaily daily (lent t a b) .1) × (c ≡ refused r)
+          → (r ≡ energyCall t n .0) × (backIn t a b p ≡ energyCall t n .1) × (c ≡ refused r)
+      unfolding energyCall
+      energy-done r p g =
+          call-done t call e is h r p (g .0 ∙ ap (λ w. w .0) given, g .1 ∙ ap (λ w. w .1) given, g .2)

@@ -3,13 +3,14 @@
 // The public call finds the point; the functions before it work on that point's part alone.
 use daybook::EnergyAnswer;
 use daybook::EnergyNotice;
+use table::Located;
 ghost use mathlib.Core.Path.{_≡_};
 ghost use mathlib.Core.Bool.{not};
 ghost use Prim.Native.Nat.{_≤_};
 ghost use Rattle.numbers.specs.InnerEnergies.{energyOf};
 ghost use Rattle.numbers.specs.Search.{isSome};
 ghost use Rattle.numbers.specs.Answers.{refused};
-ghost use Rattle.daybook.specs.Notices.{least, beyond};
+ghost use Rattle.daybook.specs.Notices.{least, energyEarly, beyond};
 ghost use Rattle.daybook.specs.Calls.{energyNumbers, energyRefused};
 ghost use Rattle.lists.specs.InnerSteps.{startingOn, appendDayOf};
 ghost use Rattle.lists.specs.InnerWell.{MayEnter};
@@ -18,7 +19,7 @@ ghost use Rattle.layout.specs.Layout.{pointFrom, numAt};
 ghost use Rattle.layout.specs.InnerParts.{roomOf, SoundPart};
 ghost use Rattle.point.specs.InnerTests.{dayIf};
 ghost use Rattle.energy.specs.Energy.{energyCall};
-ghost use Rattle.energy.specs.InnerParts.{raisedNotice, entryFrom, inRange, InRange, rowIn, energyRowsOf, Recorded, SettledTo, energyPart};
+ghost use Rattle.energy.specs.InnerParts.{raisedNotice, entryFrom, InRange, rowIn, energyRowsOf, Recorded, SettledTo, energyPart};
 
 // A notice's numbers as naturals, its energy raised by 1,000,000; a number that is none as the marker 2^63.
 struct RaisedNotice {
@@ -42,18 +43,22 @@ struct Settled {
     lapsed: u64,
 }
 
-// Row 2.
-fn in_range(n: EnergyNotice) -> bool
-    ensures { λ r. ⌜ r ≡ inRange n ⌝ }
+// The row of a notice's own numbers, 0 if none applies.
+fn own_row(n: EnergyNotice) -> u64
+    ensures { λ r. ⌜ r ≡ least (energyEarly n) ⌝ }
 {
     let energy = n.energy;
     let type_ = n.type_;
-    daybook::is_mirn(n.mirn)
+    if daybook::is_mirn(n.mirn)
         & calendar::is_day(n.start)
         & calendar::is_day(n.end)
         & ((-1000000 <= energy) & (energy <= 1000000))
         & ((0 <= type_) & (type_ <= 2))
         & daybook::is_flag(n.confirmed)
+    {
+        return 0;
+    }
+    2
 }
 
 fn read(n: EnergyNotice) -> RaisedNotice
@@ -246,21 +251,14 @@ fn enter(p: &mut [i64], x: RaisedNotice, nondaily: u64, daily: u64) -> EnergyAns
 pub fn energy(t: &mut [i64], n: EnergyNotice) -> EnergyAnswer
     ensures { λ r. ⌜ (energyNumbers r ≡ energyCall (now (t .entry)) n .0) × (now (t .exit) ≡ energyCall (now (t .entry)) n .1) × (energyRefused r ≡ refused (energyNumbers r)) ⌝ }
 {
-    let ed = table::edition(t);
-    if !table::sound(t, ed) {
-        return EnergyAnswer::Refused(1);
+    let mirn = n.mirn;
+    match table::locate(t, mirn, own_row(n)) {
+        Located::Refused(row) => EnergyAnswer::Refused(row),
+        Located::At { from, to } => {
+            let x = read(n);
+            let nondaily = places::nondaily(t);
+            let daily = places::daily(t);
+            enter(&mut t[from..to], x, nondaily, daily)
+        }
     }
-    if !in_range(n) {
-        return EnergyAnswer::Refused(2);
-    }
-    let x = read(n);
-    let i = table::index_of(t, ed, x.mirn);
-    if i == ed.points {
-        return EnergyAnswer::Refused(4);
-    }
-    let nondaily = places::nondaily(t);
-    let daily = places::daily(t);
-    let a = table::place(ed, i);
-    let b = table::place(ed, i + 1);
-    enter(&mut t[a..b], x, nondaily, daily)
 }

@@ -12,11 +12,8 @@ use borrow.Author.Tests.{lt-leb}
 use Rattle.words.proofs.Tables.{length-decoded}
 use Rattle.calendar.specs.Calendar.{holidayList}
 use Rattle.daybook.specs.declared.TransferRequest.{TransferRequest}
-use Rattle.layout.specs.Layout.{editionOf}
-use Rattle.layout.specs.Sound.{sound}
-use Rattle.layout.proofs.Editions.{edition-fits}
 use Rattle.transfer.specs.Transfer.{requestCall}
-use Rattle.transfer.proofs.Requests.{inRange, request-unsound, request-range, request-holidays}
+use Rattle.transfer.proofs.Requests.{inRange, request-range, request-holidays, request-early}
 use Rattle.buffers.specs.Buffers.{numbersIn, holidaysIn}
 
 too-many : (hs : List ℤ) → 512 < length hs → holidayList hs ≡ false
@@ -26,12 +23,11 @@ too-many hs h = rw (lt-leb (length hs) 512 h)
 -- two lists that are none get the same
 refused-alike : (t : List ℤ) (n : TransferRequest) (hs ks : List ℤ) → holidayList hs ≡ false → holidayList ks ≡ false
     → requestCall t n hs ≡ requestCall t n ks
-refused-alike t n hs ks h k = go (sound (editionOf t) t) refl (inRange n) refl
+refused-alike t n hs ks h k = go (inRange n) refl
   where
-    go : (s : Bool) → sound (editionOf t) t ≡ s → (r : Bool) → inRange n ≡ r → requestCall t n hs ≡ requestCall t n ks
-    go false e r f = request-unsound (editionOf t) (edition-fits t) t refl n hs e ∙ sym (request-unsound (editionOf t) (edition-fits t) t refl n ks e)
-    go true e false f = request-range (editionOf t) (edition-fits t) t refl n hs e f ∙ sym (request-range (editionOf t) (edition-fits t) t refl n ks e f)
-    go true e true f = request-holidays (editionOf t) (edition-fits t) t refl n hs e f h ∙ sym (request-holidays (editionOf t) (edition-fits t) t refl n ks e f k)
+    go : (r : Bool) → inRange n ≡ r → requestCall t n hs ≡ requestCall t n ks
+    go false f = request-early t n hs 2 (request-range n hs f) 1 refl ∙ sym (request-early t n ks 2 (request-range n ks f) 1 refl)
+    go true f = request-early t n hs 3 (request-holidays n hs f h) 2 refl ∙ sym (request-early t n ks 3 (request-holidays n ks f k) 2 refl)
 
 numbers-length : (b : List ℕ) (n : ℕ) → length (numbersIn b n) ≡ n
 unfolding numbersIn

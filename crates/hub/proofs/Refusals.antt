@@ -1,6 +1,6 @@
 -- A refusal is a row of "Notices sent back", so at most the highest.
 use mathlib.Core.Path.{_≡_, refl}
-use mathlib.Core.Bool.{Bool, true, false, _&&_, cond}
+use mathlib.Core.Bool.{Bool, true, false, cond}
 use mathlib.Core.Option.{Option, none, some}
 use mathlib.Core.List.{List, [], _∷_, _++_}
 use Prim.Native.Nat.{ℕ, zero, suc, _≤_}
@@ -8,10 +8,8 @@ use native.Mathlib.Omega.{arith}
 use lib.Dec.{leb}
 use lib.IntN.{ℤ, pos}
 use lib.ListN.{length, replicate}
-use borrow.Author.Tests.{leb-true}
 use Rattle.numbers.specs.Naturals.{natOf}
 use Rattle.numbers.specs.Search.{maybe}
-use Rattle.numbers.proofs.Bools.{both, join}
 use Rattle.calendar.specs.Calendar.{dayOf, isDate, dateCall}
 use Rattle.daybook.specs.declared.Edition.{Edition}
 use Rattle.daybook.specs.declared.Ranges.{Ranges}
@@ -23,8 +21,9 @@ use Rattle.daybook.specs.declared.Withdrawal.{Withdrawal}
 use Rattle.daybook.specs.declared.AccountQuery.{AccountQuery}
 use Rattle.daybook.specs.declared.AllocationQuery.{AllocationQuery}
 use Rattle.daybook.specs.Book.{Book, Point}
-use Rattle.daybook.specs.Notices.{Row, highestRefusal, smaller, least, Numbers, decide, find, onPoint, freshRows, fresh, openingRows, opening, energyEarly, energyRows, energyRowsAt, energy, statusEarly, statusRows, status, requestEarly, requestRows, request, withdrawEarly, withdrawRows, withdraw}
+use Rattle.daybook.specs.Notices.{Row, highestRefusal, least, Numbers, decide, find, onPoint, freshRows, fresh, openingRows, opening, energyEarly, energyRows, energyRowsAt, energy, statusEarly, statusRows, status, requestEarly, requestRows, request, withdrawEarly, withdrawRows, withdraw}
 use Rattle.daybook.specs.Queries.{accountRows, account, allocateRows, allocate}
+use Rattle.lists.proofs.Rows.{upTo, up-to-append, up-to-least}
 use Rattle.layout.specs.Layout.{tableLength, editionOf, tableBook}
 use Rattle.layout.specs.Sound.{sound}
 use Rattle.layout.specs.Calls.{answerAndTable, onEdition, ofEdition}
@@ -36,44 +35,21 @@ use Rattle.account.specs.Account.{accountCall}
 use Rattle.allocate.specs.Allocate.{allocateCall}
 use Rattle.buffers.proofs.Ends.{refusalOf}
 
--- No number of the rows is above the highest. On rows with written numbers this computes.
-unfoldable small : List Row → Bool
-small [] = true
-small (r ∷ rs) = leb (r .0) highestRefusal && small rs
-
-small-append : (rs ss : List Row) → small rs ≡ true → small ss ≡ true → small (rs ++ ss) ≡ true
-unfolding small
-small-append [] ss h k = k
-small-append (r ∷ rs) ss h k =
-    let b = both (leb (r .0) highestRefusal) (small rs) h in join (b .0) (small-append rs ss (b .1) k)
-
-small-least : (rs : List Row) → small rs ≡ true → least rs ≤ highestRefusal
-unfolding small least
-small-least [] h = omega arith
-small-least (r ∷ rs) h =
-    let b = both (leb (r .0) highestRefusal) (small rs) h in
-    go (r .1) (least rs) (leb-true (r .0) highestRefusal (b .0)) (small-least rs (b .1))
-  where
-    go : (t : Bool) (l : ℕ) → r .0 ≤ highestRefusal → l ≤ highestRefusal → cond t (smaller (r .0) l) l ≤ highestRefusal
-    go true zero k i = k
-    go true (suc l) k i = omega arith
-    go false l k i = i
-
 decided : {X : Type 0} (r k : ℕ) (x : X) (w : Numbers × X) → refusalOf (decide r k x w .0) ≡ r
 unfolding decide
 decided zero k x w = refl
 decided (suc r) k x w = refl
 
 on-point : (k : ℕ) (m : ℤ) (early : List Row) (rows : Point → List Row) (effect : Point → Numbers × Point) (B : Book)
-    → small early ≡ true → ((p : Point) → small (rows p) ≡ true) → refusalOf (onPoint k m early rows effect B .0) ≤ highestRefusal
-unfolding onPoint small
+    → upTo highestRefusal early ≡ true → ((p : Point) → upTo highestRefusal (rows p) ≡ true) → refusalOf (onPoint k m early rows effect B .0) ≤ highestRefusal
+unfolding onPoint upTo
 on-point k m early rows effect B h g =
-    rw decided (small-least (early ++ maybe ((4, true) ∷ []) rows found) (small-append early _ h (go found)))
+    rw decided (up-to-least highestRefusal (early ++ maybe ((4, true) ∷ []) rows found) (up-to-append highestRefusal early _ h (go found)))
   where
     found : Option Point
     found = find (natOf m) (B .points)
 
-    go : (o : Option Point) → small (maybe ((4, true) ∷ []) rows o) ≡ true
+    go : (o : Option Point) → upTo highestRefusal (maybe ((4, true) ∷ []) rows o) ≡ true
     go none = refl
     go (some p) = g p
 
@@ -89,32 +65,32 @@ on-table k step ed t h = go (sound ed t)
 -- ---- each call
 
 pub fresh-small : (t : List ℤ) (n : Ranges) → refusalOf (freshCall t n .0) ≤ highestRefusal
-unfolding freshCall fresh freshRows small
+unfolding freshCall fresh freshRows upTo
 fresh-small t n = go (leb tableLength (length t))
   where
     go : (s : Bool) → refusalOf (cond s (answerAndTable (editionOf t) t (fresh n (tableBook (editionOf t) t))) (pos 1 ∷ [], t) .0) ≤ highestRefusal
-    go true = rw decided (small-least (freshRows n) refl)
+    go true = rw decided (up-to-least highestRefusal (freshRows n) refl)
     go false = omega arith
 
 pub open-small : (t : List ℤ) (n : Opening) → refusalOf (openCall t n .0) ≤ highestRefusal
-unfolding openCall opening openingRows small
-open-small t n = on-table 0 (opening (editionOf t) n) (editionOf t) t (λ B. rw decided (small-least (openingRows (editionOf t) n _ (length (B .points))) refl))
+unfolding openCall opening openingRows upTo
+open-small t n = on-table 0 (opening (editionOf t) n) (editionOf t) t (λ B. rw decided (up-to-least highestRefusal (openingRows (editionOf t) n _ (length (B .points))) refl))
 
 pub energy-small : (t : List ℤ) (n : EnergyNotice) → refusalOf (energyCall t n .0) ≤ highestRefusal
-unfolding energyCall energy energyEarly energyRowsAt energyRows small
+unfolding energyCall energy energyEarly energyRowsAt energyRows upTo
 energy-small t n = on-table 4 (energy (editionOf t) n) (editionOf t) t (λ B. on-point 4 (n .mirn) (energyEarly n) _ _ B refl (λ p. refl))
 
 pub status-small : (t : List ℤ) (n : StatusNotice) → refusalOf (statusCall t n .0) ≤ highestRefusal
-unfolding statusCall status statusEarly statusRows small
+unfolding statusCall status statusEarly statusRows upTo
 status-small t n = on-table 0 (status n) (editionOf t) t (λ B. on-point 0 (n .mirn) (statusEarly n) _ _ B refl (λ p. refl))
 
 pub request-small : (t : List ℤ) (n : TransferRequest) (hs : List ℤ) → refusalOf (requestCall t n hs .0) ≤ highestRefusal
-unfolding requestCall request requestEarly requestRows small
+unfolding requestCall request requestEarly requestRows upTo
 request-small t n hs =
     on-table 2 (request n hs) (editionOf t) t (λ B. on-point 2 (n .mirn) (requestEarly n hs) _ _ B refl (λ p. refl))
 
 pub withdraw-small : (t : List ℤ) (n : Withdrawal) → refusalOf (withdrawCall t n .0) ≤ highestRefusal
-unfolding withdrawCall withdraw withdrawEarly withdrawRows small
+unfolding withdrawCall withdraw withdrawEarly withdrawRows upTo
 withdraw-small t n = on-table 0 (withdraw n) (editionOf t) t (λ B. on-point 0 (n .mirn) (withdrawEarly n) _ _ B refl (λ p. refl))
 
 pub date-small : (y m d : ℤ) → refusalOf (dateCall y m d) ≤ highestRefusal
@@ -128,17 +104,17 @@ date-small y m d = go (isDate y m d)
 -- ---- the queries
 
 pub account-small : (t : List ℤ) (n : AccountQuery) → refusalOf (accountCall t n) ≤ highestRefusal
-unfolding accountCall account accountRows ofEdition small
+unfolding accountCall account accountRows ofEdition upTo
 account-small t n = go (sound (editionOf t) t)
   where
     go : (s : Bool) → refusalOf (cond s (account n (tableBook (editionOf t) t)) (pos 1 ∷ pos 0 ∷ [])) ≤ highestRefusal
-    go true = rw decided (small-least (accountRows n) refl)
+    go true = rw decided (up-to-least highestRefusal (accountRows n) refl)
     go false = omega arith
 
 pub allocate-small : (t : List ℤ) (q : AllocationQuery) (room : ℕ) → refusalOf (allocateCall t q room .0) ≤ highestRefusal
-unfolding allocateCall allocate allocateRows ofEdition small
+unfolding allocateCall allocate allocateRows ofEdition upTo
 allocate-small t q room = go (sound (editionOf t) t)
   where
     go : (s : Bool) → refusalOf (cond s (allocate q room (tableBook (editionOf t) t)) (pos 1 ∷ replicate 17 (pos 0), []) .0) ≤ highestRefusal
-    go true = rw decided (small-least (allocateRows q room (tableBook (editionOf t) t)) refl)
+    go true = rw decided (up-to-least highestRefusal (allocateRows q room (tableBook (editionOf t) t)) refl)
     go false = omega arith

@@ -5,11 +5,11 @@ use mathlib.Core.List.{List, [], _∷_, _++_}
 use Prim.Native.Nat.{ℕ, zero, suc, _≤_, _<_}
 use native.Mathlib.Nat.{suc-min-suc}
 use native.Mathlib.Omega.{arith}
-use lib.Dec.{ltb}
+use lib.Dec.{leb, ltb}
 use lib.ListN.{replicate}
 use lib.IntN.{pos}
-use borrow.Author.Tests.{ltb-true}
-use Rattle.numbers.proofs.Bools.{both}
+use borrow.Author.Tests.{leb-true, ltb-true, lt-ltb}
+use Rattle.numbers.proofs.Bools.{both, join}
 use Rattle.daybook.specs.Notices.{Row, smaller, least, Numbers, decide}
 
 -- ---- the lowest row that applies
@@ -25,6 +25,37 @@ above-append n [] ss h k = k
 above-append n (r ∷ rs) ss h k =
     let b : (ltb n (r .0) ≡ true) × (above n rs ≡ true) = both (ltb n (r .0)) (above n rs) h in
     rw (b .0) (above-append n rs ss (b .1) k)
+
+-- Rows above n are above less.
+pub above-less : (m n : ℕ) (rs : List Row) → m ≤ n → above n rs ≡ true → above m rs ≡ true
+unfolding above
+above-less m n [] l h = refl
+above-less m n (r ∷ rs) l h =
+    let b : (ltb n (r .0) ≡ true) × (above n rs ≡ true) = both (ltb n (r .0)) (above n rs) h in
+    join (lt-ltb m (r .0) (omega (arith, ltb-true n (r .0) (b .0)))) (above-less m n rs l (b .1))
+
+-- Every number of the rows is at most n. This computes too.
+unfoldable pub upTo : ℕ → List Row → Bool
+upTo n [] = true
+upTo n (r ∷ rs) = leb (r .0) n && upTo n rs
+
+pub up-to-append : (n : ℕ) (rs ss : List Row) → upTo n rs ≡ true → upTo n ss ≡ true → upTo n (rs ++ ss) ≡ true
+unfolding upTo
+up-to-append n [] ss h k = k
+up-to-append n (r ∷ rs) ss h k =
+    let b = both (leb (r .0) n) (upTo n rs) h in join (b .0) (up-to-append n rs ss (b .1) k)
+
+pub up-to-least : (n : ℕ) (rs : List Row) → upTo n rs ≡ true → least rs ≤ n
+unfolding upTo least
+up-to-least n [] h = omega arith
+up-to-least n (r ∷ rs) h =
+    let b = both (leb (r .0) n) (upTo n rs) h in
+    go (r .1) (least rs) (leb-true (r .0) n (b .0)) (up-to-least n rs (b .1))
+  where
+    go : (t : Bool) (l : ℕ) → r .0 ≤ n → l ≤ n → cond t (smaller (r .0) l) l ≤ n
+    go true zero k i = k
+    go true (suc l) k i = omega arith
+    go false l k i = i
 
 -- The lowest of rows above n is 0, for none, or above n.
 above-least : (n : ℕ) (rs : List Row) → above n rs ≡ true → (m : ℕ) → least rs ≡ suc m → n < suc m

@@ -27,10 +27,9 @@ use Rattle.layout.proofs.PointParts.{all-few-of, withPoints, table-split}
 use Rattle.layout.proofs.TableSound.{sound-lays, points-count}
 use Rattle.layout.proofs.NewPoint.{freshPoint, append-point}
 use Rattle.table.specs.Lookup.{indexOf}
-use Rattle.table.proofs.Laws.{index-none}
-use Rattle.table.proofs.Found.{missing}
+use Rattle.table.proofs.Laws.{index-none, index-some}
+use Rattle.table.proofs.Found.{found, missing}
 use Rattle.table.proofs.Calls.{call-unsound, laidOver, leaves-is, left-alone}
-use Rattle.table.proofs.OnPart.{point-found}
 use Rattle.opening.specs.Opening.{openCall}
 
 -- are all numbers of an opening in range?
@@ -91,7 +90,7 @@ module _ (ed : Edition) (fits : Fits ed) (t : List ℤ) (g : ed ≡ editionOf t)
 
   module _ (i : ℕ) (e : i ≡ maybe (ed .points) (λ k. k) (indexOf ed t (natOf (n .mirn)))) where
     index-known : (i ≡ ed .points → ⊥) → known ≡ true
-    index-known d = ap isSome (point-found ed fits t s (natOf (n .mirn)) i e d .find)
+    index-known d = ap isSome (found ed fits t s (natOf (n .mirn)) i (index-some ed t s (natOf (n .mirn)) i e d) .find)
 
     index-new : i ≡ ed .points → known ≡ false
     index-new d = ap isSome (missing ed fits t s (natOf (n .mirn)) (index-none ed t s (natOf (n .mirn)) i e d))

@@ -2,25 +2,26 @@
 // before it work on that point's part alone, which the table's soundness makes the layout of well-formed lists.
 use daybook::NoticeAnswer;
 use daybook::StatusNotice;
+use table::Located;
 ghost use mathlib.Core.Path.{_≡_};
-ghost use mathlib.Core.Bool.{_&&_, cond};
 ghost use Prim.Native.Nat.{_≤_};
-ghost use lib.Dec.{eqb};
 ghost use Rattle.numbers.specs.Answers.{refused};
-ghost use Rattle.calendar.specs.Calendar.{isDay};
 ghost use Rattle.daybook.specs.Book.{lastOf};
-ghost use Rattle.daybook.specs.Notices.{least, isMirn, isFlag, cannotOff, cannotOn};
+ghost use Rattle.daybook.specs.Notices.{least, statusEarly, cannotOff, cannotOn};
 ghost use Rattle.daybook.specs.Calls.{noticeNumbers, noticeRefused};
 ghost use Rattle.layout.specs.Layout.{pointNumbers, pointFrom};
 ghost use Rattle.layout.specs.InnerParts.{roomOf, SoundPart};
-ghost use Rattle.status.specs.InnerParts.{filledFrom, cannotSwitch, statusRowsOf, switchedLists};
+ghost use Rattle.status.specs.InnerParts.{filledFrom, cannotSwitch, statusRowsOf, switchedLists, statusPart};
 ghost use Rattle.status.specs.Status.{statusCall};
 
-// Row 2.
-fn in_range(n: StatusNotice) -> bool
-    ensures { λ r. ⌜ r ≡ (isMirn (n .mirn) && isDay (n .day) && isFlag (n .on)) ⌝ }
+// The row of a notice's own numbers, 0 if none applies.
+fn own_row(n: StatusNotice) -> u64
+    ensures { λ r. ⌜ r ≡ least (statusEarly n) ⌝ }
 {
-    daybook::is_mirn(n.mirn) & calendar::is_day(n.day) & daybook::is_flag(n.on)
+    if daybook::is_mirn(n.mirn) & calendar::is_day(n.day) & daybook::is_flag(n.on) {
+        return 0;
+    }
+    2
 }
 
 // By the last span: off while off, or at or before the last on day.
@@ -99,40 +100,31 @@ fn switch(p: &mut [i64], day: u64, on: u64)
 }
 
 // A notice on its point's part, which a refusal leaves as found.
-fn enter(p: &mut [i64], day: u64, on: u64) -> u64
+fn enter(p: &mut [i64], day: u64, on: u64) -> NoticeAnswer
     requires { ⌜ SoundPart (now p) × (day ≤ 39999) × (on ≤ 1) ⌝ }
-    ensures { λ r. ⌜ (r ≡ least (statusRowsOf day on (pointFrom (now (p .entry))))) × (now (p .exit) ≡ cond (eqb r 0) (pointNumbers (roomOf (now (p .entry))) (switchedLists day on (pointFrom (now (p .entry))))) (now (p .entry))) ⌝ }
+    ensures { λ r. ⌜ (noticeNumbers r ≡ statusPart day on (now (p .entry)) .0) × (now (p .exit) ≡ statusPart day on (now (p .entry)) .1) × (noticeRefused r ≡ refused (noticeNumbers r)) ⌝ }
 {
     let row = refusal(p, day, on);
-    if row == 0 {
-        switch(p, day, on);
+    if row != 0 {
+        return NoticeAnswer::Refused(row);
     }
-    row
+    switch(p, day, on);
+    NoticeAnswer::Entered
 }
 
 // On any table and any numbers.
 pub fn status(t: &mut [i64], n: StatusNotice) -> NoticeAnswer
     ensures { λ r. ⌜ (noticeNumbers r ≡ statusCall (now (t .entry)) n .0) × (now (t .exit) ≡ statusCall (now (t .entry)) n .1) × (noticeRefused r ≡ refused (noticeNumbers r)) ⌝ }
 {
-    let ed = table::edition(t);
-    if !table::sound(t, ed) {
-        return NoticeAnswer::Refused(1);
-    }
-    if !in_range(n) {
-        return NoticeAnswer::Refused(2);
-    }
     let mirn = n.mirn;
     let day = n.day;
     let on = n.on;
-    let i = table::index_of(t, ed, numbers::natural(mirn));
-    if i == ed.points {
-        return NoticeAnswer::Refused(4);
+    match table::locate(t, mirn, own_row(n)) {
+        Located::Refused(row) => NoticeAnswer::Refused(row),
+        Located::At { from, to } => {
+            let d = numbers::natural(day);
+            let o = numbers::natural(on);
+            enter(&mut t[from..to], d, o)
+        }
     }
-    let a = table::place(ed, i);
-    let b = table::place(ed, i + 1);
-    let refused = enter(&mut t[a..b], numbers::natural(day), numbers::natural(on));
-    if refused == 0 {
-        return NoticeAnswer::Entered;
-    }
-    NoticeAnswer::Refused(refused)
 }

@@ -2,7 +2,7 @@
 use mathlib.Core.Path.{_≡_, refl, sym, ap, _∙_}
 use mathlib.Core.Bool.{Bool, true, false, not, _&&_}
 use mathlib.Core.Option.{Option, none, some}
-use mathlib.Core.List.{List, [], _++_}
+use mathlib.Core.List.{List, _++_}
 use Prim.Native.Nat.{ℕ, suc, _+_, _-_, _*_, _≤_, _<_}
 use native.Mathlib.Omega.{arith}
 use native.Mathlib.Nat.{mul-suc, mul-le-mul-left}
@@ -11,7 +11,6 @@ use lib.ListN.{getD, length, take, drop}
 use lib.Seq.{drop-drop}
 use lib.IntN.{ℤ, pos, negsuc}
 use borrow.Author.Tests.{le-leb, lt-leb, eq-eqb, ne-eqb, leb-true}
-use Rattle.numbers.specs.Naturals.{natOf}
 use Rattle.numbers.specs.InnerEnergies.{biasOf}
 use Rattle.numbers.specs.Rows.{all}
 use Rattle.numbers.specs.Search.{maybe, firstFrom}
@@ -20,13 +19,13 @@ use Rattle.numbers.proofs.Rows.{all-more, all-fails, all-done}
 use Rattle.numbers.proofs.Search.{from-none, from-hit, from-miss, from-bound}
 use Rattle.daybook.specs.Notices.{isRange}
 use Rattle.daybook.specs.declared.Edition.{Edition}
-use Rattle.layout.specs.Layout.{tableLength, stride, placeOf, Fits, editionOf, partOf, numAt, pointsFrom}
+use Rattle.layout.specs.Layout.{tableLength, stride, placeOf, Fits, partOf, numAt, pointsFrom}
 use Rattle.layout.specs.InnerWrites.{withPart}
 use Rattle.layout.specs.Sound.{zeros, partSound, mirnsDiffer, sound}
 use Rattle.layout.specs.InnerMirns.{laterDiffer}
 use Rattle.layout.proofs.TableSound.{Tested, tested}
 use Rattle.table.specs.InnerTable.{bodySound}
-use Rattle.table.specs.Lookup.{indexOf, lookUp}
+use Rattle.table.specs.Lookup.{indexOf}
 
 -- The part of point i as code lends it, from place a to place b, and the table once it is back.
 abbrev pub lent : List ℤ → ℕ → ℕ → List ℤ
@@ -137,6 +136,11 @@ module _ (ed : Edition) (t : List ℤ) where
 
 -- ---- what the search by MIRN answers
 
+pub index-within : (ed : Edition) (t : List ℤ) → sound ed t ≡ true → (m i : ℕ) → indexOf ed t m ≡ some i → i + 1 ≤ ed .points
+unfolding indexOf
+index-within ed t s m i e =
+    omega (arith, from-bound (mirnAt ed t m) 0 (numAt t 0) i e .1, sound-long ed t s .1)
+
 module _ (ed : Edition) (t : List ℤ) (s : sound ed t ≡ true) (m i : ℕ) (e : i ≡ maybe (ed .points) (λ k. k) (indexOf ed t m)) where
   pub index-none : i ≡ ed .points → indexOf ed t m ≡ none
   unfolding indexOf
@@ -152,19 +156,3 @@ module _ (ed : Edition) (t : List ℤ) (s : sound ed t ≡ true) (m i : ℕ) (e 
       go : (o : Option ℕ) → i ≡ maybe (ed .points) (λ k. k) o → o ≡ some i
       go none h = absurd (n h)
       go (some k) h = ap some (sym h)
-
--- ---- the look-up
-
-module _ (ed : Edition) (t : List ℤ) (g : ed ≡ editionOf t) (m : ℤ) where
-  pub look-unsound : sound ed t ≡ false → [] ≡ lookUp t m
-  unfolding lookUp
-  look-unsound e = rw (sym g, e)
-
-  module _ (s : sound ed t ≡ true) (i : ℕ) (e : i ≡ maybe (ed .points) (λ k. k) (indexOf ed t (natOf m))) where
-    pub look-missing : i ≡ ed .points → [] ≡ lookUp t m
-    unfolding lookUp
-    look-missing z = rw (sym g, s, index-none ed t s (natOf m) i e z)
-
-    pub look-found : (i ≡ ed .points → ⊥) → partOf ed t i ≡ lookUp t m
-    unfolding lookUp
-    look-found n = rw (sym g, s, index-some ed t s (natOf m) i e n)

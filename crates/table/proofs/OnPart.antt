@@ -1,39 +1,40 @@
 -- A call on the point of a MIRN, by what it does to that point's part alone: all that a public call needs which lends
 -- the part on. Assumes nothing.
 use mathlib.Core.Path.{_≡_, refl, sym, _∙_, ap, subst}
-use mathlib.Core.Bool.{Bool, true}
+use mathlib.Core.Bool.{Bool, true, not}
 use mathlib.Core.Option.{Option, none, some}
 use mathlib.Core.List.{List, [], _∷_, _++_}
-use Prim.Native.Nat.{ℕ, zero, suc, _+_, _≤_}
+use Prim.Native.Nat.{ℕ, zero, suc, _≤_}
 use native.Mathlib.Omega.{arith}
+use lib.Dec.{eqb·suc-zero}
 use lib.ListN.{replicate}
 use lib.IntN.{ℤ, pos}
-use borrow.Author.Tests.{lt-ltb}
 use Rattle.numbers.specs.Naturals.{natOf}
 use Rattle.numbers.specs.Search.{maybe}
 use Rattle.numbers.specs.Answers.{refused}
-use Rattle.numbers.proofs.Bools.{join}
 use Rattle.daybook.specs.declared.Edition.{Edition}
 use Rattle.daybook.specs.Book.{Book}
 use Rattle.daybook.specs.Notices.{Row, least, Numbers, decide}
 use Rattle.lists.specs.Lists.{Lists, Register, bookOf}
 use Rattle.lists.specs.InnerSteps.{findLists, onLists}
 use Rattle.lists.specs.InnerWell.{Well, WellFormed}
-use Rattle.lists.proofs.Rows.{above, least-first, least-append-none, least-append-some, decide-taken, decide-refused}
-use Rattle.layout.specs.Layout.{placeOf, Fits, partOf, pointNumbers, pointFrom, registerOf}
+use Rattle.lists.proofs.Rows.{above, above-less, upTo, up-to-least, least-first, least-append-none, least-append-some, decide-taken, decide-refused}
+use Rattle.layout.specs.Layout.{Fits, editionOf, partOf, pointNumbers, pointFrom, registerOf}
 use Rattle.layout.specs.InnerWrites.{withPart}
 use Rattle.layout.specs.Sound.{sound}
 use Rattle.layout.specs.InnerParts.{roomOf, SoundPart}
 use Rattle.layout.specs.Calls.{onEdition}
 use Rattle.layout.proofs.Numbers.{Few, few}
+use Rattle.layout.proofs.Editions.{edition-fits}
 use Rattle.layout.proofs.Parts.{with-part-own}
-use Rattle.layout.proofs.TableSound.{sound-lays}
 use Rattle.layout.proofs.SoundParts.{room-laid, laid-sound, stride-small}
+use Rattle.table.specs.declared.Located.the-variants.{Refused}
 use Rattle.table.specs.Lookup.{indexOf}
-use Rattle.table.specs.InnerTable.{onPart}
-use Rattle.table.proofs.Laws.{lent, backIn, part-is, part-put, index-none, index-some}
+use Rattle.table.specs.InnerTable.{onPart, located}
+use Rattle.table.proofs.Laws.{lent, backIn, part-put}
 use Rattle.table.proofs.Found.{Found, found, missing}
-use Rattle.table.proofs.Calls.{call-refused, call-entered}
+use Rattle.table.proofs.Locating.{Standing, SentBack, unsound, by-numbers, unknown, sent-back, at-part}
+use Rattle.table.proofs.Calls.{call-unsound, gives, tells, call-refused, call-entered}
 
 -- ---- on the part
 
@@ -50,31 +51,28 @@ module _ (k : ℕ) (rows : Lists → List Row) (effect : Lists → Numbers × Li
   unfolding onPart
   part-refused r e = ap (λ n. decide n k p enters) e ∙ decide-refused k p enters r
 
--- ---- the part lent
+-- ---- the point found
 
-module _ (ed : Edition) (fits : Fits ed) (t : List ℤ) (s : sound ed t ≡ true) (m i : ℕ)
-    (e : i ≡ maybe (ed .points) (λ k. k) (indexOf ed t m)) where
-  pub point-found : (i ≡ ed .points → ⊥) → Found ed t m i
-  point-found n = found ed fits t s m i (index-some ed t s m i e n)
-
+module _ (ed : Edition) (fits : Fits ed) (t : List ℤ) (s : sound ed t ≡ true) (m i : ℕ) (e : indexOf ed t m ≡ some i) where
   -- in an edition a part has room for the edition's records
-  pub room-found : (i ≡ ed .points → ⊥) → roomOf (partOf ed t i) ≡ ed .records
-  room-found n = let f : Found ed t m i = point-found n in ap roomOf (sym (f .laid)) ∙ room-laid (few (f .well))
+  pub room-found : roomOf (partOf ed t i) ≡ ed .records
+  room-found = let f : Found ed t m i = found ed fits t s m i e in ap roomOf (sym (f .laid)) ∙ room-laid (few (f .well))
 
-  pub lent-sound : (i ≡ ed .points → ⊥) → (a b : ℕ) → a ≡ placeOf ed i → b ≡ placeOf ed (i + 1) → SoundPart (lent t a b)
-  lent-sound n a b g h =
-      let f : Found ed t m i = point-found n in
-      subst SoundPart (f .laid ∙ sym (part-is ed fits t i a b g h)) (laid-sound (f .well) (stride-small ed fits))
+  pub part-sound : SoundPart (partOf ed t i)
+  part-sound = let f : Found ed t m i = found ed fits t s m i e in subst SoundPart (f .laid) (laid-sound (f .well) (stride-small ed fits))
 
 -- ---- the call
 
--- On the register R the book's step is a call with k fields on the point of MIRN m: on lists it has these rows and this
--- effect, it keeps them well-formed, and what it leaves of a point where no row applies fits the part.
+-- On the register R the book's step is a call with k fields on the point of MIRN m: on lists it has these rows, those of
+-- its numbers before 4 and those of the point after it, and this effect; it keeps them well-formed, and what it leaves of
+-- a point where no row applies fits the part.
 pub record CallOn (ed : Edition) (R : Register) (k : ℕ) (m : ℤ) (early : List Row) (rows : Lists → List Row)
     (effect : Lists → Numbers × Lists) (step : Book → Numbers × Book)
     : Type 0
   where
     pub numbered : above 0 early ≡ true
+    pub low : upTo 3 early ≡ true
+    pub high : (q : Lists) → above 3 (rows q) ≡ true
     pub is : step (bookOf R) ≡ (onLists k m early rows effect R .0, bookOf (onLists k m early rows effect R .1))
     pub keeps : WellFormed ed (onLists k m early rows effect R .1)
     pub room : (q : Lists) → Well (ed .records) q → least (early ++ rows q) ≡ 0 → Few (ed .records) (effect q .1)
@@ -89,29 +87,30 @@ module _ {k : ℕ} {m : ℤ} {early : List Row} {rows : Lists → List Row} {eff
       → onEdition k step ed t ≡ (pos (suc n) ∷ replicate k (pos 0), t)
   refuses = call-refused k m early rows effect step ed t s (call .is) (call .keeps)
 
-  later : (n : ℕ) → n ≤ 3 → ((q : Lists) → above n (rows q) ≡ true) → (o : Option Lists) → above n (maybe ((4, true) ∷ []) rows o) ≡ true
+  later : (o : Option Lists) → above 3 (maybe ((4, true) ∷ []) rows o) ≡ true
   unfolding above
-  later n h f none = join (lt-ltb n 4 (omega arith)) refl
-  later n h f (some q) = f q
+  later none = refl
+  later (some q) = call .high q
 
   -- a row of the numbers applies, be the MIRN known or not
-  pub on-early : (n : ℕ) → suc n ≤ 3 → least early ≡ suc n → ((q : Lists) → above (suc n) (rows q) ≡ true)
-      → onEdition k step ed t ≡ (pos (suc n) ∷ replicate k (pos 0), t)
-  on-early n h e f = refuses n (least-append-some early _ n (call .numbered) e (later (suc n) h f (findLists (natOf m) (R .points))))
+  pub on-early : (n : ℕ) → least early ≡ suc n → onEdition k step ed t ≡ (pos (suc n) ∷ replicate k (pos 0), t)
+  on-early n e =
+      let l : suc n ≤ 3 = omega (arith, e, up-to-least 3 early (call .low)) in
+      refuses n (least-append-some early _ n (call .numbered) e (above-less (suc n) 3 _ l (later (findLists (natOf m) (R .points)))))
 
-  module _ (clear : least early ≡ 0) (i : ℕ) (e : i ≡ maybe (ed .points) (λ k. k) (indexOf ed t (natOf m))) where
-    pub on-missing : i ≡ ed .points → onEdition k step ed t ≡ (pos 4 ∷ replicate k (pos 0), t)
+  module _ (clear : least early ≡ 0) where
+    on-missing : indexOf ed t (natOf m) ≡ none → onEdition k step ed t ≡ (pos 4 ∷ replicate k (pos 0), t)
     unfolding above
-    on-missing z =
+    on-missing e =
         refuses 3
-        (ap (λ o. least (early ++ maybe ((4, true) ∷ []) rows o)) (missing ed fits t s (natOf m) (index-none ed t s (natOf m) i e z))
+        (ap (λ o. least (early ++ maybe ((4, true) ∷ []) rows o)) (missing ed fits t s (natOf m) e)
         ∙ least-append-none early ((4, true) ∷ []) (call .numbered) clear ∙ least-first 4 true [] refl refl)
 
     -- the rows of the point decide, and its part alone is changed
-    pub on-point : (i ≡ ed .points → ⊥)
+    on-point : (i : ℕ) → indexOf ed t (natOf m) ≡ some i
         → onEdition k step ed t
         ≡ (onPart k rows effect (partOf ed t i) .0, withPart ed t i (onPart k rows effect (partOf ed t i) .1))
-    on-point n = go (least (rows q)) refl
+    on-point i e = go (least (rows q)) refl
       where
         p : List ℤ
         p = partOf ed t i
@@ -120,7 +119,7 @@ module _ {k : ℕ} {m : ℤ} {early : List Row} {rows : Lists → List Row} {eff
         q = pointFrom p
 
         f : Found ed t (natOf m) i
-        f = point-found ed fits t s (natOf m) i e n
+        f = found ed fits t s (natOf m) i e
 
         passed : least (early ++ rows q) ≡ least (rows q)
         passed = least-append-none early (rows q) (call .numbered) clear
@@ -131,62 +130,45 @@ module _ {k : ℕ} {m : ℤ} {early : List Row} {rows : Lists → List Row} {eff
         go : (r : ℕ) → least (rows q) ≡ r → onEdition k step ed t ≡ put (onPart k rows effect p)
         go zero h =
             call-entered k m early rows effect step ed t s (call .is) (call .keeps) i f (passed ∙ h) (call .room q (f .well) (passed ∙ h))
-            ∙ ap (λ room. put (pos 0 ∷ effect q .0, pointNumbers room (effect q .1))) (sym (room-found ed fits t s (natOf m) i e n))
+            ∙ ap (λ room. put (pos 0 ∷ effect q .0, pointNumbers room (effect q .1))) (sym (room-found ed fits t s (natOf m) i e))
             ∙ sym (ap put (part-entered k rows effect p h))
         go (suc r) h =
             refuses r (ap (λ o. least (early ++ maybe ((4, true) ∷ []) rows o)) (f .find) ∙ passed ∙ h)
             ∙ sym (ap put (part-refused k rows effect p r h) ∙ ap (λ u. (pos (suc r) ∷ replicate k (pos 0), u)) (with-part-own ed t i))
 
--- The same on every register of an edition, with the same rows, and what it leaves of a point always fits.
-pub record PointCall (ed : Edition) (k : ℕ) (m : ℤ) (early : List Row) (rows : Lists → List Row) (effect : Lists → Numbers × Lists)
-    (step : Book → Numbers × Book)
-    : Type 0
-  where
-    pub numbered : above 0 early ≡ true
-    pub is :
-        (R : Register) → WellFormed ed R
-        → step (bookOf R) ≡ (onLists k m early rows effect R .0, bookOf (onLists k m early rows effect R .1))
-    pub keeps : (R : Register) → WellFormed ed R → WellFormed ed (onLists k m early rows effect R .1)
-    pub room : (q : Lists) → Well (ed .records) q → Few (ed .records) (effect q .1)
+-- ---- what a public call has to show, once it has been told where its point is
+
+-- the part that it lends, from place a to place b
+pub lent-sound : {t : List ℤ} {m : ℤ} {e a b : ℕ} → Standing t m e a b → SoundPart (lent t a b)
+lent-sound {t} {m} h =
+    subst SoundPart (sym (at-part h)) (part-sound (editionOf t) (edition-fits t) t (h .isSound) (natOf m) (h .i) (h .index))
 
 module _ {k : ℕ} {m : ℤ} {early : List Row} {rows : Lists → List Row} {effect : Lists → Numbers × Lists} {step : Book → Numbers × Book}
-    (ed : Edition) (fits : Fits ed) (call : PointCall ed k m early rows effect step) (t : List ℤ) (s : sound ed t ≡ true) where
-  here : CallOn ed (registerOf ed t) k m early rows effect step
-  here =
-      let ok : WellFormed ed (registerOf ed t) = sound-lays ed fits t s .0 in
-      record {
-        numbered = call .numbered;
-        is = call .is (registerOf ed t) ok;
-        keeps = call .keeps (registerOf ed t) ok;
-        room = λ q w e. call .room q w;
-      }
+    (t : List ℤ) (call : sound (editionOf t) t ≡ true → CallOn (editionOf t) (registerOf (editionOf t) t) k m early rows effect step)
+    (e : ℕ) (is : e ≡ least early) where
+  abbrev result : Numbers × List ℤ
+  result = onEdition k step (editionOf t) t
 
-  pub call-early : (n : ℕ) → suc n ≤ 3 → least early ≡ suc n → ((q : Lists) → above (suc n) (rows q) ≡ true)
-      → onEdition k step ed t ≡ (pos (suc n) ∷ replicate k (pos 0), t)
-  call-early = on-early ed fits t s here
+  -- a call that is sent back by row r
+  pub call-back : (r : ℕ) → Refused r ≡ located t m e
+      → (pos r ∷ replicate k (pos 0) ≡ result .0) × (t ≡ result .1) × (true ≡ refused (pos r ∷ replicate k (pos 0)))
+  call-back r h = go r (sent-back t m e r h)
+    where
+      go : (r : ℕ) → SentBack t m e r → (pos r ∷ replicate k (pos 0) ≡ result .0) × (t ≡ result .1) × (true ≡ refused (pos r ∷ replicate k (pos 0)))
+      go _ (unsound s) = tells (call-unsound k step (editionOf t) t s) refl
+      go _ (by-numbers s n x) =
+          tells (on-early (editionOf t) (edition-fits t) t s (call s) n (sym is ∙ x)) (ap not (sym (eqb·suc-zero n)))
+      go _ (unknown s x o) = tells (on-missing (editionOf t) (edition-fits t) t s (call s) (sym is ∙ x) o) refl
 
-  module _ (clear : least early ≡ 0) (i : ℕ) (e : i ≡ maybe (ed .points) (λ k. k) (indexOf ed t (natOf m))) where
-    pub call-missing : i ≡ ed .points → onEdition k step ed t ≡ (pos 4 ∷ replicate k (pos 0), t)
-    call-missing = on-missing ed fits t s here clear i e
-
-    pub call-at : (i ≡ ed .points → ⊥)
-        → onEdition k step ed t
-        ≡ (onPart k rows effect (partOf ed t i) .0, withPart ed t i (onPart k rows effect (partOf ed t i) .1))
-    call-at = on-point ed fits t s here clear i e
-
--- ---- what a function has to show
-
--- the equations of a call's contract, where the part of point i was lent, from place x to y, to a function that does f
-pub answered-at : (ed : Edition) → Fits ed → (t : List ℤ) (i x y : ℕ) → x ≡ placeOf ed i → y ≡ placeOf ed (i + 1)
-    → (w : Numbers × List ℤ) (f : List ℤ → Numbers × List ℤ)
-    → w ≡ (f (partOf ed t i) .0, withPart ed t i (f (partOf ed t i) .1))
-    → (a : Numbers) (p : List ℤ) {b : Bool} → (a ≡ f (lent t x y) .0) × (p ≡ f (lent t x y) .1) × (b ≡ refused a)
-    → (a ≡ w .0) × (backIn t x y p ≡ w .1) × (b ≡ refused a)
-answered-at ed fits t i x y g k w f e a p h = (
-  h .0 ∙ ap (λ l. f l .0) is ∙ sym (ap (λ w. w .0) e),
-  part-put ed fits t i x y g k p ∙ ap (withPart ed t i) (h .1 ∙ ap (λ l. f l .1) is) ∙ sym (ap (λ w. w .1) e),
-  h .2,
-)
-  where
-    is : lent t x y ≡ partOf ed t i
-    is = part-is ed fits t i x y g k
+  -- a call whose function gives x and leaves p of the part
+  pub call-done : {a b : ℕ} → Standing t m e a b → (x : Numbers) (p : List ℤ) {c : Bool}
+      → (x ≡ onPart k rows effect (lent t a b) .0) × (p ≡ onPart k rows effect (lent t a b) .1) × (c ≡ refused x)
+      → (x ≡ result .0) × (backIn t a b p ≡ result .1) × (c ≡ refused x)
+  call-done {a} {b} h x p g =
+      let ed = editionOf t in
+      let w = gives (on-point ed (edition-fits t) t (h .isSound) (call (h .isSound)) (sym is ∙ h .passed) (h .i) (h .index)) in
+      let f : List ℤ → Numbers × List ℤ = onPart k rows effect in (
+        g .0 ∙ ap (λ l. f l .0) (at-part h) ∙ w .0,
+        part-put ed (edition-fits t) t (h .i) a b (h .from) (h .to) p ∙ ap (withPart ed t (h .i)) (g .1 ∙ ap (λ l. f l .1) (at-part h)) ∙ w .1,
+        g .2,
+      )

@@ -9,8 +9,14 @@ ghost use Rattle.layout.specs.Places.{pointsPlace, headerLength};
 ghost use Rattle.layout.specs.Layout.{tableLength, stride as strideOf, placeOf, Fits, editionOf, partOf, numAt, pointsFrom};
 ghost use Rattle.layout.specs.Sound.{partSound, mirnsDiffer, sound as tableSound};
 ghost use Rattle.layout.specs.InnerMirns.{laterDiffer};
-ghost use Rattle.table.specs.InnerTable.{bodySound};
+ghost use Rattle.table.specs.InnerTable.{bodySound, located};
 ghost use Rattle.table.specs.Lookup.{indexOf, lookUp};
+
+// Where a call finds its point's part, from its first place to past its last; or the row that sends the call back.
+pub enum Located {
+    Refused(u64),
+    At { from: usize, to: usize },
+}
 
 // The edition of a table.
 pub fn edition(t: &[i64]) -> Edition
@@ -146,18 +152,34 @@ pub fn index_of(t: &[i64], ed: Edition, m: u64) -> usize
     ed.points
 }
 
+// The point of a MIRN, for a call whose own numbers are sent back by row `early`, 0 if by none: row 1, that row, row 4.
+pub fn locate(t: &[i64], mirn: i64, early: u64) -> Located
+    ensures { λ r. ⌜ r ≡ located (now (t .entry)) mirn early ⌝ }
+{
+    let ed = edition(t);
+    if !sound(t, ed) {
+        return Located::Refused(1);
+    }
+    if early != 0 {
+        return Located::Refused(early);
+    }
+    let i = index_of(t, ed, numbers::natural(mirn));
+    if i == ed.points {
+        return Located::Refused(4);
+    }
+    Located::At {
+        from: place(ed, i),
+        to: place(ed, i + 1),
+    }
+}
+
 // The point of a MIRN: its part of the lent table itself, an empty part if the table is short or unsound or has no
 // such point.
 pub fn look_up(t: &[i64], m: i64) -> &[i64]
     ensures { λ r. ⌜ now r ≡ lookUp (now (t .entry)) m ⌝ }
 {
-    let ed = edition(t);
-    if !sound(t, ed) {
+    let Located::At { from, to } = locate(t, m, 0) else {
         return &t[0..0];
-    }
-    let i = index_of(t, ed, numbers::natural(m));
-    if i == ed.points {
-        return &t[0..0];
-    }
-    part(t, ed, i)
+    };
+    &t[from..to]
 }

@@ -1,88 +1,111 @@
--- The request call, test by test. Assumes nothing.
-use mathlib.Core.Path.{_≡_, refl, sym, _∙_, ap}
-use mathlib.Core.Bool.{Bool, true, false, not, _&&_}
+-- The request call: the rows of its numbers and holidays, and what it does once it has been told where its point is.
+-- Assumes nothing.
+use mathlib.Core.Path.{_≡_, refl, sym, ap, _∙_}
+use mathlib.Core.Bool.{Bool, true, false, not, _&&_, cond}
 use mathlib.Core.Option.{Option}
 use mathlib.Core.List.{List, [], _∷_}
-use Prim.Native.Nat.{ℕ, _≤_}
-use native.Mathlib.Omega.{arith}
+use Prim.Native.Nat.{ℕ, suc, _≤_}
+use borrow.Author.Tests.{not-false}
 use lib.IntN.{ℤ, pos}
 use Rattle.numbers.specs.Naturals.{natOf}
-use Rattle.numbers.specs.Search.{maybe}
+use Rattle.numbers.specs.Answers.{refused}
 use Rattle.numbers.proofs.Bools.{both}
 use Rattle.calendar.specs.Calendar.{isDay, holidayList, allowablePeriod}
-use Rattle.daybook.specs.declared.Edition.{Edition}
 use Rattle.daybook.specs.declared.TransferRequest.{TransferRequest}
-use Rattle.daybook.specs.Notices.{isMirn, isUser, isFlag, least, requestEarly, requestRows, request}
+use Rattle.daybook.specs.Notices.{isMirn, isUser, isFlag, least, Numbers, requestEarly, requestRows, request}
 use Rattle.lists.specs.InnerSteps.{requestLists}
-use Rattle.lists.proofs.Rows.{above, least-first, least-skip}
+use Rattle.lists.proofs.Rows.{above, upTo, least-first, least-skip, least-none}
 use Rattle.lists.proofs.Bounds.{within-bounds}
 use Rattle.lists.proofs.TransferStep.{request-step, request-keeps}
-use Rattle.layout.specs.Layout.{Fits, editionOf, partOf}
-use Rattle.layout.specs.InnerWrites.{withPart}
+use Rattle.layout.specs.Layout.{editionOf, registerOf}
 use Rattle.layout.specs.Sound.{sound}
 use Rattle.layout.specs.Calls.{onEdition}
-use Rattle.table.specs.Lookup.{indexOf}
+use Rattle.layout.proofs.Editions.{edition-fits}
+use Rattle.layout.proofs.TableSound.{sound-lays}
+use Rattle.table.specs.declared.Located.the-variants.{Refused}
+use Rattle.table.specs.InnerTable.{located}
+use Rattle.table.proofs.Laws.{lent, backIn}
+use Rattle.table.proofs.Locating.{Standing}
 use Rattle.table.proofs.Calls.{call-unsound}
-use Rattle.table.proofs.OnPart.{PointCall, call-early, call-missing, call-at}
+use Rattle.table.proofs.OnPart.{CallOn, on-early, call-back, call-done}
 use Rattle.transfer.specs.Transfer.{requestCall}
 use Rattle.transfer.specs.InnerParts.{requestRowsOf, requestEffect, requestPart}
 use Rattle.transfer.proofs.Points.{pending-room}
 
--- ---- row 2
+-- ---- rows 2 and 3
 
-abbrev pub inRange : TransferRequest → Bool
-inRange n = isMirn (n .mirn) && isUser (n .user) && isDay (n .proposed) && isFlag (n .nochange)
+module _ (n : TransferRequest) where
+  abbrev pub inRange : Bool
+  inRange = isMirn (n .mirn) && isUser (n .user) && isDay (n .proposed) && isFlag (n .nochange)
 
-pub request-bounds : (n : TransferRequest) → inRange n ≡ true → (natOf (n .user) ≤ 16) × (natOf (n .proposed) ≤ 39999)
-request-bounds n r =
-    let three = both (isMirn (n .mirn) && isUser (n .user) && isDay (n .proposed)) (isFlag (n .nochange)) r .0 in
-    let proposed = both (isMirn (n .mirn) && isUser (n .user)) (isDay (n .proposed)) three in
-    let user = both (isMirn (n .mirn)) (isUser (n .user)) (proposed .0) in
-    (within-bounds 1 16 (n .user) (user .1) .1, within-bounds 0 39999 (n .proposed) (proposed .1) .1)
+  pub range-read : {a b c d : Bool} → a ≡ isMirn (n .mirn) → b ≡ isUser (n .user) → c ≡ isDay (n .proposed) → d ≡ isFlag (n .nochange) → (a && b && c && d) ≡ inRange
+  range-read p q r s = rw (p, q, r, s)
+
+module _ (n : TransferRequest) (holidays : List ℤ) where
+  pub request-range : inRange n ≡ false → 2 ≡ least (requestEarly n holidays)
+  unfolding requestEarly above
+  request-range e = sym (least-first 2 _ _ refl (ap not e))
+
+  past-2 : inRange n ≡ true → least (requestEarly n holidays) ≡ least ((3, not (holidayList holidays)) ∷ [])
+  unfolding requestEarly
+  past-2 r = least-skip 2 _ _ (ap not r)
+
+  pub request-holidays : inRange n ≡ true → holidayList holidays ≡ false → 3 ≡ least (requestEarly n holidays)
+  unfolding above
+  request-holidays r e = sym (past-2 r ∙ least-first 3 _ [] refl (ap not e))
+
+  pub request-passed : inRange n ≡ true → holidayList holidays ≡ true → 0 ≡ least (requestEarly n holidays)
+  unfolding least
+  request-passed r h = sym (past-2 r ∙ least-skip 3 _ [] (ap not h))
+
+  pub request-bounds : least (requestEarly n holidays) ≡ 0 → (natOf (n .user) ≤ 16) × (natOf (n .proposed) ≤ 39999)
+  unfolding requestEarly
+  request-bounds e =
+      let r : inRange n ≡ true = not-false (inRange n) (least-none 1 (not (inRange n)) _ e .0) in
+      let three = both (isMirn (n .mirn) && isUser (n .user) && isDay (n .proposed)) (isFlag (n .nochange)) r .0 in
+      let proposed = both (isMirn (n .mirn) && isUser (n .user)) (isDay (n .proposed)) three in
+      let user = both (isMirn (n .mirn)) (isUser (n .user)) (proposed .0) in
+      (within-bounds 1 16 (n .user) (user .1) .1, within-bounds 0 39999 (n .proposed) (proposed .1) .1)
 
 -- ---- the call
 
-abbrev periodOf : TransferRequest → List ℤ → Option (ℕ × ℕ)
-periodOf n holidays = allowablePeriod holidays (natOf (n .proposed)) (natOf (n .nochange))
+module _ (t : List ℤ) (n : TransferRequest) (holidays : List ℤ) (e : ℕ) (is : e ≡ least (requestEarly n holidays)) where
+  abbrev user : ℕ
+  user = natOf (n .user)
 
-on-point : (ed : Edition) (n : TransferRequest) (holidays : List ℤ)
-    → PointCall ed 2 (n .mirn) (requestEarly n holidays) (requestRowsOf (natOf (n .user)) (periodOf n holidays)) (requestEffect (natOf (n .user)) (periodOf n holidays)) (request n holidays)
-unfolding requestLists requestEarly above
-on-point ed n holidays =
-    record { numbered = refl; is = request-step n holidays; keeps = λ R ok. request-keeps n holidays ok; room = pending-room _ }
+  abbrev pub periodOf : Option (ℕ × ℕ)
+  periodOf = allowablePeriod holidays (natOf (n .proposed)) (natOf (n .nochange))
 
-module _ (ed : Edition) (fits : Fits ed) (t : List ℤ) (g : ed ≡ editionOf t) (n : TransferRequest) (holidays : List ℤ) where
-  here : requestCall t n holidays ≡ onEdition 2 (request n holidays) ed t
+  call : sound (editionOf t) t ≡ true → CallOn (editionOf t) (registerOf (editionOf t) t) 2 (n .mirn) (requestEarly n holidays) (requestRowsOf user periodOf) (requestEffect user periodOf) (request n holidays)
+  unfolding requestLists requestEarly requestRows above upTo
+  call s =
+      let ok = sound-lays (editionOf t) (edition-fits t) t s .0 in
+      record {
+        numbered = refl;
+        low = refl;
+        high = λ q. refl;
+        is = request-step n holidays (registerOf (editionOf t) t) ok;
+        keeps = request-keeps n holidays ok;
+        room = λ q w e. pending-room _ q w;
+      }
+
+  -- a row of its numbers or of its holidays sends it back from any table
+  pub request-early : (r : ℕ) → e ≡ suc r
+      → requestCall t n holidays ≡ (pos (cond (sound (editionOf t) t) (suc r) 1) ∷ pos 0 ∷ pos 0 ∷ [], t)
   unfolding requestCall
-  here = ap (λ ed. onEdition 2 (request n holidays) ed t) (sym g)
+  request-early r z = go (sound (editionOf t) t) refl
+    where
+      go : (s : Bool) → sound (editionOf t) t ≡ s → onEdition 2 (request n holidays) (editionOf t) t ≡ (pos (cond s (suc r) 1) ∷ pos 0 ∷ pos 0 ∷ [], t)
+      go false s = call-unsound 2 (request n holidays) (editionOf t) t s
+      go true s = on-early (editionOf t) (edition-fits t) t s (call s) r (sym is ∙ z)
 
-  pub request-unsound : sound ed t ≡ false → requestCall t n holidays ≡ (pos 1 ∷ pos 0 ∷ pos 0 ∷ [], t)
-  request-unsound e = here ∙ call-unsound 2 (request n holidays) ed t e
+  pub request-back : (r : ℕ) → Refused r ≡ located t (n .mirn) e
+      → (pos r ∷ pos 0 ∷ pos 0 ∷ [] ≡ requestCall t n holidays .0) × (t ≡ requestCall t n holidays .1) × (true ≡ refused (pos r ∷ pos 0 ∷ pos 0 ∷ []))
+  unfolding requestCall
+  request-back = call-back t call e is
 
-  module _ (s : sound ed t ≡ true) where
-    pub request-range : inRange n ≡ false → requestCall t n holidays ≡ (pos 2 ∷ pos 0 ∷ pos 0 ∷ [], t)
-    unfolding requestEarly requestRows above
-    request-range e = here ∙ call-early ed fits (on-point ed n holidays) t s 1 (omega arith) (least-first 2 _ _ refl (ap not e)) (λ q. refl)
-
-    module _ (r : inRange n ≡ true) where
-      past-2 : least (requestEarly n holidays) ≡ least ((3, not (holidayList holidays)) ∷ [])
-      unfolding requestEarly
-      past-2 = least-skip 2 _ _ (ap not r)
-
-      -- a bad holiday list comes before an unknown MIRN
-      pub request-holidays : holidayList holidays ≡ false → requestCall t n holidays ≡ (pos 3 ∷ pos 0 ∷ pos 0 ∷ [], t)
-      unfolding requestRows above
-      request-holidays e = here ∙ call-early ed fits (on-point ed n holidays) t s 2 (omega arith) (past-2 ∙ least-first 3 _ [] refl (ap not e)) (λ q. refl)
-
-      module _ (h : holidayList holidays ≡ true) (i : ℕ) (e : i ≡ maybe (ed .points) (λ k. k) (indexOf ed t (natOf (n .mirn)))) where
-        passed : least (requestEarly n holidays) ≡ 0
-        unfolding least
-        passed = past-2 ∙ least-skip 3 _ [] (ap not h)
-
-        pub request-missing : i ≡ ed .points → requestCall t n holidays ≡ (pos 4 ∷ pos 0 ∷ pos 0 ∷ [], t)
-        request-missing z = here ∙ call-missing ed fits (on-point ed n holidays) t s passed i e z
-
-        pub request-point : (i ≡ ed .points → ⊥) → requestCall t n holidays
-            ≡ (requestPart (natOf (n .user)) (periodOf n holidays) (partOf ed t i) .0, withPart ed t i (requestPart (natOf (n .user)) (periodOf n holidays) (partOf ed t i) .1))
-        unfolding requestPart
-        request-point z = here ∙ call-at ed fits (on-point ed n holidays) t s passed i e z
+  pub request-done : {a b : ℕ} → Standing t (n .mirn) e a b → (x : Numbers) (p : List ℤ) {c : Bool}
+      → (x ≡ requestPart user periodOf (lent t a b) .0) × (p ≡ requestPart user periodOf (lent t a b) .1) × (c ≡ refused x)
+      → (x ≡ requestCall t n holidays .0) × (backIn t a b p ≡ requestCall t n holidays .1) × (c ≡ refused x)
+  unfolding requestCall requestPart
+  request-done = call-done t call e is

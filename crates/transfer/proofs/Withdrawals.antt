@@ -1,68 +1,76 @@
--- The withdraw call, test by test. Assumes nothing.
-use mathlib.Core.Path.{_≡_, refl, sym, _∙_, ap}
+-- The withdraw call: the row of its numbers, and what it does once it has been told where its point is. Assumes nothing.
+use mathlib.Core.Path.{_≡_, refl, sym, ap}
 use mathlib.Core.Bool.{Bool, true, false, not, _&&_}
 use mathlib.Core.Option.{none}
 use mathlib.Core.List.{List, [], _∷_}
 use Prim.Native.Nat.{ℕ, _≤_}
-use native.Mathlib.Omega.{arith}
+use borrow.Author.Tests.{not-false}
 use lib.IntN.{ℤ, pos}
 use Rattle.numbers.specs.Naturals.{natOf}
-use Rattle.numbers.specs.Search.{maybe}
+use Rattle.numbers.specs.Answers.{refused}
 use Rattle.numbers.proofs.Bools.{both}
-use Rattle.daybook.specs.declared.Edition.{Edition}
 use Rattle.daybook.specs.declared.Withdrawal.{Withdrawal}
-use Rattle.daybook.specs.Notices.{isMirn, isUser, least, withdrawEarly, withdrawRows, withdraw}
+use Rattle.daybook.specs.Notices.{isMirn, isUser, least, Numbers, withdrawEarly, withdrawRows, withdraw}
 use Rattle.lists.specs.InnerSteps.{withdrawLists}
-use Rattle.lists.proofs.Rows.{above, least-first, least-skip}
+use Rattle.lists.proofs.Rows.{above, upTo, least-first, least-skip, least-none}
 use Rattle.lists.proofs.Bounds.{within-bounds}
 use Rattle.lists.proofs.TransferStep.{withdraw-step, withdraw-keeps}
-use Rattle.layout.specs.Layout.{Fits, editionOf, partOf}
-use Rattle.layout.specs.InnerWrites.{withPart}
+use Rattle.layout.specs.Layout.{editionOf, registerOf}
 use Rattle.layout.specs.Sound.{sound}
-use Rattle.layout.specs.Calls.{onEdition}
-use Rattle.table.specs.Lookup.{indexOf}
-use Rattle.table.proofs.Calls.{call-unsound}
-use Rattle.table.proofs.OnPart.{PointCall, call-early, call-missing, call-at}
+use Rattle.layout.proofs.Editions.{edition-fits}
+use Rattle.layout.proofs.TableSound.{sound-lays}
+use Rattle.table.specs.declared.Located.the-variants.{Refused}
+use Rattle.table.specs.InnerTable.{located}
+use Rattle.table.proofs.Laws.{lent, backIn}
+use Rattle.table.proofs.Locating.{Standing}
+use Rattle.table.proofs.OnPart.{CallOn, call-back, call-done}
 use Rattle.transfer.specs.Transfer.{withdrawCall}
 use Rattle.transfer.specs.InnerParts.{withdrawRowsOf, withdrawEffect, withdrawPart}
 use Rattle.transfer.proofs.Points.{pending-room}
 
 -- ---- row 2
 
-abbrev pub inRange : Withdrawal → Bool
-inRange n = isMirn (n .mirn) && isUser (n .user)
+module _ (n : Withdrawal) where
+  abbrev pub inRange : Bool
+  inRange = isMirn (n .mirn) && isUser (n .user)
 
-pub withdrawal-user : (n : Withdrawal) → inRange n ≡ true → 1 ≤ natOf (n .user)
-withdrawal-user n r = within-bounds 1 16 (n .user) (both (isMirn (n .mirn)) (isUser (n .user)) r .1) .0
+  pub withdrawal-passed : inRange ≡ true → 0 ≡ least (withdrawEarly n)
+  unfolding withdrawEarly least
+  withdrawal-passed e = sym (least-skip 2 _ [] (ap not e))
+
+  pub withdrawal-refused : inRange ≡ false → 2 ≡ least (withdrawEarly n)
+  unfolding withdrawEarly above
+  withdrawal-refused e = sym (least-first 2 _ [] refl (ap not e))
+
+  pub withdrawal-user : least (withdrawEarly n) ≡ 0 → 1 ≤ natOf (n .user)
+  unfolding withdrawEarly
+  withdrawal-user e =
+      let r : inRange ≡ true = not-false inRange (least-none 1 (not inRange) [] e .0) in
+      within-bounds 1 16 (n .user) (both (isMirn (n .mirn)) (isUser (n .user)) r .1) .0
 
 -- ---- the call
 
-on-point : (ed : Edition) (n : Withdrawal) → PointCall ed 0 (n .mirn) (withdrawEarly n) (withdrawRowsOf (natOf (n .user))) withdrawEffect (withdraw n)
-unfolding withdrawLists withdrawEarly above
-on-point ed n = record { numbered = refl; is = withdraw-step n; keeps = λ R ok. withdraw-keeps n ok; room = pending-room none }
+module _ (t : List ℤ) (n : Withdrawal) (e : ℕ) (is : e ≡ least (withdrawEarly n)) where
+  call : sound (editionOf t) t ≡ true → CallOn (editionOf t) (registerOf (editionOf t) t) 0 (n .mirn) (withdrawEarly n) (withdrawRowsOf (natOf (n .user))) withdrawEffect (withdraw n)
+  unfolding withdrawLists withdrawEarly withdrawRows above upTo
+  call s =
+      let ok = sound-lays (editionOf t) (edition-fits t) t s .0 in
+      record {
+        numbered = refl;
+        low = refl;
+        high = λ q. refl;
+        is = withdraw-step n (registerOf (editionOf t) t) ok;
+        keeps = withdraw-keeps n ok;
+        room = λ q w e. pending-room none q w;
+      }
 
-module _ (ed : Edition) (fits : Fits ed) (t : List ℤ) (g : ed ≡ editionOf t) (n : Withdrawal) where
-  here : withdrawCall t n ≡ onEdition 0 (withdraw n) ed t
+  pub withdraw-back : (r : ℕ) → Refused r ≡ located t (n .mirn) e
+      → (pos r ∷ [] ≡ withdrawCall t n .0) × (t ≡ withdrawCall t n .1) × (true ≡ refused (pos r ∷ []))
   unfolding withdrawCall
-  here = ap (λ ed. onEdition 0 (withdraw n) ed t) (sym g)
+  withdraw-back = call-back t call e is
 
-  pub withdraw-unsound : sound ed t ≡ false → withdrawCall t n ≡ (pos 1 ∷ [], t)
-  withdraw-unsound e = here ∙ call-unsound 0 (withdraw n) ed t e
-
-  module _ (s : sound ed t ≡ true) where
-    pub withdraw-range : inRange n ≡ false → withdrawCall t n ≡ (pos 2 ∷ [], t)
-    unfolding withdrawEarly withdrawRows above
-    withdraw-range e = here ∙ call-early ed fits (on-point ed n) t s 1 (omega arith) (least-first 2 _ [] refl (ap not e)) (λ q. refl)
-
-    module _ (r : inRange n ≡ true) (i : ℕ) (e : i ≡ maybe (ed .points) (λ k. k) (indexOf ed t (natOf (n .mirn)))) where
-      passed : least (withdrawEarly n) ≡ 0
-      unfolding withdrawEarly least
-      passed = least-skip 2 _ [] (ap not r)
-
-      pub withdraw-missing : i ≡ ed .points → withdrawCall t n ≡ (pos 4 ∷ [], t)
-      withdraw-missing z = here ∙ call-missing ed fits (on-point ed n) t s passed i e z
-
-      pub withdraw-point : (i ≡ ed .points → ⊥) → withdrawCall t n
-          ≡ (withdrawPart (natOf (n .user)) (partOf ed t i) .0, withPart ed t i (withdrawPart (natOf (n .user)) (partOf ed t i) .1))
-      unfolding withdrawPart
-      withdraw-point z = here ∙ call-at ed fits (on-point ed n) t s passed i e z
+  pub withdraw-done : {a b : ℕ} → Standing t (n .mirn) e a b → (x : Numbers) (p : List ℤ) {c : Bool}
+      → (x ≡ withdrawPart (natOf (n .user)) (lent t a b) .0) × (p ≡ withdrawPart (natOf (n .user)) (lent t a b) .1) × (c ≡ refused x)
+      → (x ≡ withdrawCall t n .0) × (backIn t a b p ≡ withdrawCall t n .1) × (c ≡ refused x)
+  unfolding withdrawCall withdrawPart
+  withdraw-done = call-done t call e is

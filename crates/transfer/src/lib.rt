@@ -1,26 +1,30 @@
 // Transfer of a point to another User: a request, which waits for a reading in its allowable period, and its withdrawal.
-// Each call tests the table, then its numbers, and lends the part of its point to a function that works on that alone.
+// Each call finds its point, and lends the point's part to a function that works on that alone.
 use calendar::Day;
 use calendar::Period;
 use daybook::NoticeAnswer;
 use daybook::RequestAnswer;
 use daybook::TransferRequest;
 use daybook::Withdrawal;
+use table::Located;
 ghost use mathlib.Core.Path.{_≡_};
-ghost use mathlib.Core.Bool.{_&&_};
 ghost use Prim.Native.Nat.{_≤_};
 ghost use Rattle.numbers.specs.Answers.{refused};
-ghost use Rattle.calendar.specs.Calendar.{isDay, allowablePeriod};
-ghost use Rattle.daybook.specs.Notices.{isMirn, isUser, isFlag};
+ghost use Rattle.calendar.specs.Calendar.{allowablePeriod};
+ghost use Rattle.daybook.specs.Notices.{least, requestEarly, withdrawEarly};
 ghost use Rattle.daybook.specs.Calls.{noticeNumbers, noticeRefused, requestNumbers, requestRefused};
 ghost use Rattle.layout.specs.InnerParts.{SoundPart};
 ghost use Rattle.transfer.specs.Transfer.{requestCall, withdrawCall};
 ghost use Rattle.transfer.specs.InnerParts.{requestPart, withdrawPart};
 
-fn withdrawal_in_range(n: Withdrawal) -> bool
-    ensures { λ r. ⌜ r ≡ (isMirn (n .mirn) && isUser (n .user)) ⌝ }
+// The row of a withdrawal's own numbers, 0 if none applies.
+fn withdrawal_row(n: Withdrawal) -> u64
+    ensures { λ r. ⌜ r ≡ least (withdrawEarly n) ⌝ }
 {
-    daybook::is_mirn(n.mirn) & daybook::is_user(n.user)
+    if daybook::is_mirn(n.mirn) & daybook::is_user(n.user) {
+        return 0;
+    }
+    2
 }
 
 // A request is withdrawn by its own User only.
@@ -39,33 +43,32 @@ fn withdraw_at(p: &mut [i64], user: u64) -> NoticeAnswer
 pub fn withdraw(t: &mut [i64], n: Withdrawal) -> NoticeAnswer
     ensures { λ r. ⌜ (noticeNumbers r ≡ withdrawCall (now (t .entry)) n .0) × (now (t .exit) ≡ withdrawCall (now (t .entry)) n .1) × (noticeRefused r ≡ refused (noticeNumbers r)) ⌝ }
 {
-    let ed = table::edition(t);
-    if !table::sound(t, ed) {
-        return NoticeAnswer::Refused(1);
-    }
-    if !withdrawal_in_range(n) {
-        return NoticeAnswer::Refused(2);
-    }
     let mirn = n.mirn;
     let user = n.user;
-    let m = numbers::natural(mirn);
-    let i = table::index_of(t, ed, m);
-    if i == ed.points {
-        return NoticeAnswer::Refused(4);
+    match table::locate(t, mirn, withdrawal_row(n)) {
+        Located::Refused(row) => NoticeAnswer::Refused(row),
+        Located::At { from, to } => {
+            let u = numbers::natural(user);
+            withdraw_at(&mut t[from..to], u)
+        }
     }
-    let u = numbers::natural(user);
-    let a = table::place(ed, i);
-    let b = table::place(ed, i + 1);
-    withdraw_at(&mut t[a..b], u)
 }
 
-fn request_in_range(n: TransferRequest) -> bool
-    ensures { λ r. ⌜ r ≡ (isMirn (n .mirn) && isUser (n .user) && isDay (n .proposed) && isFlag (n .nochange)) ⌝ }
+// The row of a request's own numbers and its holidays, 0 if none applies.
+fn request_row(n: TransferRequest, holidays: &[i64]) -> u64
+    ensures { λ r. ⌜ r ≡ least (requestEarly n (now (holidays .entry))) ⌝ }
 {
-    daybook::is_mirn(n.mirn)
+    let numbers = daybook::is_mirn(n.mirn)
         & daybook::is_user(n.user)
         & calendar::is_day(n.proposed)
-        & daybook::is_flag(n.nochange)
+        & daybook::is_flag(n.nochange);
+    if !numbers {
+        return 2;
+    }
+    if !calendar::holiday_list(holidays) {
+        return 3;
+    }
+    0
 }
 
 // The latest User is that of the last registration.
@@ -101,29 +104,17 @@ fn request_at(
 pub fn request(t: &mut [i64], n: TransferRequest, holidays: &[i64]) -> RequestAnswer
     ensures { λ r. ⌜ (requestNumbers r ≡ requestCall (now (t .entry)) n (now (holidays .entry)) .0) × (now (t .exit) ≡ requestCall (now (t .entry)) n (now (holidays .entry)) .1) × (requestRefused r ≡ refused (requestNumbers r)) ⌝ }
 {
-    let ed = table::edition(t);
-    if !table::sound(t, ed) {
-        return RequestAnswer::Refused(1);
-    }
-    if !request_in_range(n) {
-        return RequestAnswer::Refused(2);
-    }
-    if !calendar::holiday_list(holidays) {
-        return RequestAnswer::Refused(3);
-    }
     let mirn = n.mirn;
-    let m = numbers::natural(mirn);
-    let i = table::index_of(t, ed, m);
-    if i == ed.points {
-        return RequestAnswer::Refused(4);
-    }
     let user = n.user;
     let proposed = n.proposed;
     let nochange = n.nochange;
-    let u = numbers::natural(user);
-    let day = Day(numbers::natural(proposed));
-    let flag = numbers::natural(nochange);
-    let a = table::place(ed, i);
-    let b = table::place(ed, i + 1);
-    request_at(&mut t[a..b], u, day, flag, holidays)
+    match table::locate(t, mirn, request_row(n, holidays)) {
+        Located::Refused(row) => RequestAnswer::Refused(row),
+        Located::At { from, to } => {
+            let u = numbers::natural(user);
+            let day = Day(numbers::natural(proposed));
+            let flag = numbers::natural(nochange);
+            request_at(&mut t[from..to], u, day, flag, holidays)
+        }
+    }
 }
