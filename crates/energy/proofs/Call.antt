@@ -31,9 +31,10 @@ use Rattle.table.specs.InnerTable.{onPart, located}
 use Rattle.table.proofs.Laws.{lent, backIn, range-small}
 use Rattle.table.proofs.Locating.{Standing, at-part}
 use Rattle.table.proofs.OnPart.{CallOn, room-found, call-back, call-done}
-use Rattle.energy.specs.declared.RaisedNotice.{RaisedNotice}
+use Rattle.entering.specs.declared.RaisedNotice.{RaisedNotice}
 use Rattle.energy.specs.Energy.{energyCall}
-use Rattle.energy.specs.InnerParts.{raisedNotice, noticeOf, inRange, editionWith, energyRowsOf, energyPart}
+use Rattle.entering.specs.InnerEntering.{raisedNotice, noticeOf, inRange}
+use Rattle.energy.specs.InnerParts.{editionWith, energyRowsOf, energyPart}
 use Rattle.energy.proofs.Raised.{in-range-tells}
 
 -- ---- row 2

@@ -22,10 +22,11 @@ use Rattle.layout.proofs.Parse.{point-alone}
 use Rattle.layout.proofs.SoundParts.{part-long, part-well, room-laid, laid-sound}
 use Rattle.table.proofs.Calls.{gives}
 use Rattle.table.proofs.OnPart.{part-entered, part-refused}
-use Rattle.energy.specs.declared.RaisedNotice.{RaisedNotice}
-use Rattle.energy.specs.declared.Kept.{Kept}
-use Rattle.energy.specs.declared.Settled.{Settled}
-use Rattle.energy.specs.InnerParts.{noticeOf, entryFrom, InRange, registerWith, editionWith, energyRowsOf, recorded, Recorded, outcomeAt, settledLists, SettledTo, energyPart}
+use Rattle.entering.specs.declared.RaisedNotice.{RaisedNotice}
+use Rattle.entering.specs.declared.Kept.{Kept}
+use Rattle.entering.specs.declared.Settled.{Settled}
+use Rattle.entering.specs.InnerEntering.{noticeOf, entryFrom, InRange, recorded, Recorded, outcomeAt, settledLists, SettledTo}
+use Rattle.energy.specs.InnerParts.{registerWith, editionWith, energyRowsOf, energyPart}
 use Rattle.energy.proofs.Raised.{in-range-clear}
 
 -- the entry alone keeps the lists well-formed: what it does without a request

@@ -15,8 +15,8 @@ use Rattle.daybook.specs.Notices.{least, isMirn, isFlag, energyEarly}
 use Rattle.lists.proofs.Bounds.{within-bounds, within-pos}
 use Rattle.lists.proofs.Rows.{least-skip}
 use Rattle.point.proofs.Records.{energy-same}
-use Rattle.energy.specs.declared.RaisedNotice.{RaisedNotice}
-use Rattle.energy.specs.InnerParts.{raisedNotice, noticeOf, inRange, InRange}
+use Rattle.entering.specs.declared.RaisedNotice.{RaisedNotice}
+use Rattle.entering.specs.InnerEntering.{raisedNotice, noticeOf, inRange, InRange}
 
 pub raised-same : (n : EnergyNotice) {m s e u q f : ℕ}
     → m ≡ natOf (n .mirn) → s ≡ natOf (n .start) → e ≡ natOf (n .end) → u ≡ biasOf (n .energy) → q ≡ natOf (n .«type_») → f ≡ natOf (n .confirmed)

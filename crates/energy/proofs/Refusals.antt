@@ -23,8 +23,9 @@ use Rattle.layout.proofs.Cells.{place-kind, place-offs, place-recs}
 use Rattle.layout.proofs.SoundParts.{part-well, part-laid}
 use Rattle.point.specs.InnerTests.{noOff, dayIf}
 use Rattle.point.proofs.Readers.{no-off-is}
-use Rattle.energy.specs.declared.RaisedNotice.{RaisedNotice}
-use Rattle.energy.specs.InnerParts.{noticeOf, energyRowsOf}
+use Rattle.entering.specs.declared.RaisedNotice.{RaisedNotice}
+use Rattle.entering.specs.InnerEntering.{noticeOf}
+use Rattle.energy.specs.InnerParts.{energyRowsOf}
 
 -- ---- row 9, of raised numbers
 

@@ -5,7 +5,7 @@ use borrow.Author.Needs.{sfits-of, needs}
 use Rattle.table.specs.InnerTable.{located}
 use Rattle.table.proofs.Locating.{Standing, standing, in-table}
 use Rattle.table.proofs.OnPart.{lent-sound}
-use Rattle.energy.specs.InnerParts.{InRange}
+use Rattle.entering.specs.InnerEntering.{InRange}
 use Rattle.energy.proofs.Call.{in-range-here, energy-back, ranges-small, energy-done}
 use Rattle.energy.proofs.Raised.{in-range-tells}
 use Rattle.energy.proofs.energy.Statement.{statement}

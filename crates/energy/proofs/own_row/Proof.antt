@@ -8,7 +8,7 @@ use borrow.Author.Needs.{needs, sfits-of}
 use Rattle.numbers.proofs.Naturals.{test-read}
 use Rattle.calendar.specs.Calendar.{within, isDay}
 use Rattle.daybook.specs.Notices.{isMirn, isFlag}
-use Rattle.energy.specs.InnerParts.{inRange}
+use Rattle.entering.specs.InnerEntering.{inRange}
 use Rattle.energy.proofs.Call.{range-read, energy-passed, energy-range}
 use Rattle.energy.proofs.own_row.Statement.{statement}
 use Rattle.energy.proofs.own_row.Tie as tie

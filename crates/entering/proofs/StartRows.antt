@@ -20,14 +20,14 @@ use Rattle.layout.specs.Layout.{numAt, pointFrom}
 use Rattle.layout.specs.InnerParts.{SoundPart}
 use Rattle.layout.proofs.Cells.{noRec, place-recs}
 use Rattle.layout.proofs.SoundParts.{part-well, part-laid}
-use Rattle.energy.specs.InnerParts.{rowIn}
-use Rattle.energy.proofs.Laying.{start-at}
+use Rattle.entering.specs.InnerEntering.{rowIn}
+use Rattle.entering.proofs.Laying.{start-at}
 
 -- ---- what the index tells
 
 -- The record at index j, cut out of the list; what becomes of the list where another takes its place, what is before it
 -- and what is behind it.
-pub record Located (d : ℕ) (l : List Entry) (j : ℕ) : Type 0 where
+pub record RowAt (d : ℕ) (l : List Entry) (j : ℕ) : Type 0 where
   pub before : List Entry
   pub here : Entry
   pub after : List Entry
@@ -53,12 +53,12 @@ row-low {lo = lo} (apart {x = x} {l = l} a b c r) d h = go (eqb (x .start) d) re
     go true e h ih = omega (arith, eqb-true (x .start) d e)
     go false e h ih = omega (arith, ih (omega arith))
 
-pub located : {hi lo : ℕ} {l : List Entry} → Apart hi lo l → (d : ℕ) → rowIn l d < length l → Located d l (rowIn l d)
+pub row-at : {hi lo : ℕ} {l : List Entry} → Apart hi lo l → (d : ℕ) → rowIn l d < length l → RowAt d l (rowIn l d)
 unfolding rowIn startingOn replaced earlier laterStarts
-located noentry d h = absurd (omega arith)
-located (apart {x = x} {l = l} a b c r) d h = go (eqb (x .start) d) refl h (located r d)
+row-at noentry d h = absurd (omega arith)
+row-at (apart {x = x} {l = l} a b c r) d h = go (eqb (x .start) d) refl h (row-at r d)
   where
-    go : (t : Bool) → eqb (x .start) d ≡ t → cond t 0 (suc (rowIn l d)) < suc (length l) → (rowIn l d < length l → Located d l (rowIn l d)) → Located d (x ∷ l) (cond t 0 (suc (rowIn l d)))
+    go : (t : Bool) → eqb (x .start) d ≡ t → cond t 0 (suc (rowIn l d)) < suc (length l) → (rowIn l d < length l → RowAt d l (rowIn l d)) → RowAt d (x ∷ l) (cond t 0 (suc (rowIn l d)))
     go true e h ih =
         let s : x .start ≡ d = eqb-true (x .start) d e in
         record {
@@ -73,7 +73,7 @@ located (apart {x = x} {l = l} a b c r) d h = go (eqb (x .start) d) refl h (loca
           behind = rw (le-ltb d (x .start) (omega arith)) (omega (arith, all-later r d (omega arith)));
         }
     go false e h ih =
-        let f : Located d l (rowIn l d) = ih (omega arith) in
+        let f : RowAt d l (rowIn l d) = ih (omega arith) in
         let low : suc (x .end) ≤ d = row-low r d (omega arith) in
         record {
           before = x ∷ f .before;
@@ -97,10 +97,10 @@ row-few (x ∷ l) d = go (eqb (x .start) d) (row-few l d)
     go false h = omega arith
 
 -- no record starts on the day
-pub located-none : (l : List Entry) (d : ℕ) → rowIn l d ≡ length l → startingOn l d ≡ none
+pub row-none : (l : List Entry) (d : ℕ) → rowIn l d ≡ length l → startingOn l d ≡ none
 unfolding rowIn startingOn
-located-none [] d e = refl
-located-none (x ∷ l) d e = go (eqb (x .start) d) e (located-none l d)
+row-none [] d e = refl
+row-none (x ∷ l) d e = go (eqb (x .start) d) e (row-none l d)
   where
     go : (t : Bool) → cond t 0 (suc (rowIn l d)) ≡ suc (length l) → (rowIn l d ≡ length l → startingOn l d ≡ none) → cond t (some x) (startingOn l d) ≡ none
     go true e ih = absurd (omega arith)

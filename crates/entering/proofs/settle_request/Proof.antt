@@ -1,8 +1,8 @@
-use Rattle.energy.proofs.Settling.{reg-room, registered, lapsed, stayed}
+use Rattle.entering.proofs.Settling.{reg-room, registered, lapsed, stayed}
 use native.Mathlib.Omega.{arith}
 use borrow.Author.Needs.{needs}
-use Rattle.energy.proofs.settle_request.Statement.{statement}
-use Rattle.energy.proofs.settle_request.Tie as tie
+use Rattle.entering.proofs.settle_request.Statement.{statement}
+use Rattle.entering.proofs.settle_request.Tie as tie
 
 append-registration-requires : tie.Need-append-registration-requires
 append-registration-requires c κs =

@@ -24,10 +24,10 @@ use Rattle.layout.proofs.Cells.{noRec, place-recs}
 use Rattle.layout.proofs.PartBlocks.{few-recs}
 use Rattle.layout.proofs.RowWrites.{put-record, append-record, cut-records}
 use Rattle.layout.proofs.SoundParts.{part-well, part-laid}
-use Rattle.energy.specs.declared.RaisedNotice.{RaisedNotice}
-use Rattle.energy.specs.InnerParts.{entryFrom, rowIn, Recorded}
-use Rattle.energy.proofs.Laying.{end-at}
-use Rattle.energy.proofs.Located.{Located, located, located-none, row-few}
+use Rattle.entering.specs.declared.RaisedNotice.{RaisedNotice}
+use Rattle.entering.specs.InnerEntering.{entryFrom, rowIn, Recorded}
+use Rattle.entering.proofs.Laying.{end-at}
+use Rattle.entering.proofs.StartRows.{RowAt, row-at, row-none, row-few}
 
 module _ {p : List ℤ} (ok : SoundPart p) (x : RaisedNotice) where
   abbrev q : Lists
@@ -57,7 +57,7 @@ module _ {p : List ℤ} (ok : SoundPart p) (x : RaisedNotice) where
 
     append-which : j ≡ n → whichIn q e ≡ append
     unfolding whichIn
-    append-which h = ap (whichOf (x .end)) (located-none (q .recs) (x .start) (sym ej ∙ h ∙ many))
+    append-which h = ap (whichOf (x .end)) (row-none (q .recs) (x .start) (sym ej ∙ h ∙ many))
 
     -- an append has a free row
     pub free-row : MayEnter (roomOf p) e q → j ≡ n → n < roomOf p
@@ -71,11 +71,11 @@ module _ {p : List ℤ} (ok : SoundPart p) (x : RaisedNotice) where
     -- ---- record j does
 
     module _ (other : j ≡ n → ⊥) where
-      found : Located (x .start) (q .recs) j
+      found : RowAt (x .start) (q .recs) j
       found =
           let h : rowIn (q .recs) (x .start) ≤ length (q .recs) = row-few (q .recs) (x .start) in
           let k : rowIn (q .recs) (x .start) < length (q .recs) = omega (arith, many) in
-          subst (Located (x .start) (q .recs)) (sym ej) (located (recs-apart (part-well ok .recsOk)) (x .start) k)
+          subst (RowAt (x .start) (q .recs)) (sym ej) (row-at (recs-apart (part-well ok .recsOk)) (x .start) k)
 
       pub found-few : j < n
       found-few = omega (arith, many, row-few (q .recs) (x .start))

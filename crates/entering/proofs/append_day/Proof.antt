@@ -1,9 +1,9 @@
 use Rattle.point.specs.InnerTests.{dayIf}
-use Rattle.energy.proofs.Laying.{append-first, append-next}
+use Rattle.entering.proofs.Laying.{append-first, append-next}
 use mathlib.Core.Path.{_∙_, ap}
 use borrow.Author.Needs.{needs}
-use Rattle.energy.proofs.append_day.Statement.{statement}
-use Rattle.energy.proofs.append_day.Tie as tie
+use Rattle.entering.proofs.append_day.Statement.{statement}
+use Rattle.entering.proofs.append_day.Tie as tie
 
 returns : tie.Need-returns
 returns c =

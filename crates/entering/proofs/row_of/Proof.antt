@@ -4,10 +4,10 @@ use native.Mathlib.Omega.{arith}
 use lib.ListN.{drop}
 use borrow.Author.Needs.{needs}
 use Rattle.layout.specs.Layout.{numAt, pointFrom}
-use Rattle.energy.specs.InnerParts.{rowIn}
-use Rattle.energy.proofs.Located.{row-hit, row-miss, row-end}
-use Rattle.energy.proofs.row_of.Statement.{statement}
-use Rattle.energy.proofs.row_of.Tie as tie
+use Rattle.entering.specs.InnerEntering.{rowIn}
+use Rattle.entering.proofs.StartRows.{row-hit, row-miss, row-end}
+use Rattle.entering.proofs.row_of.Statement.{statement}
+use Rattle.entering.proofs.row_of.Tie as tie
 
 abbrev Inv-loop : tie.InvT-loop
 Inv-loop p start n j₀ j = (j ≤ n) × (n ≡ numAt p 6) × (j + rowIn (drop j (pointFrom p .recs)) start ≡ rowIn (pointFrom p .recs) start)

@@ -1,8 +1,8 @@
-use Rattle.energy.proofs.Entering.{free-row, appended, put-in, recut-in}
+use Rattle.entering.proofs.Entering.{free-row, appended, put-in, recut-in}
 use native.Mathlib.Omega.{arith}
 use borrow.Author.Needs.{needs}
-use Rattle.energy.proofs.enter_record.Statement.{statement}
-use Rattle.energy.proofs.enter_record.Tie as tie
+use Rattle.entering.proofs.enter_record.Statement.{statement}
+use Rattle.entering.proofs.enter_record.Tie as tie
 
 append-record-requires : tie.Need-append-record-requires
 append-record-requires c κs =

@@ -1,12 +1,12 @@
 use Rattle.layout.specs.Layout.{pointFrom}
 use Rattle.layout.proofs.Cells.{place-recs}
 use Rattle.layout.proofs.SoundParts.{part-well, part-laid}
-use Rattle.energy.proofs.Located.{appends-is}
+use Rattle.entering.proofs.StartRows.{appends-is}
 use lib.Dec.{eqb}
 use mathlib.Core.Path.{_∙_, ap₂}
 use borrow.Author.Needs.{needs}
-use Rattle.energy.proofs.appends.Statement.{statement}
-use Rattle.energy.proofs.appends.Tie as tie
+use Rattle.entering.proofs.appends.Statement.{statement}
+use Rattle.entering.proofs.appends.Tie as tie
 
 returns : tie.Need-returns
 returns c =

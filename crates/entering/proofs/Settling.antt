@@ -27,8 +27,8 @@ use Rattle.layout.proofs.Cells.{noReg, cell-reg-start, place-regs, place-user, 
 use Rattle.layout.proofs.PartBlocks.{withRegs, few-regs, snoc-length}
 use Rattle.layout.proofs.RowWrites.{append-registration, clear-pending}
 use Rattle.layout.proofs.SoundParts.{part-well, part-laid}
-use Rattle.energy.specs.declared.RaisedNotice.{RaisedNotice}
-use Rattle.energy.specs.InnerParts.{entryFrom, outcomeAt, settledLists, SettledTo}
+use Rattle.entering.specs.declared.RaisedNotice.{RaisedNotice}
+use Rattle.entering.specs.InnerEntering.{entryFrom, outcomeAt, settledLists, SettledTo}
 
 -- ---- the latest registration, by its index
 

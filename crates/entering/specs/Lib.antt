@@ -1,0 +1,2 @@
+-- A notice's numbers, and the part that it is entered into.
+pub mod InnerEntering
