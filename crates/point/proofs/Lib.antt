@@ -5,8 +5,5 @@ pub mod Rows
 pub mod Registrations
 pub mod Spans
 pub mod OffDays
-pub mod OnePass
 pub mod Records
-pub mod Pending
-pub mod Decides
 pub mod Readers

@@ -1,5 +1,4 @@
--- What the code tests of one point's part, place by place. A part that passes is the layout of well-formed lists, and the
--- layout of such lists passes (proofs/Decides.antt).
+-- What the code reads and tests of one point's part, place by place: its counts, registrations, off spans and records.
 use mathlib.Core.Path.{_≡_}
 use mathlib.Core.Bool.{Bool, true, not, _&&_, _||_, cond}
 use mathlib.Core.Option.{Option, none, some}
@@ -12,9 +11,8 @@ use Rattle.numbers.specs.InnerEnergies.{biasOf}
 use Rattle.numbers.specs.Rows.{all}
 use Rattle.daybook.specs.Book.{Entry}
 use Rattle.daybook.specs.Notices.{fitsKind}
-use Rattle.layout.specs.Places.{kindPlace, installPlace, regCount, offCount, recCount, pendingUser, pendingFirst, pendingLast, recsPlace, regPlace, offPlace, recPlace}
-use Rattle.layout.specs.Layout.{numAt, onOf, factsAt}
-use Rattle.layout.specs.Sound.{factsSound, countsSound, unusedZero}
+use Rattle.layout.specs.Places.{kindPlace, installPlace, regCount, offCount, recCount, recsPlace, regPlace, offPlace, recPlace}
+use Rattle.layout.specs.Layout.{numAt, onOf}
 
 -- Each of the n rows from row k on passes its test, beside what the row before it leaves.
 unfoldable pub rows : {S : Type 0} → (S → ℕ → Bool) → (S → ℕ → S) → S → ℕ → ℕ → Bool
@@ -133,44 +131,12 @@ recAt p m from k =
     && fitsKind (numAt p kindPlace) (recStart p k) (recEnd p k)
     && eqb (recStart p k) (firstOn p m from) && noOff p m (recStart p k) (recEnd p k)
 
--- The off day of span j; past the last of m a number above every day.
-abbrev pub offFrom : List ℤ → ℕ → ℕ → ℕ
-offFrom p m j = cond (ltb j m) (offDay p j) 18446744073709551615
-
-abbrev pub recBetween : ℕ → ℕ → ℕ → ℕ → Bool
-recBetween start end day off = eqb start day && ltb end off
-
--- The same of a record that is to start on a day and to end before an off day.
-unfoldable pub recOn : List ℤ → ℕ → ℕ → ℕ → ℕ → Bool
-recOn p kind k day off =
-    recInRange (recEnd p k) (recEnergy p k) (recType p k) && recBetween (recStart p k) (recEnd p k) day off
-    && fitsKind kind day (recEnd p k)
-
 -- The next record comes after its end.
 abbrev pub recLeaves : List ℤ → ℕ → ℕ → ℕ
 recLeaves p from k = suc (recEnd p k)
 
 unfoldable pub recsOk : List ℤ → ℕ → ℕ → Bool
 recsOk p m n = rows (recAt p m) (recLeaves p) (numAt p installPlace) 0 n
-
--- ---- the pending request; without a User nothing more is asked here
-
-unfoldable pub pendingOk : List ℤ → ℕ → Bool
-pendingOk p n =
-    let user : ℕ = numAt p pendingUser in
-    eqb user 0
-    || leb user 16 && not (eqb (regUser p (n - 1)) user) && leb (numAt p pendingFirst) (numAt p pendingLast)
-    && leb (numAt p pendingLast) 39999 && leb n 7
-
--- ---- the whole part
-
-unfoldable pub rowsOk : List ℤ → Bool
-rowsOk p =
-    regsOk p (numAt p regCount) && spansOk p (numAt p offCount) && recsOk p (numAt p offCount) (numAt p recCount)
-    && pendingOk p (numAt p regCount)
-
-unfoldable pub testPart : List ℤ → Bool
-testPart p = countsSound p && factsSound (factsAt p) && unusedZero p && rowsOk p
 
 -- ---- rows and days as the book has them
 

@@ -1,2 +1,2 @@
--- Soundness of one point's part of the register table, as the code tests it.
+-- The rows of one point's part of the register table, and what the code tests of each.
 pub mod InnerTests

@@ -1,0 +1,2 @@
+-- Soundness of one point's part of the register table, as the code tests it.
+pub mod InnerPart
