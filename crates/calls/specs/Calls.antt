@@ -1,10 +1,8 @@
--- The calls of the register as a journal has them: the form of each one's line, and what it does on bytes.
-use mathlib.Core.Bool.{Bool, true, false, cond}
+-- The calls of the register as a journal has them: what each one does on bytes.
 use mathlib.Core.List.{List, []}
-use Prim.Native.Nat.{ℕ, _+_, _/_}
+use Prim.Native.Nat.{ℕ, _/_}
 use lib.IntN.{ℤ}
 use lib.ListN.{length}
-use Rattle.numbers.specs.Naturals.{natOf}
 use Rattle.calendar.specs.Calendar.{dateCall}
 use Rattle.daybook.specs.Notices.{Numbers}
 use Rattle.daybook.specs.Conversions.{num, rangesOf, openingOf, energyNoticeOf, statusOf, requestOf, withdrawalOf, accountQueryOf, allocationQueryOf}
@@ -21,41 +19,6 @@ use Rattle.journal.specs.declared.QueryWord.{QueryWord}
 use Rattle.journal.specs.declared.QueryWord.the-variants.{Account, Allocate, Date}
 use Rattle.journal.specs.declared.CallWord.{CallWord}
 use Rattle.journal.specs.declared.CallWord.the-variants as Call·
-use Rattle.calls.specs.declared.Form.{Form}
-
--- ---- the form of a line
-
--- How many numbers a call and its answer have; whether a list follows the call's numbers, with its count in front; and
--- whether an answer table is lent.
-abbrev pub shapeOf : ℕ → ℕ → Bool → Bool → Form
-shapeOf takes gives list table = record { takes = takes; gives = gives; list = list; table = table }
-
-abbrev pub noticeForm : NoticeWord → Form
-noticeForm Fresh = shapeOf 2 1 false false
-noticeForm Open = shapeOf 5 1 false false
-noticeForm Energy = shapeOf 6 5 false false
-noticeForm Status = shapeOf 3 1 false false
-noticeForm Request = shapeOf 4 3 true false
-noticeForm Withdraw = shapeOf 2 1 false false
-
-abbrev pub queryForm : QueryWord → Form
-queryForm Account = shapeOf 3 2 false false
-queryForm Allocate = shapeOf 6 18 false true
-queryForm Date = shapeOf 3 2 false false
-
-abbrev pub formOf : CallWord → Form
-formOf (Call·.Notice n) = noticeForm n
-formOf (Call·.Query q) = queryForm q
-
--- The numbers of a line up to its list: a call's own, and the list's count.
-abbrev pub ownNumbers : Form → ℕ
-ownNumbers f = cond (f .list) (f .takes + 1) (f .takes)
-
--- All numbers of a line.
-abbrev pub sizeOf : Form → List ℤ → ℕ
-sizeOf f xs = ownNumbers f + cond (f .list) (natOf (num xs (f .takes))) 0
-
--- ---- what a call does
 
 -- A notice's answer and the table after it.
 abbrev pub noticed : NoticeWord → List ℤ → List ℤ → List ℤ → Numbers × List ℤ

@@ -1,3 +1,3 @@
--- The form of each call and what it does.
+-- What each call does.
 pub mod Calls
 pub mod InnerCalls

@@ -1,70 +1,15 @@
-// The calls of the register as a journal has them: the form of each one's line, and the function exported for C that it
-// is. A call's numbers are the first of a line; where the line is shorter, 0.
+// The calls of the register as a journal has them: the function exported for C that each one is. A call's numbers are
+// the first of a line; where the line is shorter, 0.
 ghost use mathlib.Core.Path.{_≡_};
-ghost use Prim.Native.Nat.{_/_, _≤_, _^_};
-ghost use lib.Dec.{eqb};
+ghost use Prim.Native.Nat.{_/_};
 ghost use lib.ListN.{length};
-ghost use Rattle.numbers.specs.Naturals.{natOf};
 ghost use Rattle.daybook.specs.Conversions.{num};
 ghost use Rattle.buffers.specs.Buffers.{tableIn, holidaysIn, written};
-ghost use Rattle.calls.specs.Calls.{shapeOf, noticeForm, queryForm, formOf, ownNumbers, sizeOf, noticed, asked, called};
-ghost use Rattle.calls.specs.InnerCalls.{Formed, sixOf};
+ghost use Rattle.calls.specs.Calls.{noticed, asked, called};
+ghost use Rattle.calls.specs.InnerCalls.{sixOf};
 use journal::CallWord;
 use journal::NoticeWord;
 use journal::QueryWord;
-
-// How many numbers a call and its answer have; whether a list follows the call's numbers, with its count in front; and
-// whether an answer table is lent.
-pub struct Form {
-    pub takes: usize,
-    pub gives: usize,
-    pub list: bool,
-    pub table: bool,
-}
-
-fn shape(takes: usize, gives: usize, list: bool, table: bool) -> Form
-    requires { ⌜ (takes ≤ 6) × (gives ≤ 18) ⌝ }
-    ensures { λ r. ⌜ Formed r (shapeOf takes gives list table) ⌝ }
-{
-    Form {
-        takes,
-        gives,
-        list,
-        table,
-    }
-}
-
-fn notice_form(n: NoticeWord) -> Form
-    ensures { λ r. ⌜ Formed r (noticeForm n) ⌝ }
-{
-    match n {
-        NoticeWord::Fresh => shape(2, 1, false, false),
-        NoticeWord::Open => shape(5, 1, false, false),
-        NoticeWord::Energy => shape(6, 5, false, false),
-        NoticeWord::Status => shape(3, 1, false, false),
-        NoticeWord::Request => shape(4, 3, true, false),
-        NoticeWord::Withdraw => shape(2, 1, false, false),
-    }
-}
-
-fn query_form(q: QueryWord) -> Form
-    ensures { λ r. ⌜ Formed r (queryForm q) ⌝ }
-{
-    match q {
-        QueryWord::Account => shape(3, 2, false, false),
-        QueryWord::Allocate => shape(6, 18, false, true),
-        QueryWord::Date => shape(3, 2, false, false),
-    }
-}
-
-pub fn form_of(call: CallWord) -> Form
-    ensures { λ r. ⌜ Formed r (formOf call) ⌝ }
-{
-    match call {
-        CallWord::Notice(n) => notice_form(n),
-        CallWord::Query(q) => query_form(q),
-    }
-}
 
 // Number i of a line.
 fn number(nums: &[i64], i: usize) -> i64
@@ -74,48 +19,6 @@ fn number(nums: &[i64], i: usize) -> i64
         return nums[i];
     }
     0
-}
-
-// The same as a natural.
-pub fn natural(nums: &[i64], i: usize) -> u64
-    ensures { λ r. ⌜ (r ≡ natOf (num (now (nums .entry)) i)) × (r ≤ 2 ^ 63) ⌝ }
-{
-    if i < nums.len() {
-        return numbers::get(nums, i);
-    }
-    0
-}
-
-// The numbers of a line up to its list.
-pub fn own_numbers(f: Form) -> usize
-    requires { ⌜ f .takes ≤ 6 ⌝ }
-    ensures { λ r. ⌜ (r ≡ ownNumbers f) × (r ≤ 7) ⌝ }
-{
-    if f.list {
-        return f.takes + 1;
-    }
-    f.takes
-}
-
-// All its numbers.
-fn size(f: Form, nums: &[i64]) -> u64
-    requires { ⌜ f .takes ≤ 6 ⌝ }
-    ensures { λ r. ⌜ r ≡ sizeOf f (now (nums .entry)) ⌝ }
-{
-    let own = own_numbers(f) as u64;
-    let takes = f.takes;
-    if f.list {
-        return own + natural(nums, takes);
-    }
-    own
-}
-
-// Whether a line has the numbers of its form.
-pub fn counted(f: Form, nums: &[i64]) -> bool
-    requires { ⌜ f .takes ≤ 6 ⌝ }
-    ensures { λ r. ⌜ r ≡ eqb (length (now (nums .entry))) (sizeOf f (now (nums .entry))) ⌝ }
-{
-    nums.len() as u64 == size(f, nums)
 }
 
 // The numbers of a call, which has six at most.

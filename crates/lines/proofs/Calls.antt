@@ -14,8 +14,9 @@ use Rattle.numbers.proofs.Bools.{both}
 use Rattle.buffers.specs.Buffers.{withNumbers}
 use Rattle.journal.specs.declared.CallWord.{CallWord}
 use Rattle.printing.specs.Rows.{rowBytes, rowOf, Printed}
-use Rattle.calls.specs.declared.Form.{Form}
-use Rattle.calls.specs.Calls.{Left, formOf, ownNumbers, sizeOf, called}
+use Rattle.forms.specs.declared.Form.{Form}
+use Rattle.forms.specs.Forms.{formOf, ownNumbers, sizeOf}
+use Rattle.calls.specs.Calls.{Left, called}
 use Rattle.lines.specs.Lines.{lineNumbers, mostRoom, numbersHeld, bytesOf, places, acted, callLine, lengths, size, mostBytes, bufferBytes, buffer, lendable, shown, showed, hubLine, Played}
 use Rattle.lines.specs.InnerLines.{answerBytes, tableBytes}
 use Rattle.lines.proofs.Bytes.{take-replicate}

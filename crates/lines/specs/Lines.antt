@@ -20,8 +20,9 @@ use Rattle.journal.specs.declared.CallWord.{CallWord}
 use Rattle.journal.specs.declared.Command.{Command}
 use Rattle.journal.specs.declared.Command.the-variants as Command·
 use Rattle.printing.specs.Rows.{rowBytes, rowOf, textOf, hexOf, Printed}
-use Rattle.calls.specs.declared.Form.{Form}
-use Rattle.calls.specs.Calls.{Left, formOf, ownNumbers, sizeOf, called}
+use Rattle.forms.specs.declared.Form.{Form}
+use Rattle.forms.specs.Forms.{formOf, ownNumbers, sizeOf}
+use Rattle.calls.specs.Calls.{Left, called}
 
 -- The register's buffer has the register's numbers and sixteen past them, 7,704 in all.
 abbrev pub bufferNumbers : ℕ

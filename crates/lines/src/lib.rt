@@ -10,7 +10,7 @@ ghost use Rattle.printing.specs.Rows.{rowBytes, rowOf, Printed};
 ghost use Rattle.calls.specs.Calls.{called};
 ghost use Rattle.lines.specs.Lines.{bufferNumbers, bufferBytes, lineNumbers, mostRoom, mostBytes, numbersHeld, places as Lines·places, acted, callLine, lookLine, pokeLine, tableLine, lineOf, lengths as Lines·lengths, lendable as Lines·lendable, shown, showed, hubLine, Played};
 ghost use Rattle.lines.specs.InnerLines.{answerBytes, tableBytes};
-use calls::Form;
+use forms::Form;
 use journal::CallWord;
 use journal::Command;
 use printing::row;
@@ -102,11 +102,11 @@ fn call(
     requires { ⌜ (room ≤ mostRoom) × (length (now nums) ≤ lineNumbers) × (at + rowBytes ≤ length (now out)) ⌝ }
     ensures { λ r. ⌜ Played (callLine call (now (register .entry)) room (now (nums .entry))) (now (register .entry)) (now (out .entry)) at (now (register .exit)) (now (out .exit)) r ⌝ }
 {
-    let f = calls::form_of(call);
-    if !calls::counted(f, nums) {
+    let f = forms::form_of(call);
+    if !forms::counted(f, nums) {
         return at;
     }
-    let own = calls::own_numbers(f);
+    let own = forms::own_numbers(f);
     let gives = 8 * f.gives;
     let shares = places(f, room);
     let mut list = [0u8; LIST_BYTES];
@@ -214,9 +214,9 @@ fn lendable(f: Form, nums: &[i64]) -> bool
     ensures { λ r. ⌜ r ≡ Lines·lendable f (now (nums .entry)) ⌝ }
 {
     let counted = nums.len() == lengths(f) + f.takes;
-    let register = calls::natural(nums, 0) <= BUFFER_BYTES as u64;
-    let answer = calls::natural(nums, 1) <= MOST_BYTES as u64;
-    let table = places(f, calls::natural(nums, 2) as usize) <= MOST_BYTES;
+    let register = forms::natural(nums, 0) <= BUFFER_BYTES as u64;
+    let answer = forms::natural(nums, 1) <= MOST_BYTES as u64;
+    let table = places(f, forms::natural(nums, 2) as usize) <= MOST_BYTES;
     counted & (register & (answer & table))
 }
 
@@ -269,14 +269,14 @@ pub fn on_bytes(
     requires { ⌜ (length (now register) ≡ bufferBytes) × (at + rowBytes ≤ length (now out)) ⌝ }
     ensures { λ r. ⌜ Played (hubLine call (now (register .entry)) (now (nums .entry))) (now (register .entry)) (now (out .entry)) at (now (register .exit)) (now (out .exit)) r ⌝ }
 {
-    let f = calls::form_of(call);
+    let f = forms::form_of(call);
     if !lendable(f, nums) {
         return at;
     }
     let from = lengths(f);
-    let n = calls::natural(nums, 0) as usize;
-    let m = calls::natural(nums, 1) as usize;
-    let k = places(f, calls::natural(nums, 2) as usize);
+    let n = forms::natural(nums, 0) as usize;
+    let m = forms::natural(nums, 1) as usize;
+    let k = places(f, forms::natural(nums, 2) as usize);
     let mut answer = [0xAAu8; MOST_BYTES];
     let mut table = [0xAAu8; MOST_BYTES];
     show(

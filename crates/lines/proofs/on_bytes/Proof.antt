@@ -1,6 +1,6 @@
 use mathlib.Core.List.{List}
 use lib.IntN.{ℤ}
-use Rattle.calls.specs.declared.Form.{Form}
+use Rattle.forms.specs.declared.Form.{Form}
 use mathlib.Core.Path.{refl, ap, _∙_}
 use Prim.Native.Nat.{_≤_}
 use native.Mathlib.Omega.{arith}

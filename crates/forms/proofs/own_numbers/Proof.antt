@@ -1,6 +1,6 @@
 use borrow.Author.Needs.{needs}
-use Rattle.calls.proofs.own_numbers.Statement.{statement}
-use Rattle.calls.proofs.own_numbers.Tie as tie
+use Rattle.forms.proofs.own_numbers.Statement.{statement}
+use Rattle.forms.proofs.own_numbers.Tie as tie
 
 returns : tie.Need-returns
 returns c = (rw (c .before .if1 .taken), search needs)

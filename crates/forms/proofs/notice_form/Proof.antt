@@ -1,6 +1,6 @@
 use borrow.Author.Needs.{needs}
-use Rattle.calls.proofs.notice_form.Statement.{statement}
-use Rattle.calls.proofs.notice_form.Tie as tie
+use Rattle.forms.proofs.notice_form.Statement.{statement}
+use Rattle.forms.proofs.notice_form.Tie as tie
 
 returns : tie.Need-returns
 returns c = rw (c .before .enum-told .given .1) (c .shape .ensures)

@@ -1,6 +1,6 @@
 use borrow.Author.Needs.{needs}
-use Rattle.calls.proofs.counted.Statement.{statement}
-use Rattle.calls.proofs.counted.Tie as tie
+use Rattle.forms.proofs.counted.Statement.{statement}
+use Rattle.forms.proofs.counted.Tie as tie
 
 returns : tie.Need-returns
 returns c = rw (c .size .ensures)

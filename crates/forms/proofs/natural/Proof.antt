@@ -4,8 +4,8 @@ use lib.IntN.{pos}
 use lib.ListN.{List·getD-eq-default}
 use Rattle.numbers.specs.Naturals.{natOf}
 use borrow.Author.Needs.{needs}
-use Rattle.calls.proofs.natural.Statement.{statement}
-use Rattle.calls.proofs.natural.Tie as tie
+use Rattle.forms.proofs.natural.Statement.{statement}
+use Rattle.forms.proofs.natural.Tie as tie
 
 returns-2 : tie.Need-returns-2
 returns-2 c = (ap natOf (sym (List·getD-eq-default (c .before .args .nums .now) (pos 0) (c .if1 .left))), omega arith)

@@ -1,7 +1,7 @@
 use native.Mathlib.Omega.{arith}
 use borrow.Author.Needs.{needs}
-use Rattle.calls.proofs.size.Statement.{statement}
-use Rattle.calls.proofs.size.Tie as tie
+use Rattle.forms.proofs.size.Statement.{statement}
+use Rattle.forms.proofs.size.Tie as tie
 
 returns : tie.Need-returns
 returns c = rw (c .before .before .own-numbers .ensures .0, c .natural .ensures .0, c .before .if1 .taken)

@@ -1,0 +1,3 @@
+-- The form of each call's line.
+pub mod Forms
+pub mod InnerForms
