@@ -18,10 +18,11 @@ use Rattle.journal.specs.declared.QueryWord.{QueryWord}
 use Rattle.journal.specs.declared.QueryWord.the-variants.{Account, Allocate, Date}
 use Rattle.journal.specs.declared.CallWord.{CallWord}
 use Rattle.journal.specs.declared.CallWord.the-variants as Call·
+use Rattle.calls.specs.declared.Six.{Six}
 use Rattle.calls.specs.Calls.{noticed, asked, Left, called}
-use Rattle.calls.specs.InnerCalls.{sixOf}
+use Rattle.calls.specs.InnerCalls.{sixOf, listed}
 
-pub six-noticed : (n : NoticeWord) (t xs list : List ℤ) → noticed n t (sixOf xs) list ≡ noticed n t xs list
+pub six-noticed : (n : NoticeWord) (t xs list : List ℤ) → noticed n t (listed (sixOf xs)) list ≡ noticed n t xs list
 six-noticed Fresh t xs list = refl
 six-noticed Open t xs list = refl
 six-noticed Energy t xs list = refl
@@ -29,7 +30,7 @@ six-noticed Status t xs list = refl
 six-noticed Request t xs list = refl
 six-noticed Withdraw t xs list = refl
 
-pub six-asked : (q : QueryWord) (t xs : List ℤ) (room : ℕ) → asked q t (sixOf xs) room ≡ asked q t xs room
+pub six-asked : (q : QueryWord) (t xs : List ℤ) (room : ℕ) → asked q t (listed (sixOf xs)) room ≡ asked q t xs room
 six-asked Account t xs room = refl
 six-asked Allocate t xs room = refl
 six-asked Date t xs room = refl
@@ -51,9 +52,9 @@ after-notice table w = record { result = w .0; register = w .1 .0; answer = w .1
 abbrev after-query : List ℕ → ℤ × (List ℕ × List ℕ) → Left
 after-query register w = record { result = w .0; register = register; answer = w .1 .1; table = w .1 .0 }
 
-module _ (xs six : List ℤ) (list register answer table : List ℕ) {w : ℤ × (List ℕ × List ℕ)} (e : six ≡ sixOf xs) where
-  pub notice-left : {call : CallWord} {n : NoticeWord} → call ≡ Call·.Notice n → w ≡ written (noticed n (tableIn register) six (holidaysIn list)) register answer → called call xs list register answer table ≡ after-notice table w
+module _ (xs : List ℤ) (six : Six) (list register answer table : List ℕ) {w : ℤ × (List ℕ × List ℕ)} (e : six ≡ sixOf xs) where
+  pub notice-left : {call : CallWord} {n : NoticeWord} → call ≡ Call·.Notice n → w ≡ written (noticed n (tableIn register) (listed six) (holidaysIn list)) register answer → called call xs list register answer table ≡ after-notice table w
   notice-left {n = n} t h = rw t (ap (after-notice table) (sym (rw (e, six-noticed n (tableIn register) xs (holidaysIn list)) at h)))
 
-  pub query-left : {call : CallWord} {q : QueryWord} → call ≡ Call·.Query q → w ≡ written (asked q (tableIn register) six (length table / 8)) table answer → called call xs list register answer table ≡ after-query register w
+  pub query-left : {call : CallWord} {q : QueryWord} → call ≡ Call·.Query q → w ≡ written (asked q (tableIn register) (listed six) (length table / 8)) table answer → called call xs list register answer table ≡ after-query register w
   query-left {q = q} t h = rw t (ap (after-query register) (sym (rw (e, six-asked q (tableIn register) xs (length table / 8)) at h)))

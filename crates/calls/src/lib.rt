@@ -6,7 +6,7 @@ ghost use lib.ListN.{length};
 ghost use Rattle.daybook.specs.Conversions.{num};
 ghost use Rattle.buffers.specs.Buffers.{tableIn, holidaysIn, written};
 ghost use Rattle.calls.specs.Calls.{noticed, asked, called};
-ghost use Rattle.calls.specs.InnerCalls.{sixOf};
+ghost use Rattle.calls.specs.InnerCalls.{sixOf, listed};
 use journal::CallWord;
 use journal::NoticeWord;
 use journal::QueryWord;
@@ -22,47 +22,56 @@ fn number(nums: &[i64], i: usize) -> i64
 }
 
 // The numbers of a call, which has six at most.
-fn six(nums: &[i64]) -> [i64; 6]
+struct Six {
+    n0: i64,
+    n1: i64,
+    n2: i64,
+    n3: i64,
+    n4: i64,
+    n5: i64,
+}
+
+fn first_six(nums: &[i64]) -> Six
     ensures { λ r. ⌜ r ≡ sixOf (now (nums .entry)) ⌝ }
 {
-    [
-        number(nums, 0),
-        number(nums, 1),
-        number(nums, 2),
-        number(nums, 3),
-        number(nums, 4),
-        number(nums, 5),
-    ]
+    Six {
+        n0: number(nums, 0),
+        n1: number(nums, 1),
+        n2: number(nums, 2),
+        n3: number(nums, 3),
+        n4: number(nums, 4),
+        n5: number(nums, 5),
+    }
 }
 
 // A notice with the numbers a, through its exported function.
-fn notify(n: NoticeWord, a: &[i64; 6], list: &[u8], register: &mut [u8], answer: &mut [u8]) -> i64
-    ensures { λ r. ⌜ (r, (now (register .exit), now (answer .exit))) ≡ written (noticed n (tableIn (now (register .entry))) (now (a .entry)) (holidaysIn (now (list .entry)))) (now (register .entry)) (now (answer .entry)) ⌝ }
+fn notify(n: NoticeWord, a: Six, list: &[u8], register: &mut [u8], answer: &mut [u8]) -> i64
+    ensures { λ r. ⌜ (r, (now (register .exit), now (answer .exit))) ≡ written (noticed n (tableIn (now (register .entry))) (listed a) (holidaysIn (now (list .entry)))) (now (register .entry)) (now (answer .entry)) ⌝ }
 {
     match n {
-        NoticeWord::Fresh => hub::petlumas_fresh(register, answer, a[0], a[1]),
-        NoticeWord::Open => hub::petlumas_open(register, answer, a[0], a[1], a[2], a[3], a[4]),
+        NoticeWord::Fresh => hub::petlumas_fresh(register, answer, a.n0, a.n1),
+        NoticeWord::Open => hub::petlumas_open(register, answer, a.n0, a.n1, a.n2, a.n3, a.n4),
         NoticeWord::Energy => {
-            hub::petlumas_energy(register, answer, a[0], a[1], a[2], a[3], a[4], a[5])
+            hub::petlumas_energy(register, answer, a.n0, a.n1, a.n2, a.n3, a.n4, a.n5)
         }
-        NoticeWord::Status => hub::petlumas_status(register, answer, a[0], a[1], a[2]),
+        NoticeWord::Status => hub::petlumas_status(register, answer, a.n0, a.n1, a.n2),
         NoticeWord::Request => {
-            hub::petlumas_request(register, answer, list, a[0], a[1], a[2], a[3])
+            hub::petlumas_request(register, answer, list, a.n0, a.n1, a.n2, a.n3)
         }
-        NoticeWord::Withdraw => hub::petlumas_withdraw(register, answer, a[0], a[1]),
+        NoticeWord::Withdraw => hub::petlumas_withdraw(register, answer, a.n0, a.n1),
     }
 }
 
 // And a query.
-fn ask(q: QueryWord, a: &[i64; 6], register: &[u8], answer: &mut [u8], table: &mut [u8]) -> i64
-    ensures { λ r. ⌜ (r, (now (table .exit), now (answer .exit))) ≡ written (asked q (tableIn (now (register .entry))) (now (a .entry)) (length (now (table .entry)) / 8)) (now (table .entry)) (now (answer .entry)) ⌝ }
+fn ask(q: QueryWord, a: Six, register: &[u8], answer: &mut [u8], table: &mut [u8]) -> i64
+    ensures { λ r. ⌜ (r, (now (table .exit), now (answer .exit))) ≡ written (asked q (tableIn (now (register .entry))) (listed a) (length (now (table .entry)) / 8)) (now (table .entry)) (now (answer .entry)) ⌝ }
 {
     match q {
-        QueryWord::Account => hub::petlumas_account(register, answer, a[0], a[1], a[2]),
+        QueryWord::Account => hub::petlumas_account(register, answer, a.n0, a.n1, a.n2),
         QueryWord::Allocate => {
-            hub::petlumas_allocate(register, answer, table, a[0], a[1], a[2], a[3], a[4], a[5])
+            hub::petlumas_allocate(register, answer, table, a.n0, a.n1, a.n2, a.n3, a.n4, a.n5)
         }
-        QueryWord::Date => hub::petlumas_date(answer, a[0], a[1], a[2]),
+        QueryWord::Date => hub::petlumas_date(answer, a.n0, a.n1, a.n2),
     }
 }
 
@@ -77,9 +86,9 @@ pub fn invoke(
 ) -> i64
     ensures { λ r. ⌜ called call (now (nums .entry)) (now (list .entry)) (now (register .entry)) (now (answer .entry)) (now (table .entry)) ≡ record { result = r; register = now (register .exit); answer = now (answer .exit); table = now (table .exit) } ⌝ }
 {
-    let a = six(nums);
+    let a = first_six(nums);
     match call {
-        CallWord::Notice(n) => notify(n, &a, list, register, answer),
-        CallWord::Query(q) => ask(q, &a, register, answer, table),
+        CallWord::Notice(n) => notify(n, a, list, register, answer),
+        CallWord::Query(q) => ask(q, a, register, answer, table),
     }
 }

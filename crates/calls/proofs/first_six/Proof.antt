@@ -1,8 +1,8 @@
 use mir.Facts.{toZ-ofZ}
 use mir.Syntax.{w64}
 use borrow.Author.Needs.{needs}
-use Rattle.calls.proofs.six.Statement.{statement}
-use Rattle.calls.proofs.six.Tie as tie
+use Rattle.calls.proofs.first_six.Statement.{statement}
+use Rattle.calls.proofs.first_six.Tie as tie
 
 returns : tie.Need-returns
 returns c =
@@ -13,8 +13,8 @@ returns c =
     let first = second .before in
     rw (toZ-ofZ {w = w64} {z = first .number .result} (search needs), toZ-ofZ {w = w64} {z = second .number2 .result} (search needs), toZ-ofZ {w = w64} {z = third .number3 .result} (search needs), toZ-ofZ {w = w64} {z = fourth .number4 .result} (search needs), toZ-ofZ {w = w64} {z = fifth .number5 .result} (search needs), toZ-ofZ {w = w64} {z = c .number6 .result} (search needs), first .number .ensures, second .number2 .ensures, third .number3 .ensures, fourth .number4 .ensures, fifth .number5 .ensures, c .number6 .ensures)
 
-pub six-spec : {M : Type 1} → statement M
-six-spec =
+pub first-six-spec : {M : Type 1} → statement M
+first-six-spec =
     tie.close
     (tie.spec
     (λ c κs. search needs) (λ c κs. search needs) (λ c κs. search needs) (λ c κs. search needs) (λ c κs. search needs)
