@@ -52,15 +52,14 @@ module _ (call : CallWord) (xs : List ℤ) (f : Form) (t : Bool) (is : f ≡ for
       → t ≡ true → own ≡ ownNumbers f → own ≤ length xs → length xs ≤ lineNumbers
       → list ≡ withNumbers (take (length xs - own) (drop own xs)) (take (8 * length (take (length xs - own) (drop own xs))) (replicate (8 * lineNumbers) 0))
       → n ≡ places f room → n ≤ mostRoom
-      → table ≡ withNumbers (take (n - 0) (replicate mostRoom (negsuc 6))) (take (8 * length (take (n - 0) (replicate mostRoom (negsuc 6)))) (replicate tableBytes 0))
+      → table ≡ withNumbers (replicate n (negsuc 6)) (take (8 * n) (replicate tableBytes 0))
       → gives ≡ 8 * f .gives → gives ≤ answerBytes → answer ≡ take (gives - 0) (replicate answerBytes 0)
       → Played (some (acted (called call xs list b answer table))) b out at b' out' r → Played (callLine call b room xs) b out at b' out' r
   unfolding callLine
   call-made b list answer table own room n gives z own-is fits few list-is n-is small table-is gives-is short answer-is p =
       let long : 8 * length (drop own xs) ≤ 8 * lineNumbers = omega (arith, length-drop own xs) in
       let l : list ≡ bytesOf (drop (ownNumbers f) xs) = rw (rest xs own, take-replicate {A = ℕ} (8 * length (drop own xs)) (8 * lineNumbers) 0 long, own-is) at list-is in
-      let m : 8 * length (replicate n (negsuc 6)) ≤ tableBytes = omega (arith, length-replicate n (negsuc 6)) in
-      let s : table ≡ bytesOf (replicate (places f room) (negsuc 6)) = rw (sub-zero n, take-replicate n mostRoom (negsuc 6) small, take-replicate {A = ℕ} (8 * length (replicate n (negsuc 6))) tableBytes 0 m, n-is) at table-is in
+      let s : table ≡ bytesOf (replicate (places f room) (negsuc 6)) = rw (← n-is, length-replicate n (negsuc 6)) (rw (take-replicate {A = ℕ} (8 * n) tableBytes 0 (omega arith)) at table-is) in
       let a : answer ≡ replicate (8 * f .gives) 0 = rw (sub-zero gives, take-replicate {A = ℕ} gives answerBytes 0 short, gives-is) at answer-is in
       rw (← is, ← test, z) (rw (l, s, a) at p)
 

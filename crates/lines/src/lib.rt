@@ -1,14 +1,13 @@
 // The lines of a journal: each takes its numbers, works on the bytes of the register's buffer and writes its text at
 // place `at` of the output. It answers the place after the text, or `at` where the line is no call.
-ghost use mathlib.Core.List.{[], _++_};
-ghost use mathlib.Core.Option.{some};
+ghost use mathlib.Core.List.{_++_};
 ghost use mathlib.Core.Path.{_≡_};
 ghost use Prim.Native.Nat.{_+_, _*_, _≤_};
-ghost use lib.ListN.{length, take};
+ghost use lib.IntN.{negsuc};
+ghost use lib.ListN.{length, take, replicate};
 ghost use Rattle.buffers.specs.Buffers.{withNumbers};
 ghost use Rattle.printing.specs.Rows.{rowBytes, rowOf, Printed};
-ghost use Rattle.calls.specs.Calls.{called};
-ghost use Rattle.lines.specs.Lines.{bufferNumbers, bufferBytes, lineNumbers, mostRoom, mostBytes, numbersHeld, places as Lines·places, acted, callLine, lookLine, pokeLine, tableLine, lineOf, lengths as Lines·lengths, lendable as Lines·lendable, shown, showed, hubLine, Played};
+ghost use Rattle.lines.specs.Lines.{bufferNumbers, bufferBytes, lineNumbers, mostRoom, mostBytes, numbersHeld, places as Lines·places, callLine, lookLine, pokeLine, tableLine, lineOf, lengths as Lines·lengths, lendable as Lines·lendable, shown, hubLine, Played};
 ghost use Rattle.lines.specs.InnerLines.{answerBytes, tableBytes};
 use forms::Form;
 use journal::CallWord;
@@ -72,22 +71,13 @@ fn places(f: Form, room: usize) -> usize
     0
 }
 
-// A call on buffers, and its row.
-fn act(
-    call: CallWord,
-    nums: &[i64],
-    list: &[u8],
-    register: &mut [u8],
-    answer: &mut [u8],
-    table: &mut [u8],
-    out: &mut [u8],
-    at: usize,
-) -> usize
-    requires { ⌜ (length (now answer) ≤ answerBytes) × (length (now table) ≤ tableBytes) × (at + rowBytes ≤ length (now out)) ⌝ }
-    ensures { λ r. ⌜ Played (some (acted (called call (now (nums .entry)) (now (list .entry)) (now (register .entry)) (now (answer .entry)) (now (table .entry))))) (now (register .entry)) (now (out .entry)) at (now (register .exit)) (now (out .exit)) r ⌝ }
+// The first bytes of b as n numbers -7.
+fn sevens<'b>(n: usize, b: &'b mut [u8]) -> &'b mut [u8]
+    requires { ⌜ (n ≤ mostRoom) × (8 * n ≤ length (now b)) ⌝ }
+    ensures { λ r. ⌜ (now r ≡ withNumbers (replicate n (negsuc 6)) (take (8 * n) (now (b .entry)))) × (length (now r) ≡ 8 * n) ⌝ }
 {
-    calls::invoke(call, nums, list, register, answer, table);
-    print_row(out, at, answer, table)
+    let sevens = [-7i64; MOST_ROOM];
+    bytes_of(&sevens[0..n], b)
 }
 
 // A call on the bytes that are lent, with an answer table of `room` numbers.
@@ -112,19 +102,11 @@ fn call(
     let mut list = [0u8; LIST_BYTES];
     let mut answer = [0u8; ANSWER_BYTES];
     let mut table = [0u8; TABLE_BYTES];
-    let sevens = [-7i64; MOST_ROOM];
     let days = bytes_of(&nums[own..], &mut list);
-    let given = bytes_of(&sevens[0..shares], &mut table);
-    act(
-        call,
-        nums,
-        days,
-        register,
-        &mut answer[0..gives],
-        given,
-        out,
-        at,
-    )
+    let given = sevens(shares, &mut table);
+    let numbers = &mut answer[0..gives];
+    calls::invoke(call, nums, days, register, numbers, given);
+    print_row(out, at, numbers, given)
 }
 
 // The part of a point that the look-up hands back: its length and its sums.
@@ -240,24 +222,6 @@ fn print_bytes(
     printing::put_bytes(out, end, answer, b'\n')
 }
 
-// A call on buffers, and what it leaves of them.
-fn show(
-    f: Form,
-    call: CallWord,
-    nums: &[i64],
-    register: &mut [u8],
-    answer: &mut [u8],
-    table: &mut [u8],
-    out: &mut [u8],
-    at: usize,
-) -> usize
-    requires { ⌜ (length (now answer) ≤ mostBytes) × (length (now table) ≤ mostBytes) × (at + rowBytes ≤ length (now out)) ⌝ }
-    ensures { λ r. ⌜ Played (some (showed f (called call (now (nums .entry)) [] (now (register .entry)) (now (answer .entry)) (now (table .entry))))) (now (register .entry)) (now (out .entry)) at (now (register .exit)) (now (out .exit)) r ⌝ }
-{
-    let result = calls::invoke(call, nums, b"", register, answer, table);
-    print_bytes(f, result, answer, table, out, at)
-}
-
 // A call on buffers of the lengths that the line begins with.
 pub fn on_bytes(
     call: CallWord,
@@ -279,14 +243,8 @@ pub fn on_bytes(
     let k = places(f, forms::natural(nums, 2) as usize);
     let mut answer = [0xAAu8; MOST_BYTES];
     let mut table = [0xAAu8; MOST_BYTES];
-    show(
-        f,
-        call,
-        &nums[from..],
-        &mut register[0..n],
-        &mut answer[0..m],
-        &mut table[0..k],
-        out,
-        at,
-    )
+    let given = &mut answer[0..m];
+    let shares = &mut table[0..k];
+    let result = calls::invoke(call, &nums[from..], b"", &mut register[0..n], given, shares);
+    print_bytes(f, result, given, shares, out, at)
 }

@@ -4,11 +4,13 @@ use Rattle.forms.specs.declared.Form.{Form}
 use mathlib.Core.Path.{refl, ap, _∙_}
 use Prim.Native.Nat.{_≤_}
 use native.Mathlib.Omega.{arith}
+use mir.Facts.{toZ-ofZ}
+use mir.Syntax.{w64}
 use borrow.Author.Tests.{not-false}
 use lib.ListN.{length}
 use Rattle.lines.specs.Lines.{bufferBytes, mostBytes, places}
 use Rattle.lines.proofs.Outcomes.{nothing}
-use Rattle.lines.proofs.Calls.{Lent, lent, not-lent, hub-made}
+use Rattle.lines.proofs.Calls.{showed-is, Lent, lent, not-lent, hub-made}
 use borrow.Author.Needs.{needs}
 use Rattle.lines.proofs.on_bytes.Statement.{statement}
 use Rattle.lines.proofs.on_bytes.Tie as tie
@@ -46,23 +48,28 @@ returns c =
     let a = test .before .before .before .before .args in
     nothing _ _ _ (not-lent (a .call) (a .nums .now) (test .before .form-of .result) (test .lendable .result) (test .before .form-of .ensures .is) (test .lendable .ensures) (a .register .now) (c .if1 .taken))
 
-show-requires : tie.Need-show-requires
-show-requires c κs =
-    let place = c .before .before .before .before .before in
+print-bytes-requires : tie.Need-print-bytes-requires
+print-bytes-requires c κs =
+    let made = c .before .before .before .before .before .before .before .before .before in
+    let kept = made .invoke .kept in
+    let place = made .before .before .before .before .before .before .before .before in
     let h = answer-fits place in
     let k = table-fits place in
+    let pre = place .before .before .before .before .before .before .before .before .before .before .pre in
     search needs
 
 returns-2 : tie.Need-returns-2
 returns-2 c =
-    let f = c .before .before .before .before .before .before in
-    let place = f .before .before .before .before .before .before in
+    let after = c .before .before .before .before in
+    let made = after .before .before .before .before .before .before .before .before .before .before in
+    let place = made .before .before .before .before .before .before .before .before in
     let first = place .before .before .before in
     let test = first .before .before .before in
     let a = test .before .before .before .before .args in
     let form = test .before .form-of in
     let k = place .places .ensures .0 ∙ ap (places (form .result)) (place .before .natural3 .ensures .0) in
-    hub-made (a .call) (a .nums .now) (form .result) (test .lendable .result) (form .ensures .is) (test .lendable .ensures) (a .register .now) _ _ (first .before .lengths .result) (first .natural .result) (place .before .before .natural2 .result) (place .places .result) (not-false _ (first .before .before .if1 .left)) (first .before .lengths .ensures .0) (first .natural .ensures .0) (place .before .before .natural2 .ensures .0) (answer-fits place) k (table-fits place) refl refl (f .show .ensures)
+    let text = rw (toZ-ofZ {w = w64} {z = made .invoke .result} (search needs)) at (after .print-bytes .ensures .1) in
+    hub-made (a .call) (a .nums .now) (form .result) (test .lendable .result) (form .ensures .is) (test .lendable .ensures) (a .register .now) _ _ (first .before .lengths .result) (first .natural .result) (place .before .before .natural2 .result) (place .places .result) (not-false _ (first .before .before .if1 .left)) (first .before .lengths .ensures .0) (first .natural .ensures .0) (place .before .before .natural2 .ensures .0) (answer-fits place) k (table-fits place) refl refl (showed-is (made .invoke .ensures) (after .print-bytes .ensures .0) (form .result) text)
 
 pub on-bytes-spec : {M : Type 1} → statement M
 on-bytes-spec =
@@ -71,15 +78,17 @@ on-bytes-spec =
     (λ c κs. search needs) (λ c κs. search needs)
     returns
     (λ c κs. search needs) (λ c κs. search needs) (λ c κs. search needs) (λ c κs. search needs) (λ c κs. search needs)
-    (λ c. let h = start-fits c in search needs)
-    (λ c. let h = start-fits c in search needs)
-    (λ c. let h = start-fits c in search needs)
+    (λ c. search needs) (λ c. search needs)
+    (λ c. let h = answer-fits c in search needs)
+    (λ c. search needs) (λ c. search needs)
+    (λ c. let h = table-fits (c .before) in search needs)
+    (λ c. search needs)
+    (λ c. let h = start-fits (c .before .before) in search needs)
+    (λ c. let h = start-fits (c .before .before) in search needs)
+    (λ c. let h = start-fits (c .before .before) in search needs)
     (λ c. search needs) (λ c. search needs) (λ c. search needs)
-    (λ c. let h = register-fits (c .before) in search needs)
-    (λ c. search needs) (λ c. search needs)
-    (λ c. let h = answer-fits (c .before .before) in search needs)
-    (λ c. search needs) (λ c. search needs)
-    (λ c. let h = table-fits (c .before .before .before) in search needs)
-    show-requires
+    (λ c. let h = register-fits (c .before .before .before .before) in search needs)
+    (λ c κs. search needs)
+    print-bytes-requires
     (λ c. search needs) (λ c. search needs)
     returns-2)
