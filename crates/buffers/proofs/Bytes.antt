@@ -17,6 +17,10 @@ use Rattle.buffers.specs.Buffers.{numbersIn, withNumbers, tableIn, repli
 
 -- ---- numbers that are read
 
+pub numbers-length : (b : List ℕ) (n : ℕ) → length (numbersIn b n) ≡ n
+unfolding numbersIn
+numbers-length b n = length-decoded (replicate n (pos 0)) 0 b 0 n ∙ length-replicate n (pos 0)
+
 module _ (b : List ℕ) (t u : List ℤ) (n : ℕ) (h : n ≤ length t) (e : u ≡ decodedInto t 0 b 0 n) where
   pub read-length : length (take n u) ≡ n
   read-length = let k : length u ≡ length t = ap length e ∙ length-decoded t 0 b 0 n in length-take-le n u (omega arith)

@@ -1,3 +1,3 @@
 -- Laws that the proofs of the functions cite, and those of the exported functions.
-mod Bytes
+pub mod Bytes
 pub mod Ends

@@ -6,7 +6,11 @@ ghost use Prim.Native.Nat.{_*_, _/_, _≤_, min};
 ghost use lib.IntN.{pos};
 ghost use lib.ListN.{length, getD};
 ghost use Rattle.daybook.specs.Notices.{highestRefusal};
+ghost use Rattle.layout.specs.Layout.{tableLength};
 ghost use Rattle.buffers.specs.Buffers.{numbersIn, withNumbers, tableIn, replied, written};
+
+// The bytes of a register.
+const REGISTER_BYTES: usize = 61504;
 
 // The first n numbers of the bytes, in t.
 pub fn numbers_in<'a, 'b>(bytes: &'a [u8], t: &'b mut [i64], n: usize) -> &'b mut [i64]
@@ -29,14 +33,14 @@ fn fill(t: &mut [i64]) {
 
 // A register's table, in t.
 pub fn table_in<'a, 'b>(register: &'a [u8], t: &'b mut [i64]) -> &'b mut [i64]
-    requires { ⌜ length (now t) ≡ 7688 ⌝ }
+    requires { ⌜ length (now t) ≡ tableLength ⌝ }
     ensures { λ r. ⌜ (now r ≡ tableIn (now (register .entry))) × (8 * length (now r) ≤ length (now (register .entry))) ⌝ }
 {
-    if register.len() < 61504 {
+    if register.len() < REGISTER_BYTES {
         fill(t);
         return numbers_in(register, t, 0);
     }
-    numbers_in(register, t, 7688)
+    numbers_in(register, t, places::TABLE_LENGTH)
 }
 
 // The holidays, in t; of more than 513 the first 513, which are too many as well.

@@ -8,7 +8,6 @@ use native.Mathlib.Omega.{arith}
 use lib.IntN.{ℤ, pos}
 use lib.ListN.{length, getD, replicate, length-replicate}
 use lib.Seq.{ext-getD, take-all}
-use borrow.Author.Tests.{le-leb, lt-leb}
 use Rattle.words.specs.Tables.{decodedInto, encodedInto}
 use Rattle.words.proofs.Tables.{length-decoded, length-encoded}
 use Rattle.words.proofs.Back.{decoded-encoded-at}
@@ -17,14 +16,11 @@ use Rattle.layout.specs.Sound.{sound}
 use Rattle.layout.proofs.Editions.{edition-fits}
 use Rattle.layout.proofs.Words.{AllFit, fit-at, sound-fits}
 use Rattle.buffers.specs.Buffers.{numbersIn, withNumbers, tableIn}
+use Rattle.buffers.proofs.Bytes.{numbers-length, table-short, table-long}
 
 pub bytes-length : (t : List ℤ) (b : List ℕ) → length (withNumbers t b) ≡ length b
 unfolding withNumbers
 bytes-length t b = length-encoded b 0 t 0 (length t)
-
-pub read-length : (b : List ℕ) (n : ℕ) → length (numbersIn b n) ≡ n
-unfolding numbersIn
-read-length b n = length-decoded (replicate n (pos 0)) 0 b 0 n ∙ length-replicate n (pos 0)
 
 -- numbers that fit come back
 numbers-back : (t : List ℤ) (b : List ℕ) → AllFit t → 8 * length t ≤ length b → numbersIn (withNumbers t b) (length t) ≡ t
@@ -47,20 +43,12 @@ numbers-back t b f h = ext-getD (pos 0) u t long (λ i l. at i (omega (arith, lo
 
 -- ---- the register
 
-table-short : (b : List ℕ) → length b < 61504 → numbersIn b 0 ≡ tableIn b
-unfolding tableIn
-table-short b h = rw (lt-leb 61504 (length b) h)
-
-table-long : (b : List ℕ) → 61504 ≤ length b → numbersIn b 7688 ≡ tableIn b
-unfolding tableIn
-table-long b h = rw (le-leb 61504 (length b) h)
-
 -- A register's table has all its numbers, or its bytes are too few and it has none.
 pub table-whole : (b : List ℕ) → 61504 ≤ length b → length (tableIn b) ≡ tableLength
-table-whole b h = subst (λ t. length t ≡ tableLength) (table-long b h) (read-length b 7688)
+table-whole b h = subst (λ t. length t ≡ tableLength) (table-long b h) (numbers-length b 7688)
 
 pub table-none : (b : List ℕ) → length b < 61504 → length (tableIn b) ≡ 0
-table-none b h = subst (λ t. length t ≡ 0) (table-short b h) (read-length b 0)
+table-none b h = subst (λ t. length t ≡ 0) (table-short b h) (numbers-length b 0)
 
 pub table-back : (t : List ℤ) (b : List ℕ) → sound (editionOf t) t ≡ true → length t ≡ tableLength → 61504 ≤ length b → tableIn (withNumbers t b) ≡ t
 table-back t b s e h =

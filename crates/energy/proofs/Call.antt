@@ -29,7 +29,7 @@ use Rattle.layout.proofs.TableSound.{sound-lays}
 use Rattle.table.specs.declared.Located.the-variants.{Refused}
 use Rattle.table.specs.InnerTable.{onPart, located}
 use Rattle.table.proofs.Laws.{lent, backIn, range-small}
-use Rattle.table.proofs.Locating.{Standing, at-part}
+use Rattle.table.proofs.Locating.{PartFound, at-part}
 use Rattle.table.proofs.OnPart.{CallOn, room-found, call-back, call-done}
 use Rattle.entering.specs.declared.RaisedNotice.{RaisedNotice}
 use Rattle.energy.specs.Energy.{energyCall}
@@ -87,8 +87,8 @@ module _ (t : List ℤ) (n : EnergyNotice) (e : ℕ) (is : e ≡ least (energyEa
   unfolding energyCall
   energy-back = call-back t call e is
 
-  module _ {a b : ℕ} (h : Standing t (n .mirn) e a b) (nondaily daily : ℕ)
-      (en : nondaily ≡ biasOf (getD t 1 (pos 0))) (ed′ : daily ≡ biasOf (getD t 2 (pos 0))) where
+  module _ {a b : ℕ} (h : PartFound t (n .mirn) e a b) (nondaily daily : ℕ)
+      (is-nondaily : nondaily ≡ biasOf (getD t 1 (pos 0))) (is-daily : daily ≡ biasOf (getD t 2 (pos 0))) where
     -- the ranges that the call reads
     pub ranges-small : (nondaily ≤ 2000000) × (daily ≤ 2000000)
     unfolding registerOf
@@ -111,7 +111,7 @@ module _ (t : List ℤ) (n : EnergyNotice) (e : ℕ) (is : e ≡ least (energyEa
     module _ (x : RaisedNotice) (ex : x ≡ raisedNotice n) where
       given : energyPart x nondaily daily (lent t a b) ≡ onPart 4 (energyListsRows ed n R) (enterLists (entryOf n)) (lent t a b)
       unfolding registerOf
-      given = rw (ex, en, ed′) (sym part-same)
+      given = rw (ex, is-nondaily, is-daily) (sym part-same)
 
       pub energy-done : (r : Numbers) (p : List ℤ) {c : Bool}
           → (r ≡ energyPart x nondaily daily (lent t a b) .0) × (p ≡ energyPart x nondaily daily (lent t a b) .1) × (c ≡ refused r)

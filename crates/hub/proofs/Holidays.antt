@@ -6,15 +6,15 @@ use mathlib.Core.List.{List}
 use Prim.Native.Nat.{ℕ, _-_, _/_, _<_, min}
 use native.Mathlib.Nat.{eq-zero-or-pos}
 use native.Mathlib.Omega.{arith}
-use lib.IntN.{ℤ, pos}
-use lib.ListN.{length, replicate, length-replicate}
+use lib.IntN.{ℤ}
+use lib.ListN.{length}
 use borrow.Author.Tests.{lt-leb}
-use Rattle.words.proofs.Tables.{length-decoded}
 use Rattle.calendar.specs.Calendar.{holidayList}
 use Rattle.daybook.specs.declared.TransferRequest.{TransferRequest}
 use Rattle.transfer.specs.Transfer.{requestCall}
 use Rattle.transfer.proofs.Requests.{inRange, request-range, request-holidays, request-early}
 use Rattle.buffers.specs.Buffers.{numbersIn, holidaysIn}
+use Rattle.buffers.proofs.Bytes.{numbers-length}
 
 too-many : (hs : List ℤ) → 512 < length hs → holidayList hs ≡ false
 unfolding holidayList
@@ -28,10 +28,6 @@ refused-alike t n hs ks h k = go (inRange n) refl
     go : (r : Bool) → inRange n ≡ r → requestCall t n hs ≡ requestCall t n ks
     go false f = request-early t n hs 2 (request-range n hs f) 1 refl ∙ sym (request-early t n ks 2 (request-range n ks f) 1 refl)
     go true f = request-early t n hs 3 (request-holidays n hs f h) 2 refl ∙ sym (request-early t n ks 3 (request-holidays n ks f k) 2 refl)
-
-numbers-length : (b : List ℕ) (n : ℕ) → length (numbersIn b n) ≡ n
-unfolding numbersIn
-numbers-length b n = length-decoded (replicate n (pos 0)) 0 b 0 n ∙ length-replicate n (pos 0)
 
 pub first-513 : (t : List ℤ) (n : TransferRequest) (b : List ℕ) → requestCall t n (numbersIn b (min 513 (length b / 8))) ≡ requestCall t n (holidaysIn b)
 unfolding holidaysIn

@@ -31,7 +31,7 @@ pub extern "C" fn petlumas_fresh(
     ensures { λ r. ⌜ (r, (now (register .exit), now (answer .exit))) ≡ written (freshCall (tableIn (now (register .entry))) (record { nondaily = nondaily; daily = daily })) (now (register .entry)) (now (answer .entry)) ⌝ }
 {
     let n = Ranges { nondaily, daily };
-    let mut t = [0i64; 7688];
+    let mut t = [0i64; places::TABLE_LENGTH];
     let table = buffers::table_in(register, &mut t);
     let a = opening::fresh(table, n);
     let numbers = daybook::notice_numbers(a);
@@ -57,7 +57,7 @@ pub extern "C" fn petlumas_open(
         install,
         base,
     };
-    let mut t = [0i64; 7688];
+    let mut t = [0i64; places::TABLE_LENGTH];
     let table = buffers::table_in(register, &mut t);
     let a = opening::open(table, n);
     let numbers = daybook::notice_numbers(a);
@@ -85,7 +85,7 @@ pub extern "C" fn petlumas_energy(
         type_,
         confirmed,
     };
-    let mut t = [0i64; 7688];
+    let mut t = [0i64; places::TABLE_LENGTH];
     let table = buffers::table_in(register, &mut t);
     let a = energy::energy(table, n);
     let numbers = daybook::energy_numbers(a);
@@ -103,7 +103,7 @@ pub extern "C" fn petlumas_status(
     ensures { λ r. ⌜ (r, (now (register .exit), now (answer .exit))) ≡ written (statusCall (tableIn (now (register .entry))) (record { mirn = mirn; day = day; on = on })) (now (register .entry)) (now (answer .entry)) ⌝ }
 {
     let n = StatusNotice { mirn, day, on };
-    let mut t = [0i64; 7688];
+    let mut t = [0i64; places::TABLE_LENGTH];
     let table = buffers::table_in(register, &mut t);
     let a = status::status(table, n);
     let numbers = daybook::notice_numbers(a);
@@ -128,7 +128,7 @@ pub extern "C" fn petlumas_request(
         proposed,
         nochange,
     };
-    let mut t = [0i64; 7688];
+    let mut t = [0i64; places::TABLE_LENGTH];
     let table = buffers::table_in(register, &mut t);
     let mut list = [0i64; 513];
     let days = buffers::holidays_in(holidays, &mut list);
@@ -147,7 +147,7 @@ pub extern "C" fn petlumas_withdraw(
     ensures { λ r. ⌜ (r, (now (register .exit), now (answer .exit))) ≡ written (withdrawCall (tableIn (now (register .entry))) (record { mirn = mirn; user = user })) (now (register .entry)) (now (answer .entry)) ⌝ }
 {
     let n = Withdrawal { mirn, user };
-    let mut t = [0i64; 7688];
+    let mut t = [0i64; places::TABLE_LENGTH];
     let table = buffers::table_in(register, &mut t);
     let a = transfer::withdraw(table, n);
     let numbers = daybook::notice_numbers(a);
@@ -165,7 +165,7 @@ pub extern "C" fn petlumas_account(
     ensures { λ r. ⌜ (r, now (answer .exit)) ≡ replied (accountCall (tableIn (now (register .entry))) (record { user = user; from = from; to = to })) (now (answer .entry)) ⌝ }
 {
     let n = AccountQuery { user, from, to };
-    let mut t = [0i64; 7688];
+    let mut t = [0i64; places::TABLE_LENGTH];
     let table = buffers::table_in(register, &mut t);
     let a = account::account(table, n);
     let numbers = daybook::account_numbers(a);
@@ -195,7 +195,7 @@ pub extern "C" fn petlumas_allocate(
         uag,
         clp,
     };
-    let mut t = [0i64; 7688];
+    let mut t = [0i64; places::TABLE_LENGTH];
     let table = buffers::table_in(register, &mut t);
     let mut list = [0i64; 32];
     let room = buffers::shares_in(shares, &mut list);

@@ -17,7 +17,7 @@ use Rattle.printing.specs.Rows.{rowBytes, rowOf, Printed}
 use Rattle.forms.specs.declared.Form.{Form}
 use Rattle.forms.specs.Forms.{formOf, ownNumbers, sizeOf}
 use Rattle.calls.specs.Calls.{Left, called}
-use Rattle.lines.specs.Lines.{lineNumbers, mostRoom, numbersHeld, bytesOf, places, acted, callLine, lengths, size, mostBytes, bufferBytes, buffer, lendable, shown, showed, hubLine, Played}
+use Rattle.lines.specs.Lines.{lineNumbers, mostRoom, numbersHeld, bytesOf, tableRoom, acted, callLine, lengths, size, mostBytes, bufferBytes, buffer, lendable, shown, showed, hubLine, Played}
 use Rattle.lines.specs.InnerLines.{answerBytes, tableBytes}
 use Rattle.lines.proofs.Bytes.{take-replicate}
 use Rattle.lines.proofs.Outcomes.{on-lent}
@@ -51,7 +51,7 @@ module _ (call : CallWord) (xs : List ℤ) (f : Form) (t : Bool) (is : f ≡ for
   pub call-made : {out out' b' : List ℕ} {at r : ℕ} (b list answer table : List ℕ) (own room n gives : ℕ)
       → t ≡ true → own ≡ ownNumbers f → own ≤ length xs → length xs ≤ lineNumbers
       → list ≡ withNumbers (take (length xs - own) (drop own xs)) (take (8 * length (take (length xs - own) (drop own xs))) (replicate (8 * lineNumbers) 0))
-      → n ≡ places f room → n ≤ mostRoom
+      → n ≡ tableRoom f room → n ≤ mostRoom
       → table ≡ withNumbers (replicate n (negsuc 6)) (take (8 * n) (replicate tableBytes 0))
       → gives ≡ 8 * f .gives → gives ≤ answerBytes → answer ≡ take (gives - 0) (replicate answerBytes 0)
       → Played (some (acted (called call xs list b answer table))) b out at b' out' r → Played (callLine call b room xs) b out at b' out' r
@@ -59,7 +59,7 @@ module _ (call : CallWord) (xs : List ℤ) (f : Form) (t : Bool) (is : f ≡ for
   call-made b list answer table own room n gives z own-is fits few list-is n-is small table-is gives-is short answer-is p =
       let long : 8 * length (drop own xs) ≤ 8 * lineNumbers = omega (arith, length-drop own xs) in
       let l : list ≡ bytesOf (drop (ownNumbers f) xs) = rw (rest xs own, take-replicate {A = ℕ} (8 * length (drop own xs)) (8 * lineNumbers) 0 long, own-is) at list-is in
-      let s : table ≡ bytesOf (replicate (places f room) (negsuc 6)) = rw (← n-is, length-replicate n (negsuc 6)) (rw (take-replicate {A = ℕ} (8 * n) tableBytes 0 (omega arith)) at table-is) in
+      let s : table ≡ bytesOf (replicate (tableRoom f room) (negsuc 6)) = rw (← n-is, length-replicate n (negsuc 6)) (rw (take-replicate {A = ℕ} (8 * n) tableBytes 0 (omega arith)) at table-is) in
       let a : answer ≡ replicate (8 * f .gives) 0 = rw (sub-zero gives, take-replicate {A = ℕ} gives answerBytes 0 short, gives-is) at answer-is in
       rw (← is, ← test, z) (rw (l, s, a) at p)
 
@@ -70,13 +70,13 @@ pub record Lent (f : Form) (xs : List ℤ) : Type 0 where
   pub count : length xs ≡ lengths f + f .takes
   pub register : size xs 0 ≤ bufferBytes
   pub answer : size xs 1 ≤ mostBytes
-  pub table : places f (size xs 2) ≤ mostBytes
+  pub table : tableRoom f (size xs 2) ≤ mostBytes
 
 pub lent : (f : Form) (xs : List ℤ) (t : Bool) → t ≡ lendable f xs → t ≡ true → Lent f xs
 lent f xs t test z =
     let a = leb (size xs 0) bufferBytes in
     let b = leb (size xs 1) mostBytes in
-    let d = leb (places f (size xs 2)) mostBytes in
+    let d = leb (tableRoom f (size xs 2)) mostBytes in
     let first = both (eqb (length xs) (lengths f + f .takes)) (a && (b && d)) (rw test at z) in
     let second = both a (b && d) (first .1) in
     let third = both b d (second .1) in
@@ -84,7 +84,7 @@ lent f xs t test z =
       count = eqb-true (length xs) (lengths f + f .takes) (first .0);
       register = leb-true (size xs 0) bufferBytes (second .0);
       answer = leb-true (size xs 1) mostBytes (third .0);
-      table = leb-true (places f (size xs 2)) mostBytes (third .1);
+      table = leb-true (tableRoom f (size xs 2)) mostBytes (third .1);
     }
 
 module _ (call : CallWord) (xs : List ℤ) (f : Form) (t : Bool) (is : f ≡ formOf call) (test : t ≡ lendable f xs) where
@@ -94,13 +94,13 @@ module _ (call : CallWord) (xs : List ℤ) (f : Form) (t : Bool) (is : f ≡ for
 
   -- its buffers are the first bytes of others, each 170
   pub hub-made : {out out' u : List ℕ} {at r : ℕ} (b answer table : List ℕ) (from n m k : ℕ)
-      → t ≡ true → from ≡ lengths f → n ≡ size xs 0 → m ≡ size xs 1 → m ≤ mostBytes → k ≡ places f (size xs 2) → k ≤ mostBytes
+      → t ≡ true → from ≡ lengths f → n ≡ size xs 0 → m ≡ size xs 1 → m ≤ mostBytes → k ≡ tableRoom f (size xs 2) → k ≤ mostBytes
       → answer ≡ take (m - 0) (buffer mostBytes) → table ≡ take (k - 0) (buffer mostBytes)
       → Played (some (showed f (called call (take (length xs - from) (drop from xs)) [] (take (n - 0) b) answer table))) (take (n - 0) b) out at u out' r
       → Played (hubLine call b xs) b out at (u ++ drop (n - 0) b) out' r
   unfolding hubLine
   hub-made b answer table from n m k z from-is n-is m-is few k-is small answer-is table-is p =
       let a : answer ≡ buffer (size xs 1) = rw (sub-zero m, take-replicate {A = ℕ} m mostBytes 170 few, m-is) at answer-is in
-      let s : table ≡ buffer (places f (size xs 2)) = rw (sub-zero k, take-replicate {A = ℕ} k mostBytes 170 small, k-is) at table-is in
+      let s : table ≡ buffer (tableRoom f (size xs 2)) = rw (sub-zero k, take-replicate {A = ℕ} k mostBytes 170 small, k-is) at table-is in
       let q = rw (rest xs from, sub-zero n, a, s, from-is, n-is) at p in
       rw (← is, ← test, z, sub-zero n, n-is) (on-lent b _ (size xs 0) _ q)

@@ -53,8 +53,8 @@ bytesOf xs = withNumbers xs (replicate (8 * length xs) 0)
 -- ---- a call on the bytes that are lent
 
 -- A call's answer table has `room` numbers, if it is lent one.
-abbrev pub places : Form → ℕ → ℕ
-places f room = cond (f .table) room 0
+abbrev pub tableRoom : Form → ℕ → ℕ
+tableRoom f room = cond (f .table) room 0
 
 -- A row of the answer and then the answer table.
 abbrev pub acted : Left → List ℕ × List ℕ
@@ -66,7 +66,7 @@ callLine call lent room xs =
     let f : Form = formOf call in
     let list : List ℕ = bytesOf (drop (ownNumbers f) xs) in
     let answer : List ℕ = replicate (8 * f .gives) 0 in
-    let table : List ℕ = bytesOf (replicate (places f room) (negsuc 6)) in
+    let table : List ℕ = bytesOf (replicate (tableRoom f room) (negsuc 6)) in
     let l : Left = called call xs list lent answer table in
     cond (eqb (length xs) (sizeOf f xs)) (some (acted l)) none
 
@@ -132,7 +132,7 @@ buffer n = replicate n 170
 abbrev pub lendable : Form → List ℤ → Bool
 lendable f xs =
     eqb (length xs) (lengths f + f .takes)
-    && (leb (size xs 0) bufferBytes && (leb (size xs 1) mostBytes && leb (places f (size xs 2)) mostBytes))
+    && (leb (size xs 0) bufferBytes && (leb (size xs 1) mostBytes && leb (tableRoom f (size xs 2)) mostBytes))
 
 -- The result and the answer's bytes, and those of the answer table if there is one.
 unfoldable pub shown : Form → ℤ → List ℕ → List ℕ → List ℕ
@@ -146,7 +146,7 @@ unfoldable pub hubLine : CallWord → List ℕ → List ℤ → LineResult
 hubLine call b xs =
     let f : Form = formOf call in
     let n : ℕ = size xs 0 in
-    let table : List ℕ = buffer (places f (size xs 2)) in
+    let table : List ℕ = buffer (tableRoom f (size xs 2)) in
     let l : Left = called call (drop (lengths f) xs) [] (take n b) (buffer (size xs 1)) table in
     cond (lendable f xs) (onLent b n (some (showed f l))) none
 

@@ -7,7 +7,7 @@ ghost use lib.IntN.{negsuc};
 ghost use lib.ListN.{length, take, replicate};
 ghost use Rattle.buffers.specs.Buffers.{withNumbers};
 ghost use Rattle.printing.specs.Rows.{rowBytes, rowOf, Printed};
-ghost use Rattle.lines.specs.Lines.{bufferNumbers, bufferBytes, lineNumbers, mostRoom, mostBytes, numbersHeld, places as Lines·places, callLine, lookLine, pokeLine, tableLine, lineOf, lengths as Lines·lengths, lendable as Lines·lendable, shown, hubLine, Played};
+ghost use Rattle.lines.specs.Lines.{bufferNumbers, bufferBytes, lineNumbers, mostRoom, mostBytes, numbersHeld, tableRoom, callLine, lookLine, pokeLine, tableLine, lineOf, lengths as Lines·lengths, lendable as Lines·lendable, shown, hubLine, Played};
 ghost use Rattle.lines.specs.InnerLines.{answerBytes, tableBytes};
 use forms::Form;
 use journal::CallWord;
@@ -15,8 +15,6 @@ use journal::Command;
 use printing::row;
 
 // The register's buffer: the register's numbers and sixteen past them.
-pub const REGISTER_NUMBERS: usize = 7688;
-
 pub const BUFFER_NUMBERS: usize = 7704;
 
 pub const BUFFER_BYTES: usize = 61632;
@@ -62,8 +60,8 @@ fn print_row(out: &mut [u8], at: usize, answer: &[u8], table: &[u8]) -> usize
 }
 
 // The numbers of a call's answer table.
-fn places(f: Form, room: usize) -> usize
-    ensures { λ r. ⌜ (r ≡ Lines·places f room) × (r ≤ room) ⌝ }
+fn table_room(f: Form, room: usize) -> usize
+    ensures { λ r. ⌜ (r ≡ tableRoom f room) × (r ≤ room) ⌝ }
 {
     if f.table {
         return room;
@@ -98,7 +96,7 @@ fn call(
     }
     let own = forms::own_numbers(f);
     let gives = 8 * f.gives;
-    let shares = places(f, room);
+    let shares = table_room(f, room);
     let mut list = [0u8; LIST_BYTES];
     let mut answer = [0u8; ANSWER_BYTES];
     let mut table = [0u8; TABLE_BYTES];
@@ -136,8 +134,8 @@ fn table(register: &[u8], nums: &[i64], out: &mut [u8], at: usize) -> usize
     let mut t = [0i64; BUFFER_NUMBERS];
     let numbers = buffers::numbers_in(register, &mut t, BUFFER_NUMBERS);
     let all = &numbers[..];
-    let s = words::sums(&all[0..REGISTER_NUMBERS]);
-    let past = words::sums(&all[REGISTER_NUMBERS..]);
+    let s = words::sums(&all[0..places::TABLE_LENGTH]);
+    let past = words::sums(&all[places::TABLE_LENGTH..]);
     row(out, at, &[0, s.s1, s.s2, past.s2])
 }
 
@@ -150,7 +148,7 @@ fn poke(register: &mut [u8], nums: &[i64], out: &mut [u8], at: usize) -> usize
         return at;
     }
     let place = numbers::get(nums, 0);
-    if REGISTER_NUMBERS as u64 <= place {
+    if places::TABLE_LENGTH as u64 <= place {
         return at;
     }
     words::put_word(register, 8 * place as usize, nums[1]);
@@ -198,7 +196,7 @@ fn lendable(f: Form, nums: &[i64]) -> bool
     let counted = nums.len() == lengths(f) + f.takes;
     let register = forms::natural(nums, 0) <= BUFFER_BYTES as u64;
     let answer = forms::natural(nums, 1) <= MOST_BYTES as u64;
-    let table = places(f, forms::natural(nums, 2) as usize) <= MOST_BYTES;
+    let table = table_room(f, forms::natural(nums, 2) as usize) <= MOST_BYTES;
     counted & (register & (answer & table))
 }
 
@@ -240,7 +238,7 @@ pub fn on_bytes(
     let from = lengths(f);
     let n = forms::natural(nums, 0) as usize;
     let m = forms::natural(nums, 1) as usize;
-    let k = places(f, forms::natural(nums, 2) as usize);
+    let k = table_room(f, forms::natural(nums, 2) as usize);
     let mut answer = [0xAAu8; MOST_BYTES];
     let mut table = [0xAAu8; MOST_BYTES];
     let given = &mut answer[0..m];

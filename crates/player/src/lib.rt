@@ -336,7 +336,7 @@ fn mark(register: &mut [u8])
 {
     let mut i: usize = 0;
     while i < 16 {
-        words::put_number8(register, 8 * (lines::REGISTER_NUMBERS + i), 1000 + i as u64);
+        words::put_number8(register, 8 * (places::TABLE_LENGTH + i), 1000 + i as u64);
         i += 1;
     }
 }
@@ -348,7 +348,7 @@ pub fn run() {
     let mut out = [0u8; OUT_BYTES];
     mark(&mut register);
     let start = Standing {
-        lent: lines::REGISTER_NUMBERS,
+        lent: places::TABLE_LENGTH,
         room: 32,
         lines: 0,
         filled: 0,

@@ -28,7 +28,7 @@ use Rattle.layout.proofs.TableSound.{sound-lays}
 use Rattle.table.specs.declared.Located.the-variants.{Refused}
 use Rattle.table.specs.InnerTable.{located}
 use Rattle.table.proofs.Laws.{lent, backIn}
-use Rattle.table.proofs.Locating.{Standing}
+use Rattle.table.proofs.Locating.{PartFound}
 use Rattle.table.proofs.Calls.{tells}
 use Rattle.table.proofs.OnPart.{part-entered, part-refused, CallOn, call-back, call-done}
 use Rattle.status.specs.InnerParts.{statusRowsOf, switchedLists, statusPart}
@@ -100,7 +100,7 @@ module _ (t : List ℤ) (n : StatusNotice) (e : ℕ) (is : e ≡ least (statusEa
   unfolding statusCall
   status-back = call-back t call e is
 
-  pub status-done : {a b : ℕ} → Standing t (n .mirn) e a b → (x : Numbers) (p : List ℤ) {c : Bool}
+  pub status-done : {a b : ℕ} → PartFound t (n .mirn) e a b → (x : Numbers) (p : List ℤ) {c : Bool}
       → (x ≡ statusPart day on (lent t a b) .0) × (p ≡ statusPart day on (lent t a b) .1) × (c ≡ refused x)
       → (x ≡ statusCall t n .0) × (backIn t a b p ≡ statusCall t n .1) × (c ≡ refused x)
   unfolding statusCall statusPart

@@ -13,7 +13,7 @@ use lib.ListN.{length}
 use Rattle.numbers.specs.Naturals.{natOf}
 use Rattle.numbers.specs.Search.{maybe}
 use Rattle.daybook.specs.declared.Edition.{Edition}
-use Rattle.layout.specs.Layout.{placeOf, Fits, editionOf, partOf}
+use Rattle.layout.specs.Layout.{tableLength, placeOf, Fits, editionOf, partOf}
 use Rattle.layout.specs.Sound.{sound}
 use Rattle.layout.proofs.Editions.{edition-fits}
 use Rattle.table.specs.declared.Located.{Located}
@@ -46,7 +46,7 @@ module _ (ed : Edition) (t : List ℤ) (g : ed ≡ editionOf t) (m : ℤ) (early
 -- ---- from the answer to what was tested
 
 -- The call found point i, of its MIRN.
-pub record Standing (t : List ℤ) (m : ℤ) (early a b : ℕ) : Type 0 where
+pub record PartFound (t : List ℤ) (m : ℤ) (early a b : ℕ) : Type 0 where
   pub isSound : sound (editionOf t) t ≡ true
   pub passed : early ≡ 0
   pub i : ℕ
@@ -67,11 +67,11 @@ module _ (t : List ℤ) (m : ℤ) (early : ℕ) where
   abbrev answer : Bool → ℕ → Option ℕ → Located
   answer s e o = cond s (cond (eqb e 0) (maybe (Refused 4) (λ i. At (placeOf ed i) (placeOf ed (i + 1))) o) (Refused e)) (Refused 1)
 
-  pub standing : (a b : ℕ) → At a b ≡ located t m early → Standing t m early a b
+  pub part-found : (a b : ℕ) → At a b ≡ located t m early → PartFound t m early a b
   unfolding located
-  standing a b h = go (sound ed t) refl early refl (indexOf ed t (natOf m)) refl h
+  part-found a b h = go (sound ed t) refl early refl (indexOf ed t (natOf m)) refl h
     where
-      go : (s : Bool) → sound ed t ≡ s → (e : ℕ) → early ≡ e → (o : Option ℕ) → indexOf ed t (natOf m) ≡ o → At a b ≡ answer s e o → Standing t m early a b
+      go : (s : Bool) → sound ed t ≡ s → (e : ℕ) → early ≡ e → (o : Option ℕ) → indexOf ed t (natOf m) ≡ o → At a b ≡ answer s e o → PartFound t m early a b
       go false s e z o x h = let k : _≡_ {A = ℕ} 0 1 = cc in absurd (omega arith)
       go true s (suc e) z o x h = let k : _≡_ {A = ℕ} 0 1 = let q = eqb·suc-zero e in cc in absurd (omega arith)
       go true s zero z none x h = let k : _≡_ {A = ℕ} 0 1 = cc in absurd (omega arith)
@@ -89,15 +89,15 @@ module _ (t : List ℤ) (m : ℤ) (early : ℕ) where
 
 -- ---- the part that was found
 
-module _ {t : List ℤ} {m : ℤ} {early a b : ℕ} (h : Standing t m early a b) where
+module _ {t : List ℤ} {m : ℤ} {early a b : ℕ} (h : PartFound t m early a b) where
   pub at-part : lent t a b ≡ partOf (editionOf t) t (h .i)
   at-part = part-is (editionOf t) (edition-fits t) t (h .i) a b (h .from) (h .to)
 
   -- it can be lent
-  pub in-table : (a ≤ b) × (b ≤ 7688) × (7688 ≤ length t)
+  pub in-table : (a ≤ b) × (b ≤ tableLength) × (tableLength ≤ length t)
   in-table =
       let f : Fits (editionOf t) = edition-fits t in
-      let n : placeOf (editionOf t) (h .i + 1) ≤ 7688 = place-small (editionOf t) f (h .i + 1) (index-within (editionOf t) t (h .isSound) (natOf m) (h .i) (h .index)) in
+      let n : placeOf (editionOf t) (h .i + 1) ≤ tableLength = place-small (editionOf t) f (h .i + 1) (index-within (editionOf t) t (h .isSound) (natOf m) (h .i) (h .index)) in
       (omega (arith, h .from, h .to, place-next (editionOf t) f (h .i)), omega (arith, h .to, n), sound-long (editionOf t) t (h .isSound) .0)
 
   pub looked-up : lent t a b ≡ lookUp t m

@@ -33,7 +33,7 @@ use Rattle.table.specs.Lookup.{indexOf}
 use Rattle.table.specs.InnerTable.{onPart, located}
 use Rattle.table.proofs.Laws.{lent, backIn, part-put}
 use Rattle.table.proofs.Found.{Found, found, missing}
-use Rattle.table.proofs.Locating.{Standing, SentBack, unsound, by-numbers, unknown, sent-back, at-part}
+use Rattle.table.proofs.Locating.{PartFound, SentBack, unsound, by-numbers, unknown, sent-back, at-part}
 use Rattle.table.proofs.Calls.{call-unsound, gives, tells, call-refused, call-entered}
 
 -- ---- on the part
@@ -139,7 +139,7 @@ module _ {k : ℕ} {m : ℤ} {early : List Row} {rows : Lists → List Row} {eff
 -- ---- what a public call has to show, once it has been told where its point is
 
 -- the part that it lends, from place a to place b
-pub lent-sound : {t : List ℤ} {m : ℤ} {e a b : ℕ} → Standing t m e a b → SoundPart (lent t a b)
+pub lent-sound : {t : List ℤ} {m : ℤ} {e a b : ℕ} → PartFound t m e a b → SoundPart (lent t a b)
 lent-sound {t} {m} h =
     subst SoundPart (sym (at-part h)) (part-sound (editionOf t) (edition-fits t) t (h .isSound) (natOf m) (h .i) (h .index))
 
@@ -161,7 +161,7 @@ module _ {k : ℕ} {m : ℤ} {early : List Row} {rows : Lists → List Row} {eff
       go _ (unknown s x o) = tells (on-missing (editionOf t) (edition-fits t) t s (call s) (sym is ∙ x) o) refl
 
   -- a call whose function gives x and leaves p of the part
-  pub call-done : {a b : ℕ} → Standing t m e a b → (x : Numbers) (p : List ℤ) {c : Bool}
+  pub call-done : {a b : ℕ} → PartFound t m e a b → (x : Numbers) (p : List ℤ) {c : Bool}
       → (x ≡ onPart k rows effect (lent t a b) .0) × (p ≡ onPart k rows effect (lent t a b) .1) × (c ≡ refused x)
       → (x ≡ result .0) × (backIn t a b p ≡ result .1) × (c ≡ refused x)
   call-done {a} {b} h x p g =

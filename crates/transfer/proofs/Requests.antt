@@ -25,7 +25,7 @@ use Rattle.layout.proofs.TableSound.{sound-lays}
 use Rattle.table.specs.declared.Located.the-variants.{Refused}
 use Rattle.table.specs.InnerTable.{located}
 use Rattle.table.proofs.Laws.{lent, backIn}
-use Rattle.table.proofs.Locating.{Standing}
+use Rattle.table.proofs.Locating.{PartFound}
 use Rattle.table.proofs.Calls.{call-unsound}
 use Rattle.table.proofs.OnPart.{CallOn, on-early, call-back, call-done}
 use Rattle.transfer.specs.Transfer.{requestCall}
@@ -104,7 +104,7 @@ module _ (t : List ℤ) (n : TransferRequest) (holidays : List ℤ) (e : ℕ) (i
   unfolding requestCall
   request-back = call-back t call e is
 
-  pub request-done : {a b : ℕ} → Standing t (n .mirn) e a b → (x : Numbers) (p : List ℤ) {c : Bool}
+  pub request-done : {a b : ℕ} → PartFound t (n .mirn) e a b → (x : Numbers) (p : List ℤ) {c : Bool}
       → (x ≡ requestPart user periodOf (lent t a b) .0) × (p ≡ requestPart user periodOf (lent t a b) .1) × (c ≡ refused x)
       → (x ≡ requestCall t n holidays .0) × (backIn t a b p ≡ requestCall t n holidays .1) × (c ≡ refused x)
   unfolding requestCall requestPart

@@ -22,7 +22,7 @@ use Rattle.layout.proofs.TableSound.{sound-lays}
 use Rattle.table.specs.declared.Located.the-variants.{Refused}
 use Rattle.table.specs.InnerTable.{located}
 use Rattle.table.proofs.Laws.{lent, backIn}
-use Rattle.table.proofs.Locating.{Standing}
+use Rattle.table.proofs.Locating.{PartFound}
 use Rattle.table.proofs.OnPart.{CallOn, call-back, call-done}
 use Rattle.transfer.specs.Transfer.{withdrawCall}
 use Rattle.transfer.specs.InnerParts.{withdrawRowsOf, withdrawEffect, withdrawPart}
@@ -69,7 +69,7 @@ module _ (t : List ℤ) (n : Withdrawal) (e : ℕ) (is : e ≡ least (withdrawEa
   unfolding withdrawCall
   withdraw-back = call-back t call e is
 
-  pub withdraw-done : {a b : ℕ} → Standing t (n .mirn) e a b → (x : Numbers) (p : List ℤ) {c : Bool}
+  pub withdraw-done : {a b : ℕ} → PartFound t (n .mirn) e a b → (x : Numbers) (p : List ℤ) {c : Bool}
       → (x ≡ withdrawPart (natOf (n .user)) (lent t a b) .0) × (p ≡ withdrawPart (natOf (n .user)) (lent t a b) .1) × (c ≡ refused x)
       → (x ≡ withdrawCall t n .0) × (backIn t a b p ≡ withdrawCall t n .1) × (c ≡ refused x)
   unfolding withdrawCall withdrawPart

@@ -3,7 +3,7 @@ use native.Mathlib.Omega.{arith}
 use mir.Facts.{toZ-ofZ}
 use borrow.Author.Needs.{sfits-of, needs}
 use Rattle.table.specs.InnerTable.{located}
-use Rattle.table.proofs.Locating.{Standing, standing, in-table}
+use Rattle.table.proofs.Locating.{PartFound, part-found, in-table}
 use Rattle.table.proofs.OnPart.{lent-sound}
 use Rattle.entering.specs.InnerEntering.{InRange}
 use Rattle.energy.proofs.Call.{in-range-here, energy-back, ranges-small, energy-done}
@@ -23,8 +23,8 @@ told c =
 
 found : (c : tie.After-from)
     → let l = c .before .before in
-    Standing (entry l .args .t .now) (entry l .args .n .mirn) (l .before .own-row .result) (c .from .given .0 .0) (c .from .given .0 .1 .0)
-found c = standing _ _ _ _ _ (sym (c .from .given .1) ∙ told (c .before .before))
+    PartFound (entry l .args .t .now) (entry l .args .n .mirn) (l .before .own-row .result) (c .from .given .0 .0) (c .from .given .0 .1 .0)
+found c = part-found _ _ _ _ _ (sym (c .from .given .1) ∙ told (c .before .before))
 
 -- ---- and has read
 

@@ -10,7 +10,7 @@ use Rattle.lines.proofs.call.Statement.{statement}
 use Rattle.lines.proofs.call.Tie as tie
 
 -- a line that is counted has the numbers up to its list
-abbrev fits : (c : tie.After-places) → c .before .before .own-numbers .result ≤ length (c .before .before .before .before .before .before .before .before .args .nums .now)
+abbrev fits : (c : tie.After-table-room) → c .before .before .own-numbers .result ≤ length (c .before .before .before .before .before .before .before .before .args .nums .now)
 fits c =
     let own = c .before .before in
     let counted = own .before .before in
@@ -45,7 +45,7 @@ returns-2 c =
     let s = counted .before .before .before .before in
     let a = s .args in
     let row = after .print-row .ensures in
-    call-made (a .call) (a .nums .now) (counted .before .form-of .result) (counted .counted .result) (counted .before .form-of .ensures .is) (counted .counted .ensures) (a .register .now) _ _ _ (own .own-numbers .result) (a .room) (place .places .result) _ (not-false _ (own .before .if1 .left)) (own .own-numbers .ensures .0) (fits place) (s .pre .1) (days .bytes-of .ensures .0) (place .places .ensures .0) (omega (arith, place .places .ensures .1, s .pre .0)) (shares .sevens .ensures .0) refl (omega (arith, counted .before .form-of .ensures .short)) refl (acted-is (made .invoke .ensures) (row .0) (row .1))
+    call-made (a .call) (a .nums .now) (counted .before .form-of .result) (counted .counted .result) (counted .before .form-of .ensures .is) (counted .counted .ensures) (a .register .now) _ _ _ (own .own-numbers .result) (a .room) (place .table-room .result) _ (not-false _ (own .before .if1 .left)) (own .own-numbers .ensures .0) (fits place) (s .pre .1) (days .bytes-of .ensures .0) (place .table-room .ensures .0) (omega (arith, place .table-room .ensures .1, s .pre .0)) (shares .sevens .ensures .0) refl (omega (arith, counted .before .form-of .ensures .short)) refl (acted-is (made .invoke .ensures) (row .0) (row .1))
 
 pub call-spec : {M : Type 1} → statement M
 call-spec =

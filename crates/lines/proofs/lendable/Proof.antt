@@ -8,7 +8,7 @@ returns c =
     let second = third .before in
     let first = second .before in
     let count = first .before .before in
-    rw (count .lengths .ensures .0, first .natural .ensures .0, second .natural2 .ensures .0, c .places .ensures .0, third .natural3 .ensures .0)
+    rw (count .lengths .ensures .0, first .natural .ensures .0, second .natural2 .ensures .0, c .table-room .ensures .0, third .natural3 .ensures .0)
 
 pub lendable-spec : {M : Type 1} → statement M
 lendable-spec =

@@ -5,7 +5,7 @@ use borrow.Author.Needs.{sfits-of, needs}
 use Rattle.numbers.specs.Naturals.{natOf}
 use Rattle.numbers.proofs.Naturals.{natural-read}
 use Rattle.table.specs.InnerTable.{located}
-use Rattle.table.proofs.Locating.{Standing, standing, in-table}
+use Rattle.table.proofs.Locating.{PartFound, part-found, in-table}
 use Rattle.table.proofs.OnPart.{lent-sound}
 use Rattle.status.proofs.Call.{status-bounds, status-back, status-done}
 use Rattle.status.proofs.status.Statement.{statement}
@@ -26,8 +26,8 @@ told c =
 
 found : (c : tie.After-from)
     → let l = c .before .before in
-    Standing (entry l .args .t .now) (entry l .args .n .mirn) (l .before .own-row .result) (c .from .given .0 .0) (c .from .given .0 .1 .0)
-found c = standing _ _ _ _ _ (sym (c .from .given .1) ∙ told (c .before .before))
+    PartFound (entry l .args .t .now) (entry l .args .n .mirn) (l .before .own-row .result) (c .from .given .0 .0) (c .from .given .0 .1 .0)
+found c = part-found _ _ _ _ _ (sym (c .from .given .1) ∙ told (c .before .before))
 
 day-is : (c : tie.After-natural) → c .natural .result ≡ natOf (entry (c .before .before .before .before) .args .n .day)
 day-is c =

@@ -4,7 +4,7 @@ use mir.Facts.{toZ-ofZ}
 use borrow.Author.Needs.{needs}
 use Rattle.table.specs.declared.Located.the-variants.{At}
 use Rattle.table.specs.InnerTable.{located}
-use Rattle.table.proofs.Locating.{Standing, standing, sent-back, in-table, looked-up, nothing-found}
+use Rattle.table.proofs.Locating.{PartFound, part-found, sent-back, in-table, looked-up, nothing-found}
 use Rattle.table.proofs.look_up.Statement.{statement}
 use Rattle.table.proofs.look_up.Tie as tie
 
@@ -16,8 +16,8 @@ returns c =
     let o = c .before in
     nothing-found (sent-back _ _ 0 _ (sym (o .enum-told .given .1) ∙ told (o .before .before)))
 
-found : (c : tie.After-locate) {a b : ℕ} → c .locate .result ≡ At a b → Standing (c .before .args .t .now) (c .before .args .m) 0 a b
-found c e = standing _ _ 0 _ _ (sym e ∙ told c)
+found : (c : tie.After-locate) {a b : ℕ} → c .locate .result ≡ At a b → PartFound (c .before .args .t .now) (c .before .args .m) 0 a b
+found c e = part-found _ _ 0 _ _ (sym e ∙ told c)
 
 mul-result : tie.Need-mul-result
 mul-result c = let h = in-table (found (c .before .before .before) (c .before .from .given .1)) in search needs

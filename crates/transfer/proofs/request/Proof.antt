@@ -5,7 +5,7 @@ use borrow.Author.Needs.{sfits-of, needs}
 use Rattle.numbers.specs.Naturals.{natOf}
 use Rattle.numbers.proofs.Naturals.{natural-read}
 use Rattle.table.specs.InnerTable.{located}
-use Rattle.table.proofs.Locating.{Standing, standing, in-table}
+use Rattle.table.proofs.Locating.{PartFound, part-found, in-table}
 use Rattle.table.proofs.OnPart.{lent-sound}
 use Rattle.transfer.proofs.Requests.{request-bounds, request-back, request-done}
 use Rattle.transfer.proofs.request.Statement.{statement}
@@ -26,8 +26,8 @@ told c =
 
 found : (c : tie.After-from)
     → let l = c .before .before in
-    Standing (entry l .args .t .now) (entry l .args .n .mirn) (l .before .request-row .result) (c .from .given .0 .0) (c .from .given .0 .1 .0)
-found c = standing _ _ _ _ _ (sym (c .from .given .1) ∙ told (c .before .before))
+    PartFound (entry l .args .t .now) (entry l .args .n .mirn) (l .before .request-row .result) (c .from .given .0 .0) (c .from .given .0 .1 .0)
+found c = part-found _ _ _ _ _ (sym (c .from .given .1) ∙ told (c .before .before))
 
 -- the numbers of the request, once its point is known
 abbrev asked : tie.After-known-told2 → tie.After-locate
