@@ -20,10 +20,10 @@ use Rattle.lists.specs.InnerSteps.{enterLists, energyListsRows, energyLists}
 use Rattle.lists.specs.InnerWell.{WellFormed}
 use Rattle.lists.proofs.Rows.{above, upTo, least-first, least-skip, least-none}
 use Rattle.lists.proofs.EnergyStep.{energy-step, energy-keeps, energy-clear, enter-keeps}
-use Rattle.layout.specs.Layout.{editionOf, registerOf}
+use Rattle.layout.specs.Layout.{Fits, editionOf, registerOf}
 use Rattle.layout.specs.Sound.{sound}
+use Rattle.layout.specs.Calls.{onEdition}
 use Rattle.layout.specs.InnerParts.{roomOf}
-use Rattle.layout.proofs.Editions.{edition-fits}
 use Rattle.layout.proofs.Numbers.{few}
 use Rattle.layout.proofs.TableSound.{sound-lays}
 use Rattle.table.specs.declared.Located.the-variants.{Refused}
@@ -59,15 +59,16 @@ module _ (n : EnergyNotice) where
 
 -- ---- the call
 
-module _ (t : List ℤ) (n : EnergyNotice) (e : ℕ) (is : e ≡ least (energyEarly n)) where
-  abbrev ed : Edition
-  ed = editionOf t
+module _ (ed : Edition) (fits : Fits ed) (t : List ℤ) (g : ed ≡ editionOf t) (n : EnergyNotice) (e : ℕ) (is : e ≡ least (energyEarly n)) where
+  whole : energyCall t n ≡ onEdition 4 (energy ed n) ed t
+  unfolding energyCall
+  whole = ap (λ ed. onEdition 4 (energy ed n) ed t) (sym g)
 
   abbrev R : Register
   R = registerOf ed t
 
   well-formed : sound ed t ≡ true → WellFormed ed R
-  well-formed s = sound-lays ed (edition-fits t) t s .0
+  well-formed s = sound-lays ed fits t s .0
 
   call : sound ed t ≡ true → CallOn ed R 4 (n .mirn) (energyEarly n) (energyListsRows ed n R) (enterLists (entryOf n)) (energy ed n)
   unfolding energyLists energyEarly energyListsRows energyRows above upTo
@@ -82,12 +83,11 @@ module _ (t : List ℤ) (n : EnergyNotice) (e : ℕ) (is : e ≡ least (energyEa
         room = λ q w e. few (enter-keeps w (entryOf n) (energy-clear ed n R q e));
       }
 
-  pub energy-back : (r : ℕ) → Refused r ≡ located t (n .mirn) e
+  pub energy-back : (r : ℕ) → Refused r ≡ located ed t (n .mirn) e
       → (pos r ∷ replicate 4 (pos 0) ≡ energyCall t n .0) × (t ≡ energyCall t n .1) × (true ≡ refused (pos r ∷ replicate 4 (pos 0)))
-  unfolding energyCall
-  energy-back = call-back t call e is
+  energy-back = call-back ed fits t call (energyCall t n) whole e is
 
-  module _ {a b : ℕ} (h : PartFound t (n .mirn) e a b) (nondaily daily : ℕ)
+  module _ {a b : ℕ} (h : PartFound ed t (n .mirn) e a b) (nondaily daily : ℕ)
       (is-nondaily : nondaily ≡ biasOf (getD t 1 (pos 0))) (is-daily : daily ≡ biasOf (getD t 2 (pos 0))) where
     -- the ranges that the call reads
     pub ranges-small : (nondaily ≤ 2000000) × (daily ≤ 2000000)
@@ -105,7 +105,7 @@ module _ (t : List ℤ) (n : EnergyNotice) (e : ℕ) (is : e ≡ least (energyEa
         let back : n ≡ noticeOf (raisedNotice n) = in-range-tells n (in-range-here n (sym is ∙ h .passed)) .0 in
         let nondaily′ = sym (bias-is (R .nondaily) (range-small (R .nondaily) (ok .nondailyOk))) in
         let daily′ = sym (bias-is (R .daily) (range-small (R .daily) (ok .dailyOk))) in
-        let room : ed .records ≡ roomOf (lent t a b) = sym (ap roomOf (at-part h) ∙ room-found ed (edition-fits t) t (h .isSound) (natOf (n .mirn)) (h .i) (h .index)) in
+        let room : ed .records ≡ roomOf (lent t a b) = sym (ap roomOf (at-part fits h) ∙ room-found ed fits t (h .isSound) (natOf (n .mirn)) (h .i) (h .index)) in
         λ i. onPart 4 (energyListsRows (editionWith (room i)) (back i) (record { nondaily = nondaily′ i; daily = daily′ i; points = [] })) (enterLists (entryOf (back i))) (lent t a b)
 
     module _ (x : RaisedNotice) (ex : x ≡ raisedNotice n) where
@@ -116,6 +116,5 @@ module _ (t : List ℤ) (n : EnergyNotice) (e : ℕ) (is : e ≡ least (energyEa
       pub energy-done : (r : Numbers) (p : List ℤ) {c : Bool}
           → (r ≡ energyPart x nondaily daily (lent t a b) .0) × (p ≡ energyPart x nondaily daily (lent t a b) .1) × (c ≡ refused r)
           → (r ≡ energyCall t n .0) × (backIn t a b p ≡ energyCall t n .1) × (c ≡ refused r)
-      unfolding energyCall
       energy-done r p g =
-          call-done t call e is h r p (g .0 ∙ ap (λ w. w .0) given, g .1 ∙ ap (λ w. w .1) given, g .2)
+          call-done ed fits t call (energyCall t n) whole e is h r p (g .0 ∙ ap (λ w. w .0) given, g .1 ∙ ap (λ w. w .1) given, g .2)

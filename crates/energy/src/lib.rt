@@ -130,8 +130,9 @@ fn enter(p: &mut [i64], x: RaisedNotice, nondaily: u64, daily: u64) -> EnergyAns
 pub fn energy(t: &mut [i64], n: EnergyNotice) -> EnergyAnswer
     ensures { λ r. ⌜ (energyNumbers r ≡ energyCall (now (t .entry)) n .0) × (now (t .exit) ≡ energyCall (now (t .entry)) n .1) × (energyRefused r ≡ refused (energyNumbers r)) ⌝ }
 {
+    let ed = table::edition(t);
     let mirn = n.mirn;
-    match table::locate(t, mirn, own_row(n)) {
+    match table::locate(t, ed, mirn, own_row(n)) {
         Located::Refused(row) => EnergyAnswer::Refused(row),
         Located::At { from, to } => {
             let x = read(n);

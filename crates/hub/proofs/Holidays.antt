@@ -11,6 +11,8 @@ use lib.ListN.{length}
 use borrow.Author.Tests.{lt-leb}
 use Rattle.calendar.specs.Calendar.{holidayList}
 use Rattle.daybook.specs.declared.TransferRequest.{TransferRequest}
+use Rattle.layout.specs.Layout.{editionOf}
+use Rattle.layout.proofs.Editions.{edition-fits}
 use Rattle.transfer.specs.Transfer.{requestCall}
 use Rattle.transfer.proofs.Requests.{inRange, request-range, request-holidays, request-early}
 use Rattle.buffers.specs.Buffers.{numbersIn, holidaysIn}
@@ -26,8 +28,8 @@ refused-alike : (t : List ℤ) (n : TransferRequest) (hs ks : List ℤ) → holi
 refused-alike t n hs ks h k = go (inRange n) refl
   where
     go : (r : Bool) → inRange n ≡ r → requestCall t n hs ≡ requestCall t n ks
-    go false f = request-early t n hs 2 (request-range n hs f) 1 refl ∙ sym (request-early t n ks 2 (request-range n ks f) 1 refl)
-    go true f = request-early t n hs 3 (request-holidays n hs f h) 2 refl ∙ sym (request-early t n ks 3 (request-holidays n ks f k) 2 refl)
+    go false f = request-early (editionOf t) (edition-fits t) t refl n hs 2 (request-range n hs f) 1 refl ∙ sym (request-early (editionOf t) (edition-fits t) t refl n ks 2 (request-range n ks f) 1 refl)
+    go true f = request-early (editionOf t) (edition-fits t) t refl n hs 3 (request-holidays n hs f h) 2 refl ∙ sym (request-early (editionOf t) (edition-fits t) t refl n ks 3 (request-holidays n ks f k) 2 refl)
 
 pub first-513 : (t : List ℤ) (n : TransferRequest) (b : List ℕ) → requestCall t n (numbersIn b (min 513 (length b / 8))) ≡ requestCall t n (holidaysIn b)
 unfolding holidaysIn

@@ -11,6 +11,7 @@ use Rattle.numbers.specs.Answers.{refused}
 use Rattle.numbers.proofs.Answers.{row-refuses}
 use Rattle.numbers.proofs.Bools.{both}
 use Rattle.calendar.specs.Calendar.{isDay}
+use Rattle.daybook.specs.declared.Edition.{Edition}
 use Rattle.daybook.specs.declared.StatusNotice.{StatusNotice}
 use Rattle.daybook.specs.Notices.{least, Numbers, isMirn, isFlag, statusEarly, statusRows, status}
 use Rattle.lists.specs.InnerSteps.{lastEnd, statusLists}
@@ -18,10 +19,10 @@ use Rattle.lists.proofs.Rows.{above, upTo, least-first, least-skip, least-none}
 use Rattle.lists.proofs.Bounds.{within-bounds}
 use Rattle.lists.proofs.StatusStep.{status-clear, status-step, status-keeps}
 use Rattle.lists.proofs.Switch.{offs-after-few}
-use Rattle.layout.specs.Layout.{editionOf, pointNumbers, pointFrom, registerOf}
+use Rattle.layout.specs.Layout.{Fits, editionOf, pointNumbers, pointFrom, registerOf}
 use Rattle.layout.specs.Sound.{sound}
+use Rattle.layout.specs.Calls.{onEdition}
 use Rattle.layout.specs.InnerParts.{roomOf}
-use Rattle.layout.proofs.Editions.{edition-fits}
 use Rattle.layout.proofs.Numbers.{few}
 use Rattle.layout.proofs.PartBlocks.{few-offs}
 use Rattle.layout.proofs.TableSound.{sound-lays}
@@ -75,33 +76,36 @@ module _ (day on : ℕ) (p : List ℤ) where
 
 -- ---- the call
 
-module _ (t : List ℤ) (n : StatusNotice) (e : ℕ) (is : e ≡ least (statusEarly n)) where
+module _ (ed : Edition) (fits : Fits ed) (t : List ℤ) (g : ed ≡ editionOf t) (n : StatusNotice) (e : ℕ) (is : e ≡ least (statusEarly n)) where
+  whole : statusCall t n ≡ onEdition 0 (status n) ed t
+  unfolding statusCall
+  whole = ap (λ ed. onEdition 0 (status n) ed t) (sym g)
+
   abbrev day : ℕ
   day = natOf (n .day)
 
   abbrev on : ℕ
   on = natOf (n .on)
 
-  call : sound (editionOf t) t ≡ true → CallOn (editionOf t) (registerOf (editionOf t) t) 0 (n .mirn) (statusEarly n) (statusRowsOf day on) (λ q. ([], switchedLists day on q)) (status n)
+  call : sound ed t ≡ true → CallOn ed (registerOf ed t) 0 (n .mirn) (statusEarly n) (statusRowsOf day on) (λ q. ([], switchedLists day on q)) (status n)
   unfolding statusLists statusEarly statusRows above upTo
   call s =
-      let ok = sound-lays (editionOf t) (edition-fits t) t s .0 in
+      let ok = sound-lays ed fits t s .0 in
       record {
         numbered = refl;
         low = refl;
         high = λ q. refl;
-        is = status-step n (registerOf (editionOf t) t) ok;
+        is = status-step n (registerOf ed t) ok;
         keeps = status-keeps n ok;
         room = λ q w e. few-offs (few w) _ (offs-after-few day on 8 (q .offs) (w .offsFew) (status-clear n (q .facts .install) (lastEnd (q .recs)) (q .offs) e .room));
       }
 
-  pub status-back : (r : ℕ) → Refused r ≡ located t (n .mirn) e
+  pub status-back : (r : ℕ) → Refused r ≡ located ed t (n .mirn) e
       → (pos r ∷ [] ≡ statusCall t n .0) × (t ≡ statusCall t n .1) × (true ≡ refused (pos r ∷ []))
-  unfolding statusCall
-  status-back = call-back t call e is
+  status-back = call-back ed fits t call (statusCall t n) whole e is
 
-  pub status-done : {a b : ℕ} → PartFound t (n .mirn) e a b → (x : Numbers) (p : List ℤ) {c : Bool}
+  pub status-done : {a b : ℕ} → PartFound ed t (n .mirn) e a b → (x : Numbers) (p : List ℤ) {c : Bool}
       → (x ≡ statusPart day on (lent t a b) .0) × (p ≡ statusPart day on (lent t a b) .1) × (c ≡ refused x)
       → (x ≡ statusCall t n .0) × (backIn t a b p ≡ statusCall t n .1) × (c ≡ refused x)
-  unfolding statusCall statusPart
-  status-done = call-done t call e is
+  unfolding statusPart
+  status-done = call-done ed fits t call (statusCall t n) whole e is

@@ -116,10 +116,11 @@ fn enter(p: &mut [i64], day: u64, on: u64) -> NoticeAnswer
 pub fn status(t: &mut [i64], n: StatusNotice) -> NoticeAnswer
     ensures { λ r. ⌜ (noticeNumbers r ≡ statusCall (now (t .entry)) n .0) × (now (t .exit) ≡ statusCall (now (t .entry)) n .1) × (noticeRefused r ≡ refused (noticeNumbers r)) ⌝ }
 {
+    let ed = table::edition(t);
     let mirn = n.mirn;
     let day = n.day;
     let on = n.on;
-    match table::locate(t, mirn, own_row(n)) {
+    match table::locate(t, ed, mirn, own_row(n)) {
         Located::Refused(row) => NoticeAnswer::Refused(row),
         Located::At { from, to } => {
             let d = numbers::natural(day);

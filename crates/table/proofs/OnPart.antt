@@ -19,13 +19,12 @@ use Rattle.lists.specs.Lists.{Lists, Register, bookOf}
 use Rattle.lists.specs.InnerSteps.{findLists, onLists}
 use Rattle.lists.specs.InnerWell.{Well, WellFormed}
 use Rattle.lists.proofs.Rows.{above, above-less, upTo, up-to-least, least-first, least-append-none, least-append-some, decide-taken, decide-refused}
-use Rattle.layout.specs.Layout.{Fits, editionOf, partOf, pointNumbers, pointFrom, registerOf}
+use Rattle.layout.specs.Layout.{Fits, partOf, pointNumbers, pointFrom, registerOf}
 use Rattle.layout.specs.InnerWrites.{withPart}
 use Rattle.layout.specs.Sound.{sound}
 use Rattle.layout.specs.InnerParts.{roomOf, SoundPart}
 use Rattle.layout.specs.Calls.{onEdition}
 use Rattle.layout.proofs.Numbers.{Few, few}
-use Rattle.layout.proofs.Editions.{edition-fits}
 use Rattle.layout.proofs.Parts.{with-part-own}
 use Rattle.layout.proofs.SoundParts.{room-laid, laid-sound, stride-small}
 use Rattle.table.specs.declared.Located.the-variants.{Refused}
@@ -139,36 +138,32 @@ module _ {k : ℕ} {m : ℤ} {early : List Row} {rows : Lists → List Row} {eff
 -- ---- what a public call has to show, once it has been told where its point is
 
 -- the part that it lends, from place a to place b
-pub lent-sound : {t : List ℤ} {m : ℤ} {e a b : ℕ} → PartFound t m e a b → SoundPart (lent t a b)
-lent-sound {t} {m} h =
-    subst SoundPart (sym (at-part h)) (part-sound (editionOf t) (edition-fits t) t (h .isSound) (natOf m) (h .i) (h .index))
+pub lent-sound : {ed : Edition} {t : List ℤ} {m : ℤ} {e a b : ℕ} → Fits ed → PartFound ed t m e a b → SoundPart (lent t a b)
+lent-sound {ed} {t} {m} fits h =
+    subst SoundPart (sym (at-part fits h)) (part-sound ed fits t (h .isSound) (natOf m) (h .i) (h .index))
 
 module _ {k : ℕ} {m : ℤ} {early : List Row} {rows : Lists → List Row} {effect : Lists → Numbers × Lists} {step : Book → Numbers × Book}
-    (t : List ℤ) (call : sound (editionOf t) t ≡ true → CallOn (editionOf t) (registerOf (editionOf t) t) k m early rows effect step)
-    (e : ℕ) (is : e ≡ least early) where
-  abbrev result : Numbers × List ℤ
-  result = onEdition k step (editionOf t) t
-
+    (ed : Edition) (fits : Fits ed) (t : List ℤ) (call : sound ed t ≡ true → CallOn ed (registerOf ed t) k m early rows effect step)
+    (w : Numbers × List ℤ) (whole : w ≡ onEdition k step ed t) (e : ℕ) (is : e ≡ least early) where
   -- a call that is sent back by row r
-  pub call-back : (r : ℕ) → Refused r ≡ located t m e
-      → (pos r ∷ replicate k (pos 0) ≡ result .0) × (t ≡ result .1) × (true ≡ refused (pos r ∷ replicate k (pos 0)))
-  call-back r h = go r (sent-back t m e r h)
+  pub call-back : (r : ℕ) → Refused r ≡ located ed t m e
+      → (pos r ∷ replicate k (pos 0) ≡ w .0) × (t ≡ w .1) × (true ≡ refused (pos r ∷ replicate k (pos 0)))
+  call-back r h = go r (sent-back ed t m e r h)
     where
-      go : (r : ℕ) → SentBack t m e r → (pos r ∷ replicate k (pos 0) ≡ result .0) × (t ≡ result .1) × (true ≡ refused (pos r ∷ replicate k (pos 0)))
-      go _ (unsound s) = tells (call-unsound k step (editionOf t) t s) refl
+      go : (r : ℕ) → SentBack ed t m e r → (pos r ∷ replicate k (pos 0) ≡ w .0) × (t ≡ w .1) × (true ≡ refused (pos r ∷ replicate k (pos 0)))
+      go _ (unsound s) = tells (whole ∙ call-unsound k step ed t s) refl
       go _ (by-numbers s n x) =
-          tells (on-early (editionOf t) (edition-fits t) t s (call s) n (sym is ∙ x)) (ap not (sym (eqb·suc-zero n)))
-      go _ (unknown s x o) = tells (on-missing (editionOf t) (edition-fits t) t s (call s) (sym is ∙ x) o) refl
+          tells (whole ∙ on-early ed fits t s (call s) n (sym is ∙ x)) (ap not (sym (eqb·suc-zero n)))
+      go _ (unknown s x o) = tells (whole ∙ on-missing ed fits t s (call s) (sym is ∙ x) o) refl
 
   -- a call whose function gives x and leaves p of the part
-  pub call-done : {a b : ℕ} → PartFound t m e a b → (x : Numbers) (p : List ℤ) {c : Bool}
+  pub call-done : {a b : ℕ} → PartFound ed t m e a b → (x : Numbers) (p : List ℤ) {c : Bool}
       → (x ≡ onPart k rows effect (lent t a b) .0) × (p ≡ onPart k rows effect (lent t a b) .1) × (c ≡ refused x)
-      → (x ≡ result .0) × (backIn t a b p ≡ result .1) × (c ≡ refused x)
+      → (x ≡ w .0) × (backIn t a b p ≡ w .1) × (c ≡ refused x)
   call-done {a} {b} h x p g =
-      let ed = editionOf t in
-      let w = gives (on-point ed (edition-fits t) t (h .isSound) (call (h .isSound)) (sym is ∙ h .passed) (h .i) (h .index)) in
+      let v = gives (whole ∙ on-point ed fits t (h .isSound) (call (h .isSound)) (sym is ∙ h .passed) (h .i) (h .index)) in
       let f : List ℤ → Numbers × List ℤ = onPart k rows effect in (
-        g .0 ∙ ap (λ l. f l .0) (at-part h) ∙ w .0,
-        part-put ed (edition-fits t) t (h .i) a b (h .from) (h .to) p ∙ ap (withPart ed t (h .i)) (g .1 ∙ ap (λ l. f l .1) (at-part h)) ∙ w .1,
+        g .0 ∙ ap (λ l. f l .0) (at-part fits h) ∙ v .0,
+        part-put ed fits t (h .i) a b (h .from) (h .to) p ∙ ap (withPart ed t (h .i)) (g .1 ∙ ap (λ l. f l .1) (at-part fits h)) ∙ v .1,
         g .2,
       )

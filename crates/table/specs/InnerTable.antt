@@ -12,7 +12,7 @@ use Rattle.daybook.specs.declared.Edition.{Edition}
 use Rattle.daybook.specs.Notices.{Row, least, Numbers, decide, isRange}
 use Rattle.lists.specs.Lists.{Lists}
 use Rattle.layout.specs.Places.{pointsPlace, nondailyPlace, dailyPlace, headerSpare, headerLength}
-use Rattle.layout.specs.Layout.{tableLength, placeOf, editionOf, partOf, numAt, pointsFrom, pointNumbers, pointFrom}
+use Rattle.layout.specs.Layout.{tableLength, placeOf, partOf, numAt, pointsFrom, pointNumbers, pointFrom}
 use Rattle.layout.specs.Sound.{zeros, partSound, mirnsDiffer, sound}
 use Rattle.layout.specs.InnerParts.{roomOf}
 use Rattle.table.specs.Lookup.{indexOf}
@@ -35,8 +35,7 @@ onPart k rows effect p =
 
 -- Where a call finds the part of its MIRN's point: sent back by row 1, by the row of its own numbers unless that is 0, or
 -- by row 4.
-unfoldable pub located : List ℤ → ℤ → ℕ → Located
-located t mirn early =
-    let ed : Edition = editionOf t in
+unfoldable pub located : Edition → List ℤ → ℤ → ℕ → Located
+located ed t mirn early =
     let found : Located = maybe (Refused 4) (λ i. At (placeOf ed i) (placeOf ed (i + 1))) (indexOf ed t (natOf mirn)) in
     cond (sound ed t) (cond (eqb early 0) found (Refused early)) (Refused 1)

@@ -153,10 +153,10 @@ pub fn index_of(t: &[i64], ed: Edition, m: u64) -> usize
 }
 
 // The point of a MIRN, for a call whose own numbers are sent back by row `early`, 0 if by none: row 1, that row, row 4.
-pub fn locate(t: &[i64], mirn: i64, early: u64) -> Located
-    ensures { λ r. ⌜ r ≡ located (now (t .entry)) mirn early ⌝ }
+pub fn locate(t: &[i64], ed: Edition, mirn: i64, early: u64) -> Located
+    requires { ⌜ Fits ed ⌝ }
+    ensures { λ r. ⌜ r ≡ located ed (now (t .entry)) mirn early ⌝ }
 {
-    let ed = edition(t);
     if !sound(t, ed) {
         return Located::Refused(1);
     }
@@ -178,7 +178,8 @@ pub fn locate(t: &[i64], mirn: i64, early: u64) -> Located
 pub fn look_up(t: &[i64], m: i64) -> &[i64]
     ensures { λ r. ⌜ now r ≡ lookUp (now (t .entry)) m ⌝ }
 {
-    let Located::At { from, to } = locate(t, m, 0) else {
+    let ed = edition(t);
+    let Located::At { from, to } = locate(t, ed, m, 0) else {
         return &t[0..0];
     };
     &t[from..to]

@@ -11,16 +11,16 @@ use Rattle.numbers.specs.Naturals.{natOf}
 use Rattle.numbers.specs.Answers.{refused}
 use Rattle.numbers.proofs.Bools.{both}
 use Rattle.calendar.specs.Calendar.{isDay, holidayList, allowablePeriod}
+use Rattle.daybook.specs.declared.Edition.{Edition}
 use Rattle.daybook.specs.declared.TransferRequest.{TransferRequest}
 use Rattle.daybook.specs.Notices.{isMirn, isUser, isFlag, least, Numbers, requestEarly, requestRows, request}
 use Rattle.lists.specs.InnerSteps.{requestLists}
 use Rattle.lists.proofs.Rows.{above, upTo, least-first, least-skip, least-none}
 use Rattle.lists.proofs.Bounds.{within-bounds}
 use Rattle.lists.proofs.TransferStep.{request-step, request-keeps}
-use Rattle.layout.specs.Layout.{editionOf, registerOf}
+use Rattle.layout.specs.Layout.{Fits, editionOf, registerOf}
 use Rattle.layout.specs.Sound.{sound}
 use Rattle.layout.specs.Calls.{onEdition}
-use Rattle.layout.proofs.Editions.{edition-fits}
 use Rattle.layout.proofs.TableSound.{sound-lays}
 use Rattle.table.specs.declared.Located.the-variants.{Refused}
 use Rattle.table.specs.InnerTable.{located}
@@ -69,43 +69,44 @@ module _ (n : TransferRequest) (holidays : List ℤ) where
 
 -- ---- the call
 
-module _ (t : List ℤ) (n : TransferRequest) (holidays : List ℤ) (e : ℕ) (is : e ≡ least (requestEarly n holidays)) where
+module _ (ed : Edition) (fits : Fits ed) (t : List ℤ) (g : ed ≡ editionOf t) (n : TransferRequest) (holidays : List ℤ) (e : ℕ) (is : e ≡ least (requestEarly n holidays)) where
+  whole : requestCall t n holidays ≡ onEdition 2 (request n holidays) ed t
+  unfolding requestCall
+  whole = ap (λ ed. onEdition 2 (request n holidays) ed t) (sym g)
+
   abbrev user : ℕ
   user = natOf (n .user)
 
   abbrev pub periodOf : Option (ℕ × ℕ)
   periodOf = allowablePeriod holidays (natOf (n .proposed)) (natOf (n .nochange))
 
-  call : sound (editionOf t) t ≡ true → CallOn (editionOf t) (registerOf (editionOf t) t) 2 (n .mirn) (requestEarly n holidays) (requestRowsOf user periodOf) (requestEffect user periodOf) (request n holidays)
+  call : sound ed t ≡ true → CallOn ed (registerOf ed t) 2 (n .mirn) (requestEarly n holidays) (requestRowsOf user periodOf) (requestEffect user periodOf) (request n holidays)
   unfolding requestLists requestEarly requestRows above upTo
   call s =
-      let ok = sound-lays (editionOf t) (edition-fits t) t s .0 in
+      let ok = sound-lays ed fits t s .0 in
       record {
         numbered = refl;
         low = refl;
         high = λ q. refl;
-        is = request-step n holidays (registerOf (editionOf t) t) ok;
+        is = request-step n holidays (registerOf ed t) ok;
         keeps = request-keeps n holidays ok;
         room = λ q w e. pending-room _ q w;
       }
 
   -- a row of its numbers or of its holidays sends it back from any table
-  pub request-early : (r : ℕ) → e ≡ suc r
-      → requestCall t n holidays ≡ (pos (cond (sound (editionOf t) t) (suc r) 1) ∷ pos 0 ∷ pos 0 ∷ [], t)
-  unfolding requestCall
-  request-early r z = go (sound (editionOf t) t) refl
+  pub request-early : (r : ℕ) → e ≡ suc r → requestCall t n holidays ≡ (pos (cond (sound ed t) (suc r) 1) ∷ pos 0 ∷ pos 0 ∷ [], t)
+  request-early r z = whole ∙ go (sound ed t) refl
     where
-      go : (s : Bool) → sound (editionOf t) t ≡ s → onEdition 2 (request n holidays) (editionOf t) t ≡ (pos (cond s (suc r) 1) ∷ pos 0 ∷ pos 0 ∷ [], t)
-      go false s = call-unsound 2 (request n holidays) (editionOf t) t s
-      go true s = on-early (editionOf t) (edition-fits t) t s (call s) r (sym is ∙ z)
+      go : (s : Bool) → sound ed t ≡ s → onEdition 2 (request n holidays) ed t ≡ (pos (cond s (suc r) 1) ∷ pos 0 ∷ pos 0 ∷ [], t)
+      go false s = call-unsound 2 (request n holidays) ed t s
+      go true s = on-early ed fits t s (call s) r (sym is ∙ z)
 
-  pub request-back : (r : ℕ) → Refused r ≡ located t (n .mirn) e
+  pub request-back : (r : ℕ) → Refused r ≡ located ed t (n .mirn) e
       → (pos r ∷ pos 0 ∷ pos 0 ∷ [] ≡ requestCall t n holidays .0) × (t ≡ requestCall t n holidays .1) × (true ≡ refused (pos r ∷ pos 0 ∷ pos 0 ∷ []))
-  unfolding requestCall
-  request-back = call-back t call e is
+  request-back = call-back ed fits t call (requestCall t n holidays) whole e is
 
-  pub request-done : {a b : ℕ} → PartFound t (n .mirn) e a b → (x : Numbers) (p : List ℤ) {c : Bool}
+  pub request-done : {a b : ℕ} → PartFound ed t (n .mirn) e a b → (x : Numbers) (p : List ℤ) {c : Bool}
       → (x ≡ requestPart user periodOf (lent t a b) .0) × (p ≡ requestPart user periodOf (lent t a b) .1) × (c ≡ refused x)
       → (x ≡ requestCall t n holidays .0) × (backIn t a b p ≡ requestCall t n holidays .1) × (c ≡ refused x)
-  unfolding requestCall requestPart
-  request-done = call-done t call e is
+  unfolding requestPart
+  request-done = call-done ed fits t call (requestCall t n holidays) whole e is

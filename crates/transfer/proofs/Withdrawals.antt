@@ -9,15 +9,16 @@ use lib.IntN.{ℤ, pos}
 use Rattle.numbers.specs.Naturals.{natOf}
 use Rattle.numbers.specs.Answers.{refused}
 use Rattle.numbers.proofs.Bools.{both}
+use Rattle.daybook.specs.declared.Edition.{Edition}
 use Rattle.daybook.specs.declared.Withdrawal.{Withdrawal}
 use Rattle.daybook.specs.Notices.{isMirn, isUser, least, Numbers, withdrawEarly, withdrawRows, withdraw}
 use Rattle.lists.specs.InnerSteps.{withdrawLists}
 use Rattle.lists.proofs.Rows.{above, upTo, least-first, least-skip, least-none}
 use Rattle.lists.proofs.Bounds.{within-bounds}
 use Rattle.lists.proofs.TransferStep.{withdraw-step, withdraw-keeps}
-use Rattle.layout.specs.Layout.{editionOf, registerOf}
+use Rattle.layout.specs.Layout.{Fits, editionOf, registerOf}
 use Rattle.layout.specs.Sound.{sound}
-use Rattle.layout.proofs.Editions.{edition-fits}
+use Rattle.layout.specs.Calls.{onEdition}
 use Rattle.layout.proofs.TableSound.{sound-lays}
 use Rattle.table.specs.declared.Located.the-variants.{Refused}
 use Rattle.table.specs.InnerTable.{located}
@@ -50,27 +51,30 @@ module _ (n : Withdrawal) where
 
 -- ---- the call
 
-module _ (t : List ℤ) (n : Withdrawal) (e : ℕ) (is : e ≡ least (withdrawEarly n)) where
-  call : sound (editionOf t) t ≡ true → CallOn (editionOf t) (registerOf (editionOf t) t) 0 (n .mirn) (withdrawEarly n) (withdrawRowsOf (natOf (n .user))) withdrawEffect (withdraw n)
+module _ (ed : Edition) (fits : Fits ed) (t : List ℤ) (g : ed ≡ editionOf t) (n : Withdrawal) (e : ℕ) (is : e ≡ least (withdrawEarly n)) where
+  whole : withdrawCall t n ≡ onEdition 0 (withdraw n) ed t
+  unfolding withdrawCall
+  whole = ap (λ ed. onEdition 0 (withdraw n) ed t) (sym g)
+
+  call : sound ed t ≡ true → CallOn ed (registerOf ed t) 0 (n .mirn) (withdrawEarly n) (withdrawRowsOf (natOf (n .user))) withdrawEffect (withdraw n)
   unfolding withdrawLists withdrawEarly withdrawRows above upTo
   call s =
-      let ok = sound-lays (editionOf t) (edition-fits t) t s .0 in
+      let ok = sound-lays ed fits t s .0 in
       record {
         numbered = refl;
         low = refl;
         high = λ q. refl;
-        is = withdraw-step n (registerOf (editionOf t) t) ok;
+        is = withdraw-step n (registerOf ed t) ok;
         keeps = withdraw-keeps n ok;
         room = λ q w e. pending-room none q w;
       }
 
-  pub withdraw-back : (r : ℕ) → Refused r ≡ located t (n .mirn) e
+  pub withdraw-back : (r : ℕ) → Refused r ≡ located ed t (n .mirn) e
       → (pos r ∷ [] ≡ withdrawCall t n .0) × (t ≡ withdrawCall t n .1) × (true ≡ refused (pos r ∷ []))
-  unfolding withdrawCall
-  withdraw-back = call-back t call e is
+  withdraw-back = call-back ed fits t call (withdrawCall t n) whole e is
 
-  pub withdraw-done : {a b : ℕ} → PartFound t (n .mirn) e a b → (x : Numbers) (p : List ℤ) {c : Bool}
+  pub withdraw-done : {a b : ℕ} → PartFound ed t (n .mirn) e a b → (x : Numbers) (p : List ℤ) {c : Bool}
       → (x ≡ withdrawPart (natOf (n .user)) (lent t a b) .0) × (p ≡ withdrawPart (natOf (n .user)) (lent t a b) .1) × (c ≡ refused x)
       → (x ≡ withdrawCall t n .0) × (backIn t a b p ≡ withdrawCall t n .1) × (c ≡ refused x)
-  unfolding withdrawCall withdrawPart
-  withdraw-done = call-done t call e is
+  unfolding withdrawPart
+  withdraw-done = call-done ed fits t call (withdrawCall t n) whole e is

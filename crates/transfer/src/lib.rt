@@ -43,9 +43,10 @@ fn withdraw_at(p: &mut [i64], user: u64) -> NoticeAnswer
 pub fn withdraw(t: &mut [i64], n: Withdrawal) -> NoticeAnswer
     ensures { λ r. ⌜ (noticeNumbers r ≡ withdrawCall (now (t .entry)) n .0) × (now (t .exit) ≡ withdrawCall (now (t .entry)) n .1) × (noticeRefused r ≡ refused (noticeNumbers r)) ⌝ }
 {
+    let ed = table::edition(t);
     let mirn = n.mirn;
     let user = n.user;
-    match table::locate(t, mirn, withdrawal_row(n)) {
+    match table::locate(t, ed, mirn, withdrawal_row(n)) {
         Located::Refused(row) => NoticeAnswer::Refused(row),
         Located::At { from, to } => {
             let u = numbers::natural(user);
@@ -104,11 +105,12 @@ fn request_at(
 pub fn request(t: &mut [i64], n: TransferRequest, holidays: &[i64]) -> RequestAnswer
     ensures { λ r. ⌜ (requestNumbers r ≡ requestCall (now (t .entry)) n (now (holidays .entry)) .0) × (now (t .exit) ≡ requestCall (now (t .entry)) n (now (holidays .entry)) .1) × (requestRefused r ≡ refused (requestNumbers r)) ⌝ }
 {
+    let ed = table::edition(t);
     let mirn = n.mirn;
     let user = n.user;
     let proposed = n.proposed;
     let nochange = n.nochange;
-    match table::locate(t, mirn, request_row(n, holidays)) {
+    match table::locate(t, ed, mirn, request_row(n, holidays)) {
         Located::Refused(row) => RequestAnswer::Refused(row),
         Located::At { from, to } => {
             let u = numbers::natural(user);

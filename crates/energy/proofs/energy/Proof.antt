@@ -1,7 +1,10 @@
 use mathlib.Core.Path.{_≡_, sym, subst, ap, _∙_}
 use native.Mathlib.Omega.{arith}
+use Prim.Native.Nat.{_≤_}
+use lib.ListN.{length}
 use mir.Facts.{toZ-ofZ}
 use borrow.Author.Needs.{sfits-of, needs}
+use Rattle.layout.specs.Layout.{tableLength}
 use Rattle.table.specs.InnerTable.{located}
 use Rattle.table.proofs.Locating.{PartFound, part-found, in-table}
 use Rattle.table.proofs.OnPart.{lent-sound}
@@ -13,18 +16,26 @@ use Rattle.energy.proofs.energy.Tie as tie
 
 -- ---- what the call was told
 
-abbrev entry : tie.After-locate → tie.Start
-entry c = c .before .before .before .before
+abbrev edition : tie.After-locate → tie.After-edition
+edition c = c .before .before .before .before
 
-told : (c : tie.After-locate) → c .locate .result ≡ located (entry c .args .t .now) (entry c .args .n .mirn) (c .before .own-row .result)
+abbrev entry : tie.After-locate → tie.Start
+entry c = edition c .before .before
+
+told : (c : tie.After-locate) → c .locate .result ≡ located (edition c .edition .result) (entry c .args .t .now) (entry c .args .n .mirn) (c .before .own-row .result)
 told c =
     c .locate .ensures
-    ∙ ap (λ m. located (entry c .args .t .now) m (c .before .own-row .result)) (toZ-ofZ (sfits-of (c .before .before .before .struct-told .given .0 .1)))
+    ∙ ap (λ m. located (edition c .edition .result) (entry c .args .t .now) m (c .before .own-row .result)) (toZ-ofZ (sfits-of (c .before .before .before .struct-told .given .0 .1)))
 
 found : (c : tie.After-from)
     → let l = c .before .before in
-    PartFound (entry l .args .t .now) (entry l .args .n .mirn) (l .before .own-row .result) (c .from .given .0 .0) (c .from .given .0 .1 .0)
-found c = part-found _ _ _ _ _ (sym (c .from .given .1) ∙ told (c .before .before))
+    PartFound (edition l .edition .result) (entry l .args .t .now) (entry l .args .n .mirn) (l .before .own-row .result) (c .from .given .0 .0) (c .from .given .0 .1 .0)
+found c = part-found _ _ _ _ _ _ (sym (c .from .given .1) ∙ told (c .before .before))
+
+within : (c : tie.After-from)
+    → (c .from .given .0 .0 ≤ c .from .given .0 .1 .0) × (c .from .given .0 .1 .0 ≤ tableLength)
+    × (tableLength ≤ length (entry (c .before .before) .args .t .now))
+within c = in-table (edition (c .before .before) .edition .ensures .1) (found c)
 
 -- ---- and has read
 
@@ -44,25 +55,25 @@ numbers c = c .before .before .before .before
 returns : tie.Need-returns
 returns c =
     let l = c .before .before .before in
-    energy-back (entry l .args .t .now) (entry l .args .n) _ (l .before .own-row .ensures) _ (sym (c .before .row .given .1) ∙ told l)
+    energy-back _ (edition l .edition .ensures .1) (entry l .args .t .now) (edition l .edition .ensures .0) (entry l .args .n) _ (l .before .own-row .ensures) _ (sym (c .before .row .given .1) ∙ told l)
 
 nondaily-requires : tie.Need-nondaily-requires
-nondaily-requires c κs = omega (arith, in-table (found (point (c .before))) .2)
+nondaily-requires c κs = omega (arith, within (point (c .before)) .2)
 
 daily-requires : tie.Need-daily-requires
-daily-requires c κs = omega (arith, in-table (found (point (c .before .before .before))) .2)
+daily-requires c κs = omega (arith, within (point (c .before .before .before)) .2)
 
 mul-enter : tie.Need-mul-enter
-mul-enter c = let h = in-table (found (point (numbers c))) in search needs
+mul-enter c = let h = within (point (numbers c)) in search needs
 
 sub-enter : tie.Need-sub-enter
-sub-enter c = let h = in-table (found (point (numbers c))) in search needs
+sub-enter c = let h = within (point (numbers c)) in search needs
 
 part-enter-start : tie.Need-part-enter-start
-part-enter-start c = let h = in-table (found (point (numbers c))) in search needs
+part-enter-start c = let h = within (point (numbers c)) in search needs
 
 part-enter-end : tie.Need-part-enter-end
-part-enter-end c = let h = in-table (found (point (numbers c))) in search needs
+part-enter-end c = let h = within (point (numbers c)) in search needs
 
 enter-requires : tie.Need-enter-requires
 enter-requires c κs =
@@ -70,8 +81,8 @@ enter-requires c κs =
     let x = numbers d in
     let l = point x .before .before in
     let h = found (point x) in
-    let small = ranges-small (entry l .args .t .now) (entry l .args .n) _ (l .before .own-row .ensures) h _ _ (d .before .before .nondaily .ensures) (d .daily .ensures) in
-    (lent-sound h, inside x, small .0, small .1)
+    let small = ranges-small _ (edition l .edition .ensures .1) (entry l .args .t .now) (edition l .edition .ensures .0) (entry l .args .n) _ (l .before .own-row .ensures) h _ _ (d .before .before .nondaily .ensures) (d .daily .ensures) in
+    (lent-sound (edition l .edition .ensures .1) h, inside x, small .0, small .1)
 
 returns-2 : tie.Need-returns-2
 returns-2 c =
@@ -79,14 +90,14 @@ returns-2 c =
     let d = w .before .before in
     let x = numbers d in
     let l = point x .before .before in
-    energy-done (entry l .args .t .now) (entry l .args .n) _ (l .before .own-row .ensures) (found (point x)) _ _ (d .before .before .nondaily .ensures) (d .daily .ensures) _ (x .read .ensures) _ _
+    energy-done _ (edition l .edition .ensures .1) (entry l .args .t .now) (edition l .edition .ensures .0) (entry l .args .n) _ (l .before .own-row .ensures) (found (point x)) _ _ (d .before .before .nondaily .ensures) (d .daily .ensures) _ (x .read .ensures) _ _
     (w .enter .ensures)
 
 pub energy-spec : {M : Type 1} → statement M
 energy-spec =
     tie.close
     (tie.spec
-    (λ c κs. search needs) (λ c κs. search needs) (λ c. search needs) (λ c. search needs) (λ c κs. search needs)
+    (λ c κs. search needs) (λ c κs. search needs) (λ c κs. search needs) (λ c. search needs) (λ c. search needs) (λ c κs. search needs)
     nondaily-requires
     daily-requires
     mul-enter

@@ -1,9 +1,12 @@
 use mathlib.Core.Path.{_≡_, sym, ap, _∙_}
 use native.Mathlib.Omega.{arith}
+use Prim.Native.Nat.{_≤_}
+use lib.ListN.{length}
 use mir.Facts.{toZ-ofZ}
 use borrow.Author.Needs.{sfits-of, needs}
 use Rattle.numbers.specs.Naturals.{natOf}
 use Rattle.numbers.proofs.Naturals.{natural-read}
+use Rattle.layout.specs.Layout.{tableLength}
 use Rattle.table.specs.InnerTable.{located}
 use Rattle.table.proofs.Locating.{PartFound, part-found, in-table}
 use Rattle.table.proofs.OnPart.{lent-sound}
@@ -16,18 +19,26 @@ use Rattle.status.proofs.status.Tie as tie
 abbrev fields : tie.After-locate → tie.After-struct-told3
 fields c = c .before .before .before
 
-abbrev entry : tie.After-locate → tie.Start
-entry c = fields c .before .before .before
+abbrev edition : tie.After-locate → tie.After-edition
+edition c = fields c .before .before .before
 
-told : (c : tie.After-locate) → c .locate .result ≡ located (entry c .args .t .now) (entry c .args .n .mirn) (c .before .own-row .result)
+abbrev entry : tie.After-locate → tie.Start
+entry c = edition c .before .before
+
+told : (c : tie.After-locate) → c .locate .result ≡ located (edition c .edition .result) (entry c .args .t .now) (entry c .args .n .mirn) (c .before .own-row .result)
 told c =
     c .locate .ensures
-    ∙ ap (λ m. located (entry c .args .t .now) m (c .before .own-row .result)) (toZ-ofZ (sfits-of (fields c .struct-told3 .given .0 .1)))
+    ∙ ap (λ m. located (edition c .edition .result) (entry c .args .t .now) m (c .before .own-row .result)) (toZ-ofZ (sfits-of (fields c .struct-told3 .given .0 .1)))
 
 found : (c : tie.After-from)
     → let l = c .before .before in
-    PartFound (entry l .args .t .now) (entry l .args .n .mirn) (l .before .own-row .result) (c .from .given .0 .0) (c .from .given .0 .1 .0)
-found c = part-found _ _ _ _ _ (sym (c .from .given .1) ∙ told (c .before .before))
+    PartFound (edition l .edition .result) (entry l .args .t .now) (entry l .args .n .mirn) (l .before .own-row .result) (c .from .given .0 .0) (c .from .given .0 .1 .0)
+found c = part-found _ _ _ _ _ _ (sym (c .from .given .1) ∙ told (c .before .before))
+
+within : (c : tie.After-from)
+    → (c .from .given .0 .0 ≤ c .from .given .0 .1 .0) × (c .from .given .0 .1 .0 ≤ tableLength)
+    × (tableLength ≤ length (entry (c .before .before) .args .t .now))
+within c = in-table (edition (c .before .before) .edition .ensures .1) (found c)
 
 day-is : (c : tie.After-natural) → c .natural .result ≡ natOf (entry (c .before .before .before .before) .args .n .day)
 day-is c =
@@ -44,19 +55,19 @@ on-is c =
 returns : tie.Need-returns
 returns c =
     let l = c .before .before .before in
-    status-back (entry l .args .t .now) (entry l .args .n) _ (l .before .own-row .ensures) _ (sym (c .before .row .given .1) ∙ told l)
+    status-back _ (edition l .edition .ensures .1) (entry l .args .t .now) (edition l .edition .ensures .0) (entry l .args .n) _ (l .before .own-row .ensures) _ (sym (c .before .row .given .1) ∙ told l)
 
 mul-enter : tie.Need-mul-enter
-mul-enter c = let h = in-table (found (c .before .before .before)) in search needs
+mul-enter c = let h = within (c .before .before .before) in search needs
 
 sub-enter : tie.Need-sub-enter
-sub-enter c = let h = in-table (found (c .before .before .before)) in search needs
+sub-enter c = let h = within (c .before .before .before) in search needs
 
 part-enter-start : tie.Need-part-enter-start
-part-enter-start c = let h = in-table (found (c .before .before .before)) in search needs
+part-enter-start c = let h = within (c .before .before .before) in search needs
 
 part-enter-end : tie.Need-part-enter-end
-part-enter-end c = let h = in-table (found (c .before .before .before)) in search needs
+part-enter-end c = let h = within (c .before .before .before) in search needs
 
 enter-requires : tie.Need-enter-requires
 enter-requires c κs =
@@ -65,7 +76,7 @@ enter-requires c κs =
     let l = f .before .before in
     let h = found f in
     let b = status-bounds (entry l .args .n) (sym (l .before .own-row .ensures) ∙ h .passed) in
-    (lent-sound h, omega (arith, day-is (on .before), b .0), omega (arith, on-is on, b .1))
+    (lent-sound (edition l .edition .ensures .1) h, omega (arith, day-is (on .before), b .0), omega (arith, on-is on, b .1))
 
 returns-2 : tie.Need-returns-2
 returns-2 c =
@@ -73,14 +84,14 @@ returns-2 c =
     let on = w .before .before in
     let f = on .before .before .before in
     let l = f .before .before in
-    status-done (entry l .args .t .now) (entry l .args .n) _ (l .before .own-row .ensures) (found f) _ _
+    status-done _ (edition l .edition .ensures .1) (entry l .args .t .now) (edition l .edition .ensures .0) (entry l .args .n) _ (l .before .own-row .ensures) (found f) _ _
     (rw (day-is (on .before), on-is on) at (w .enter .ensures))
 
 pub status-spec : {M : Type 1} → statement M
 status-spec =
     tie.close
     (tie.spec
-    (λ c κs. search needs) (λ c κs. search needs) (λ c. search needs) (λ c. search needs) (λ c κs. search needs)
+    (λ c κs. search needs) (λ c κs. search needs) (λ c κs. search needs) (λ c. search needs) (λ c. search needs) (λ c κs. search needs)
     (λ c κs. search needs)
     mul-enter
     sub-enter

@@ -1,9 +1,12 @@
 use mathlib.Core.Path.{_≡_, sym, ap, _∙_}
 use native.Mathlib.Omega.{arith}
+use Prim.Native.Nat.{_≤_}
+use lib.ListN.{length}
 use mir.Facts.{toZ-ofZ}
 use borrow.Author.Needs.{sfits-of, needs}
 use Rattle.numbers.specs.Naturals.{natOf}
 use Rattle.numbers.proofs.Naturals.{natural-read}
+use Rattle.layout.specs.Layout.{tableLength}
 use Rattle.table.specs.InnerTable.{located}
 use Rattle.table.proofs.Locating.{PartFound, part-found, in-table}
 use Rattle.table.proofs.OnPart.{lent-sound}
@@ -16,18 +19,26 @@ use Rattle.transfer.proofs.request.Tie as tie
 abbrev fields : tie.After-locate → tie.After-struct-told4
 fields c = c .before .before .before
 
-abbrev entry : tie.After-locate → tie.Start
-entry c = fields c .before .before .before .before
+abbrev edition : tie.After-locate → tie.After-edition
+edition c = fields c .before .before .before .before
 
-told : (c : tie.After-locate) → c .locate .result ≡ located (entry c .args .t .now) (entry c .args .n .mirn) (c .before .request-row .result)
+abbrev entry : tie.After-locate → tie.Start
+entry c = edition c .before .before
+
+told : (c : tie.After-locate) → c .locate .result ≡ located (edition c .edition .result) (entry c .args .t .now) (entry c .args .n .mirn) (c .before .request-row .result)
 told c =
     c .locate .ensures
-    ∙ ap (λ m. located (entry c .args .t .now) m (c .before .request-row .result)) (toZ-ofZ (sfits-of (fields c .struct-told4 .given .0 .1)))
+    ∙ ap (λ m. located (edition c .edition .result) (entry c .args .t .now) m (c .before .request-row .result)) (toZ-ofZ (sfits-of (fields c .struct-told4 .given .0 .1)))
 
 found : (c : tie.After-from)
     → let l = c .before .before in
-    PartFound (entry l .args .t .now) (entry l .args .n .mirn) (l .before .request-row .result) (c .from .given .0 .0) (c .from .given .0 .1 .0)
-found c = part-found _ _ _ _ _ (sym (c .from .given .1) ∙ told (c .before .before))
+    PartFound (edition l .edition .result) (entry l .args .t .now) (entry l .args .n .mirn) (l .before .request-row .result) (c .from .given .0 .0) (c .from .given .0 .1 .0)
+found c = part-found _ _ _ _ _ _ (sym (c .from .given .1) ∙ told (c .before .before))
+
+within : (c : tie.After-from)
+    → (c .from .given .0 .0 ≤ c .from .given .0 .1 .0) × (c .from .given .0 .1 .0 ≤ tableLength)
+    × (tableLength ≤ length (entry (c .before .before) .args .t .now))
+within c = in-table (edition (c .before .before) .edition .ensures .1) (found c)
 
 -- the numbers of the request, once its point is known
 abbrev asked : tie.After-known-told2 → tie.After-locate
@@ -54,19 +65,19 @@ returns : tie.Need-returns
 returns c =
     let l = c .before .before .before in
     let s = entry l in
-    request-back (s .args .t .now) (s .args .n) (s .args .holidays .now) _ (l .before .request-row .ensures) _ (sym (c .before .row .given .1) ∙ told l)
+    request-back _ (edition l .edition .ensures .1) (s .args .t .now) (edition l .edition .ensures .0) (s .args .n) (s .args .holidays .now) _ (l .before .request-row .ensures) _ (sym (c .before .row .given .1) ∙ told l)
 
 mul-request-at : tie.Need-mul-request-at
-mul-request-at c = let h = in-table (found (c .before .before .before .before)) in search needs
+mul-request-at c = let h = within (c .before .before .before .before) in search needs
 
 sub-request-at : tie.Need-sub-request-at
-sub-request-at c = let h = in-table (found (c .before .before .before .before)) in search needs
+sub-request-at c = let h = within (c .before .before .before .before) in search needs
 
 part-request-at-start : tie.Need-part-request-at-start
-part-request-at-start c = let h = in-table (found (c .before .before .before .before)) in search needs
+part-request-at-start c = let h = within (c .before .before .before .before) in search needs
 
 part-request-at-end : tie.Need-part-request-at-end
-part-request-at-end c = let h = in-table (found (c .before .before .before .before)) in search needs
+part-request-at-end c = let h = within (c .before .before .before .before) in search needs
 
 request-at-requires : tie.Need-request-at-requires
 request-at-requires c κs =
@@ -76,7 +87,7 @@ request-at-requires c κs =
     let l = f .before .before in
     let h = found f in
     let r = request-bounds (entry l .args .n) (entry l .args .holidays .now) (sym (l .before .request-row .ensures) ∙ h .passed) in
-    (lent-sound h, omega (arith, user-is (day .before)), omega (arith, proposed-is day))
+    (lent-sound (edition l .edition .ensures .1) h, omega (arith, user-is (day .before)), omega (arith, proposed-is day))
 
 returns-2 : tie.Need-returns-2
 returns-2 c =
@@ -86,14 +97,14 @@ returns-2 c =
     let f = day .before .before .before in
     let l = f .before .before in
     let s = entry l in
-    request-done (s .args .t .now) (s .args .n) (s .args .holidays .now) _ (l .before .request-row .ensures) (found f) _ _
+    request-done _ (edition l .edition .ensures .1) (s .args .t .now) (edition l .edition .ensures .0) (s .args .n) (s .args .holidays .now) _ (l .before .request-row .ensures) (found f) _ _
     (rw (user-is (day .before), proposed-is day, nochange-is flag) at (w .request-at .ensures))
 
 pub request-spec : {M : Type 1} → statement M
 request-spec =
     tie.close
     (tie.spec
-    (λ c κs. search needs) (λ c κs. search needs) (λ c. search needs) (λ c. search needs) (λ c κs. search needs)
+    (λ c κs. search needs) (λ c κs. search needs) (λ c κs. search needs) (λ c. search needs) (λ c. search needs) (λ c κs. search needs)
     (λ c κs. search needs) (λ c κs. search needs)
     mul-request-at
     sub-request-at

@@ -1,9 +1,12 @@
 use mathlib.Core.Path.{_≡_, sym, ap, _∙_}
 use native.Mathlib.Omega.{arith}
+use Prim.Native.Nat.{_≤_}
+use lib.ListN.{length}
 use mir.Facts.{toZ-ofZ}
 use borrow.Author.Needs.{sfits-of, needs}
 use Rattle.numbers.specs.Naturals.{natOf}
 use Rattle.numbers.proofs.Naturals.{natural-read}
+use Rattle.layout.specs.Layout.{tableLength}
 use Rattle.table.specs.InnerTable.{located}
 use Rattle.table.proofs.Locating.{PartFound, part-found, in-table}
 use Rattle.table.proofs.OnPart.{lent-sound}
@@ -13,18 +16,26 @@ use Rattle.transfer.proofs.withdraw.Tie as tie
 
 -- ---- what the call was told
 
-abbrev entry : tie.After-locate → tie.Start
-entry c = c .before .before .before .before .before
+abbrev edition : tie.After-locate → tie.After-edition
+edition c = c .before .before .before .before .before
 
-told : (c : tie.After-locate) → c .locate .result ≡ located (entry c .args .t .now) (entry c .args .n .mirn) (c .before .withdrawal-row .result)
+abbrev entry : tie.After-locate → tie.Start
+entry c = edition c .before .before
+
+told : (c : tie.After-locate) → c .locate .result ≡ located (edition c .edition .result) (entry c .args .t .now) (entry c .args .n .mirn) (c .before .withdrawal-row .result)
 told c =
     c .locate .ensures
-    ∙ ap (λ m. located (entry c .args .t .now) m (c .before .withdrawal-row .result)) (toZ-ofZ (sfits-of (c .before .before .before .struct-told2 .given .0 .1)))
+    ∙ ap (λ m. located (edition c .edition .result) (entry c .args .t .now) m (c .before .withdrawal-row .result)) (toZ-ofZ (sfits-of (c .before .before .before .struct-told2 .given .0 .1)))
 
 found : (c : tie.After-from)
     → let l = c .before .before in
-    PartFound (entry l .args .t .now) (entry l .args .n .mirn) (l .before .withdrawal-row .result) (c .from .given .0 .0) (c .from .given .0 .1 .0)
-found c = part-found _ _ _ _ _ (sym (c .from .given .1) ∙ told (c .before .before))
+    PartFound (edition l .edition .result) (entry l .args .t .now) (entry l .args .n .mirn) (l .before .withdrawal-row .result) (c .from .given .0 .0) (c .from .given .0 .1 .0)
+found c = part-found _ _ _ _ _ _ (sym (c .from .given .1) ∙ told (c .before .before))
+
+within : (c : tie.After-from)
+    → (c .from .given .0 .0 ≤ c .from .given .0 .1 .0) × (c .from .given .0 .1 .0 ≤ tableLength)
+    × (tableLength ≤ length (entry (c .before .before) .args .t .now))
+within c = in-table (edition (c .before .before) .edition .ensures .1) (found c)
 
 user-is : (c : tie.After-natural) → c .natural .result ≡ natOf (entry (c .before .before .before .before) .args .n .user)
 user-is c =
@@ -36,19 +47,19 @@ user-is c =
 returns : tie.Need-returns
 returns c =
     let l = c .before .before .before in
-    withdraw-back (entry l .args .t .now) (entry l .args .n) _ (l .before .withdrawal-row .ensures) _ (sym (c .before .row .given .1) ∙ told l)
+    withdraw-back _ (edition l .edition .ensures .1) (entry l .args .t .now) (edition l .edition .ensures .0) (entry l .args .n) _ (l .before .withdrawal-row .ensures) _ (sym (c .before .row .given .1) ∙ told l)
 
 mul-withdraw-at : tie.Need-mul-withdraw-at
-mul-withdraw-at c = let h = in-table (found (c .before .before)) in search needs
+mul-withdraw-at c = let h = within (c .before .before) in search needs
 
 sub-withdraw-at : tie.Need-sub-withdraw-at
-sub-withdraw-at c = let h = in-table (found (c .before .before)) in search needs
+sub-withdraw-at c = let h = within (c .before .before) in search needs
 
 part-withdraw-at-start : tie.Need-part-withdraw-at-start
-part-withdraw-at-start c = let h = in-table (found (c .before .before)) in search needs
+part-withdraw-at-start c = let h = within (c .before .before) in search needs
 
 part-withdraw-at-end : tie.Need-part-withdraw-at-end
-part-withdraw-at-end c = let h = in-table (found (c .before .before)) in search needs
+part-withdraw-at-end c = let h = within (c .before .before) in search needs
 
 withdraw-at-requires : tie.Need-withdraw-at-requires
 withdraw-at-requires c κs =
@@ -56,7 +67,7 @@ withdraw-at-requires c κs =
     let f = u .before .before in
     let l = f .before .before in
     let h = found f in
-    (lent-sound h, omega (arith, user-is u, withdrawal-user (entry l .args .n) (sym (l .before .withdrawal-row .ensures) ∙ h .passed)))
+    (lent-sound (edition l .edition .ensures .1) h, omega (arith, user-is u, withdrawal-user (entry l .args .n) (sym (l .before .withdrawal-row .ensures) ∙ h .passed)))
 
 returns-2 : tie.Need-returns-2
 returns-2 c =
@@ -64,14 +75,14 @@ returns-2 c =
     let u = w .before .before in
     let f = u .before .before in
     let l = f .before .before in
-    withdraw-done (entry l .args .t .now) (entry l .args .n) _ (l .before .withdrawal-row .ensures) (found f) _ _
+    withdraw-done _ (edition l .edition .ensures .1) (entry l .args .t .now) (edition l .edition .ensures .0) (entry l .args .n) _ (l .before .withdrawal-row .ensures) (found f) _ _
     (rw (user-is u) at (w .withdraw-at .ensures))
 
 pub withdraw-spec : {M : Type 1} → statement M
 withdraw-spec =
     tie.close
     (tie.spec
-    (λ c κs. search needs) (λ c κs. search needs) (λ c. search needs) (λ c. search needs) (λ c κs. search needs)
+    (λ c κs. search needs) (λ c κs. search needs) (λ c κs. search needs) (λ c. search needs) (λ c. search needs) (λ c κs. search needs)
     mul-withdraw-at
     sub-withdraw-at
     part-withdraw-at-start
