@@ -26,10 +26,9 @@ use Rattle.layout.specs.Calls.{onEdition}
 use Rattle.layout.specs.InnerParts.{roomOf}
 use Rattle.layout.proofs.Numbers.{few}
 use Rattle.layout.proofs.TableSound.{sound-lays}
-use Rattle.table.specs.declared.Located.the-variants.{Refused}
-use Rattle.table.specs.InnerTable.{onPart, located}
+use Rattle.table.specs.InnerTable.{onPart}
 use Rattle.table.proofs.Laws.{lent, backIn, range-small}
-use Rattle.table.proofs.Locating.{PartFound, at-part}
+use Rattle.table.proofs.Locating.{PartFound, SentBack, at-part}
 use Rattle.table.proofs.OnPart.{CallOn, room-found, call-back, call-done}
 use Rattle.entering.specs.declared.RaisedNotice.{RaisedNotice}
 use Rattle.energy.specs.Energy.{energyCall}
@@ -83,7 +82,7 @@ module _ (ed : Edition) (fits : Fits ed) (t : List ℤ) (g : ed ≡ editionOf t)
         room = λ q w e. few (enter-keeps w (entryOf n) (energy-clear ed n R q e));
       }
 
-  pub energy-back : (r : ℕ) → Refused r ≡ located ed t (n .mirn) e
+  pub energy-back : (r : ℕ) → SentBack ed t (n .mirn) e r
       → (pos r ∷ replicate 4 (pos 0) ≡ energyCall t n .0) × (t ≡ energyCall t n .1) × (true ≡ refused (pos r ∷ replicate 4 (pos 0)))
   energy-back = call-back ed fits t call (energyCall t n) whole e is
 

@@ -26,10 +26,8 @@ use Rattle.layout.specs.InnerParts.{roomOf}
 use Rattle.layout.proofs.Numbers.{few}
 use Rattle.layout.proofs.PartBlocks.{few-offs}
 use Rattle.layout.proofs.TableSound.{sound-lays}
-use Rattle.table.specs.declared.Located.the-variants.{Refused}
-use Rattle.table.specs.InnerTable.{located}
 use Rattle.table.proofs.Laws.{lent, backIn}
-use Rattle.table.proofs.Locating.{PartFound}
+use Rattle.table.proofs.Locating.{PartFound, SentBack}
 use Rattle.table.proofs.Calls.{tells}
 use Rattle.table.proofs.OnPart.{part-entered, part-refused, CallOn, call-back, call-done}
 use Rattle.status.specs.InnerParts.{statusRowsOf, switchedLists, statusPart}
@@ -100,7 +98,7 @@ module _ (ed : Edition) (fits : Fits ed) (t : List ℤ) (g : ed ≡ editionOf t)
         room = λ q w e. few-offs (few w) _ (offs-after-few day on 8 (q .offs) (w .offsFew) (status-clear n (q .facts .install) (lastEnd (q .recs)) (q .offs) e .room));
       }
 
-  pub status-back : (r : ℕ) → Refused r ≡ located ed t (n .mirn) e
+  pub status-back : (r : ℕ) → SentBack ed t (n .mirn) e r
       → (pos r ∷ [] ≡ statusCall t n .0) × (t ≡ statusCall t n .1) × (true ≡ refused (pos r ∷ []))
   status-back = call-back ed fits t call (statusCall t n) whole e is
 

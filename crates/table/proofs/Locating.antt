@@ -1,6 +1,6 @@
 -- Where a call finds its point, test by test; and what it says to have been sent back, or to have found the part.
 -- Assumes nothing.
-use mathlib.Core.Path.{_≡_, refl, subst}
+use mathlib.Core.Path.{_≡_, refl, sym, ap, subst, _∙_}
 use mathlib.Core.Bool.{Bool, true, false, cond}
 use mathlib.Core.Option.{Option, none, some}
 use mathlib.Core.List.{List, []}
@@ -10,6 +10,9 @@ use borrow.Author.Tests.{ne-eqb}
 use lib.Dec.{eqb, eqb·suc-zero}
 use lib.IntN.{ℤ}
 use lib.ListN.{length}
+use mir.Facts.{toZ-ofZ}
+use mir.Syntax.{w64}
+use mir.Val.{toZ, ofZ, SFits}
 use Rattle.numbers.specs.Naturals.{natOf}
 use Rattle.numbers.specs.Search.{maybe}
 use Rattle.daybook.specs.declared.Edition.{Edition}
@@ -63,7 +66,7 @@ module _ (ed : Edition) (t : List ℤ) (m : ℤ) (early : ℕ) where
   abbrev answer : Bool → ℕ → Option ℕ → Located
   answer s e o = cond s (cond (eqb e 0) (maybe (Refused 4) (λ i. At (placeOf ed i) (placeOf ed (i + 1))) o) (Refused e)) (Refused 1)
 
-  pub part-found : (a b : ℕ) → At a b ≡ located ed t m early → PartFound ed t m early a b
+  part-found : (a b : ℕ) → At a b ≡ located ed t m early → PartFound ed t m early a b
   unfolding located
   part-found a b h = go (sound ed t) refl early refl (indexOf ed t (natOf m)) refl h
     where
@@ -73,7 +76,7 @@ module _ (ed : Edition) (t : List ℤ) (m : ℤ) (early : ℕ) where
       go true s zero z none x h = let k : _≡_ {A = ℕ} 0 1 = cc in absurd (omega arith)
       go true s zero z (some i) x h = record { isSound = s; passed = z; i = i; index = x; from = cc; to = cc }
 
-  pub sent-back : (r : ℕ) → Refused r ≡ located ed t m early → SentBack ed t m early r
+  sent-back : (r : ℕ) → Refused r ≡ located ed t m early → SentBack ed t m early r
   unfolding located
   sent-back r h = go (sound ed t) refl early refl (indexOf ed t (natOf m)) refl h
     where
@@ -82,6 +85,18 @@ module _ (ed : Edition) (t : List ℤ) (m : ℤ) (early : ℕ) where
       go true s (suc e) z o x h = let k : suc e ≡ r = let q = eqb·suc-zero e in cc in subst (SentBack ed t m early) k (by-numbers s e z)
       go true s zero z none x h = let k : 4 ≡ r = cc in subst (SentBack ed t m early) k (unknown s z x)
       go true s zero z (some i) x h = let k : _≡_ {A = ℕ} 0 1 = cc in absurd (omega arith)
+
+-- ---- what a caller is told: its MIRN is read as the machine holds it
+
+copied : (ed : Edition) (t : List ℤ) (m : ℤ) (early : ℕ) → SFits w64 m → located ed t (toZ w64 (ofZ w64 m)) early ≡ located ed t m early
+copied ed t m early f = ap (λ m. located ed t m early) (toZ-ofZ f)
+
+module _ {ed : Edition} {t : List ℤ} {m : ℤ} {early : ℕ} {r : Located} (f : SFits w64 m) (e : r ≡ located ed t (toZ w64 (ofZ w64 m)) early) where
+  pub told-part : {a b : ℕ} → r ≡ At a b → PartFound ed t m early a b
+  told-part h = part-found ed t m early _ _ (sym h ∙ e ∙ copied ed t m early f)
+
+  pub told-row : {k : ℕ} → r ≡ Refused k → SentBack ed t m early k
+  told-row h = sent-back ed t m early _ (sym h ∙ e ∙ copied ed t m early f)
 
 -- ---- the part that was found
 

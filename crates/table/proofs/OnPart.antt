@@ -27,12 +27,11 @@ use Rattle.layout.specs.Calls.{onEdition}
 use Rattle.layout.proofs.Numbers.{Few, few}
 use Rattle.layout.proofs.Parts.{with-part-own}
 use Rattle.layout.proofs.SoundParts.{room-laid, laid-sound, stride-small}
-use Rattle.table.specs.declared.Located.the-variants.{Refused}
 use Rattle.table.specs.Lookup.{indexOf}
-use Rattle.table.specs.InnerTable.{onPart, located}
+use Rattle.table.specs.InnerTable.{onPart}
 use Rattle.table.proofs.Laws.{lent, backIn, part-put}
 use Rattle.table.proofs.Found.{Found, found, missing}
-use Rattle.table.proofs.Locating.{PartFound, SentBack, unsound, by-numbers, unknown, sent-back, at-part}
+use Rattle.table.proofs.Locating.{PartFound, SentBack, unsound, by-numbers, unknown, at-part}
 use Rattle.table.proofs.Calls.{call-unsound, gives, tells, call-refused, call-entered}
 
 -- ---- on the part
@@ -146,15 +145,12 @@ module _ {k : ℕ} {m : ℤ} {early : List Row} {rows : Lists → List Row} {eff
     (ed : Edition) (fits : Fits ed) (t : List ℤ) (call : sound ed t ≡ true → CallOn ed (registerOf ed t) k m early rows effect step)
     (w : Numbers × List ℤ) (whole : w ≡ onEdition k step ed t) (e : ℕ) (is : e ≡ least early) where
   -- a call that is sent back by row r
-  pub call-back : (r : ℕ) → Refused r ≡ located ed t m e
+  pub call-back : (r : ℕ) → SentBack ed t m e r
       → (pos r ∷ replicate k (pos 0) ≡ w .0) × (t ≡ w .1) × (true ≡ refused (pos r ∷ replicate k (pos 0)))
-  call-back r h = go r (sent-back ed t m e r h)
-    where
-      go : (r : ℕ) → SentBack ed t m e r → (pos r ∷ replicate k (pos 0) ≡ w .0) × (t ≡ w .1) × (true ≡ refused (pos r ∷ replicate k (pos 0)))
-      go _ (unsound s) = tells (whole ∙ call-unsound k step ed t s) refl
-      go _ (by-numbers s n x) =
-          tells (whole ∙ on-early ed fits t s (call s) n (sym is ∙ x)) (ap not (sym (eqb·suc-zero n)))
-      go _ (unknown s x o) = tells (whole ∙ on-missing ed fits t s (call s) (sym is ∙ x) o) refl
+  call-back _ (unsound s) = tells (whole ∙ call-unsound k step ed t s) refl
+  call-back _ (by-numbers s n x) =
+      tells (whole ∙ on-early ed fits t s (call s) n (sym is ∙ x)) (ap not (sym (eqb·suc-zero n)))
+  call-back _ (unknown s x o) = tells (whole ∙ on-missing ed fits t s (call s) (sym is ∙ x) o) refl
 
   -- a call whose function gives x and leaves p of the part
   pub call-done : {a b : ℕ} → PartFound ed t m e a b → (x : Numbers) (p : List ℤ) {c : Bool}

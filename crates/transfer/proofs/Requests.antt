@@ -22,10 +22,8 @@ use Rattle.layout.specs.Layout.{Fits, editionOf, registerOf}
 use Rattle.layout.specs.Sound.{sound}
 use Rattle.layout.specs.Calls.{onEdition}
 use Rattle.layout.proofs.TableSound.{sound-lays}
-use Rattle.table.specs.declared.Located.the-variants.{Refused}
-use Rattle.table.specs.InnerTable.{located}
 use Rattle.table.proofs.Laws.{lent, backIn}
-use Rattle.table.proofs.Locating.{PartFound}
+use Rattle.table.proofs.Locating.{PartFound, SentBack}
 use Rattle.table.proofs.Calls.{call-unsound}
 use Rattle.table.proofs.OnPart.{CallOn, on-early, call-back, call-done}
 use Rattle.transfer.specs.Transfer.{requestCall}
@@ -101,7 +99,7 @@ module _ (ed : Edition) (fits : Fits ed) (t : List ℤ) (g : ed ≡ editionOf t)
       go false s = call-unsound 2 (request n holidays) ed t s
       go true s = on-early ed fits t s (call s) r (sym is ∙ z)
 
-  pub request-back : (r : ℕ) → Refused r ≡ located ed t (n .mirn) e
+  pub request-back : (r : ℕ) → SentBack ed t (n .mirn) e r
       → (pos r ∷ pos 0 ∷ pos 0 ∷ [] ≡ requestCall t n holidays .0) × (t ≡ requestCall t n holidays .1) × (true ≡ refused (pos r ∷ pos 0 ∷ pos 0 ∷ []))
   request-back = call-back ed fits t call (requestCall t n holidays) whole e is
 

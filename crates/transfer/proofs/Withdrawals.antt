@@ -20,10 +20,8 @@ use Rattle.layout.specs.Layout.{Fits, editionOf, registerOf}
 use Rattle.layout.specs.Sound.{sound}
 use Rattle.layout.specs.Calls.{onEdition}
 use Rattle.layout.proofs.TableSound.{sound-lays}
-use Rattle.table.specs.declared.Located.the-variants.{Refused}
-use Rattle.table.specs.InnerTable.{located}
 use Rattle.table.proofs.Laws.{lent, backIn}
-use Rattle.table.proofs.Locating.{PartFound}
+use Rattle.table.proofs.Locating.{PartFound, SentBack}
 use Rattle.table.proofs.OnPart.{CallOn, call-back, call-done}
 use Rattle.transfer.specs.Transfer.{withdrawCall}
 use Rattle.transfer.specs.InnerParts.{withdrawRowsOf, withdrawEffect, withdrawPart}
@@ -69,7 +67,7 @@ module _ (ed : Edition) (fits : Fits ed) (t : List ℤ) (g : ed ≡ editionOf t)
         room = λ q w e. pending-room none q w;
       }
 
-  pub withdraw-back : (r : ℕ) → Refused r ≡ located ed t (n .mirn) e
+  pub withdraw-back : (r : ℕ) → SentBack ed t (n .mirn) e r
       → (pos r ∷ [] ≡ withdrawCall t n .0) × (t ≡ withdrawCall t n .1) × (true ≡ refused (pos r ∷ []))
   withdraw-back = call-back ed fits t call (withdrawCall t n) whole e is
 

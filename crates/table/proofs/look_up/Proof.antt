@@ -1,25 +1,16 @@
-use mathlib.Core.Path.{_≡_, sym, ap, _∙_}
 use Prim.Native.Nat.{_≤_}
 use lib.ListN.{length}
-use mir.Facts.{toZ-ofZ}
 use borrow.Author.Needs.{needs}
 use Rattle.layout.specs.Layout.{tableLength}
-use Rattle.table.specs.InnerTable.{located}
-use Rattle.table.proofs.Locating.{PartFound, part-found, sent-back, in-table, looked-up, nothing-found}
+use Rattle.table.proofs.Locating.{PartFound, told-part, told-row, in-table, looked-up, nothing-found}
 use Rattle.table.proofs.look_up.Statement.{statement}
 use Rattle.table.proofs.look_up.Tie as tie
-
-told : (c : tie.After-locate)
-    → let e = c .before in
-    c .locate .result ≡ located (e .edition .result) (e .before .args .t .now) (e .before .args .m) 0
-told c =
-    let e = c .before in
-    c .locate .ensures ∙ ap (λ m. located (e .edition .result) (e .before .args .t .now) m 0) (toZ-ofZ (e .before .fits .m))
 
 found : (c : tie.After-from)
     → let e = c .before .before .before in
     PartFound (e .edition .result) (e .before .args .t .now) (e .before .args .m) 0 (c .from .given .0 .0) (c .from .given .0 .1 .0)
-found c = part-found _ _ _ 0 _ _ (sym (c .from .given .1) ∙ told (c .before .before))
+found c =
+    let l = c .before .before in told-part (l .before .before .fits .m) (l .locate .ensures) (c .from .given .1)
 
 within : (c : tie.After-from)
     → (c .from .given .0 .0 ≤ c .from .given .0 .1 .0) × (c .from .given .0 .1 .0 ≤ tableLength)
@@ -30,7 +21,7 @@ returns : tie.Need-returns
 returns c =
     let o = c .before in
     let l = o .before .before in
-    nothing-found (l .before .edition .ensures .0) (sent-back _ _ _ 0 _ (sym (o .enum-told .given .1) ∙ told l))
+    nothing-found (l .before .edition .ensures .0) (told-row (l .before .before .fits .m) (l .locate .ensures) (o .enum-told .given .1))
 
 mul-result : tie.Need-mul-result
 mul-result c = let h = within (c .before) in search needs

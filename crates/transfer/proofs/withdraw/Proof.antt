@@ -1,14 +1,12 @@
-use mathlib.Core.Path.{_≡_, sym, ap, _∙_}
+use mathlib.Core.Path.{_≡_, sym, _∙_}
 use native.Mathlib.Omega.{arith}
 use Prim.Native.Nat.{_≤_}
 use lib.ListN.{length}
-use mir.Facts.{toZ-ofZ}
 use borrow.Author.Needs.{sfits-of, needs}
 use Rattle.numbers.specs.Naturals.{natOf}
 use Rattle.numbers.proofs.Naturals.{natural-read}
 use Rattle.layout.specs.Layout.{tableLength}
-use Rattle.table.specs.InnerTable.{located}
-use Rattle.table.proofs.Locating.{PartFound, part-found, in-table}
+use Rattle.table.proofs.Locating.{PartFound, told-part, told-row, in-table}
 use Rattle.table.proofs.OnPart.{lent-sound}
 use Rattle.transfer.proofs.Withdrawals.{withdrawal-user, withdraw-back, withdraw-done}
 use Rattle.transfer.proofs.withdraw.Statement.{statement}
@@ -22,15 +20,11 @@ edition c = c .before .before .before .before .before
 abbrev entry : tie.After-locate → tie.Start
 entry c = edition c .before .before
 
-told : (c : tie.After-locate) → c .locate .result ≡ located (edition c .edition .result) (entry c .args .t .now) (entry c .args .n .mirn) (c .before .withdrawal-row .result)
-told c =
-    c .locate .ensures
-    ∙ ap (λ m. located (edition c .edition .result) (entry c .args .t .now) m (c .before .withdrawal-row .result)) (toZ-ofZ (sfits-of (c .before .before .before .struct-told2 .given .0 .1)))
-
 found : (c : tie.After-from)
     → let l = c .before .before in
     PartFound (edition l .edition .result) (entry l .args .t .now) (entry l .args .n .mirn) (l .before .withdrawal-row .result) (c .from .given .0 .0) (c .from .given .0 .1 .0)
-found c = part-found _ _ _ _ _ _ (sym (c .from .given .1) ∙ told (c .before .before))
+found c =
+    let l = c .before .before in told-part (sfits-of (l .before .before .before .struct-told2 .given .0 .1)) (l .locate .ensures) (c .from .given .1)
 
 within : (c : tie.After-from)
     → (c .from .given .0 .0 ≤ c .from .given .0 .1 .0) × (c .from .given .0 .1 .0 ≤ tableLength)
@@ -47,7 +41,7 @@ user-is c =
 returns : tie.Need-returns
 returns c =
     let l = c .before .before .before in
-    withdraw-back _ (edition l .edition .ensures .1) (entry l .args .t .now) (edition l .edition .ensures .0) (entry l .args .n) _ (l .before .withdrawal-row .ensures) _ (sym (c .before .row .given .1) ∙ told l)
+    withdraw-back _ (edition l .edition .ensures .1) (entry l .args .t .now) (edition l .edition .ensures .0) (entry l .args .n) _ (l .before .withdrawal-row .ensures) _ (told-row (sfits-of (l .before .before .before .struct-told2 .given .0 .1)) (l .locate .ensures) (c .before .row .given .1))
 
 mul-withdraw-at : tie.Need-mul-withdraw-at
 mul-withdraw-at c = let h = within (c .before .before) in search needs
