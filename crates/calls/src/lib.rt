@@ -50,7 +50,9 @@ fn notify(n: NoticeWord, a: Six, list: &[u8], register: &mut [u8], answer: &mut 
 {
     match n {
         NoticeWord::Fresh => hub::petlumas_fresh(register, answer, a.n0, a.n1),
-        NoticeWord::Open => hub::petlumas_open(register, answer, a.n0, a.n1, a.n2, a.n3, a.n4),
+        NoticeWord::Open => {
+            hub::petlumas_open(register, answer, a.n0, a.n1, a.n2, a.n3, a.n4, a.n5)
+        }
         NoticeWord::Energy => {
             hub::petlumas_energy(register, answer, a.n0, a.n1, a.n2, a.n3, a.n4, a.n5)
         }

@@ -2,7 +2,7 @@
 use mathlib.Core.Path.{_≡_, refl}
 use mathlib.Core.Bool.{false, _&&_, cond}
 use mathlib.Core.Option.{Option, none, some}
-use mathlib.Core.List.{List, [], _∷_, map}
+use mathlib.Core.List.{List, [], _∷_, _++_, map}
 use Prim.Native.Nat.{ℕ, suc, _+_, _-_}
 use native.Mathlib.Nat.{mul-one}
 use native.Mathlib.Omega.{arith}
@@ -13,10 +13,10 @@ use Rattle.numbers.specs.Search.{firstFrom}
 use Rattle.numbers.specs.Shares.{share}
 use Rattle.daybook.specs.declared.Edition.{Edition}
 use Rattle.daybook.specs.Book.{Entry, Pending, Point}
-use Rattle.daybook.specs.Notices.{least, append, replacement, recut, registers, lapses, stays, outcomeOf, statusRows, requestRows}
+use Rattle.daybook.specs.Notices.{least, append, replacement, recut, Outcome, registers, lapses, stays, outcomeOf, statusRows, requestRows}
 use Rattle.daybook.specs.Queries.{active, someFilled, weight}
 use Rattle.daybook.specs.Calls.{Call, State}
-use Rattle.cases.specs.Journal.{Fresh, Open, Energy, Status, Request, Withdraw, Account, Allocate, answersFrom, answersOf, naturals}
+use Rattle.cases.specs.Journal.{Fresh, OpenIn, Open, Read, Energy, Status, Request, Withdraw, Account, Allocate, answersFrom, answersOf, naturals}
 
 -- an odd megajoule goes early, also below 0 and over the most days; 0 is shared as 0 (document 02, f)
 odd :
@@ -119,24 +119,66 @@ ninth-registration = (refl, refl, refl)
 
 -- an append that ends before the window leaves the request, on its first and on its last day it registers, unless a
 -- later registration stands there already, and after it the request lapses
-ending : ℕ → Entry
-ending d = record { start = 1; end = d; energy = pos 10; type = 0 }
+ending : ℕ → ℕ → Entry
+ending y d = record { start = 1; end = d; energy = pos 10; type = y }
 
 waiting : Option Pending
 waiting = some (record { user = 2; first = 11; last = 39 })
 
+by-end : ℕ → ℕ → List Outcome
+by-end section y =
+    map (λ d. outcomeOf append section (ending y d) 1 waiting) (10 ∷ 11 ∷ 39 ∷ 40 ∷ [])
+    ++ map (λ d. outcomeOf append section (ending y d) 40 waiting) (39 ∷ 40 ∷ [])
+
+registering : List Outcome
+registering = stays ∷ registers 2 ∷ registers 2 ∷ lapses ∷ stays ∷ lapses ∷ []
+
+-- in section 1 an estimated or substituted one in the window leaves it too, and after the window it lapses all the same
+-- (document 02, a)
+waits : List Outcome
+waits = stays ∷ stays ∷ stays ∷ lapses ∷ stays ∷ lapses ∷ []
+
 window :
-    (outcomeOf append (ending 10) 1 waiting ≡ stays)
-    × (outcomeOf append (ending 11) 1 waiting ≡ registers 2)
-    × (outcomeOf append (ending 39) 1 waiting ≡ registers 2)
-    × (outcomeOf append (ending 39) 40 waiting ≡ stays)
-    × (outcomeOf append (ending 40) 1 waiting ≡ lapses)
-unfolding ending waiting
-window = (refl, refl, refl, refl, refl)
+    (map (by-end 0) (0 ∷ 1 ∷ 2 ∷ []) ≡ replicate 3 registering) × (map (by-end 1) (0 ∷ 1 ∷ 2 ∷ []) ≡ registering ∷ waits ∷ waits ∷ [])
+unfolding by-end ending waiting registering waits
+window = (refl, refl)
 
 -- a replacement or recut leaves any request, wherever it ends (document 02, c)
-left : (x : Entry) (s : ℕ) (o : Option Pending) → (outcomeOf replacement x s o ≡ stays) × (outcomeOf recut x s o ≡ stays)
-left x s o = (refl, refl)
+left : (c : ℕ) (x : Entry) (s : ℕ) (o : Option Pending) → (outcomeOf replacement c x s o ≡ stays) × (outcomeOf recut c x s o ≡ stays)
+left c x s o = (refl, refl)
+
+-- a point in section 1: the estimate in the window leaves the request, the reading after it registers, and the later days
+-- are User 2's; there is no section 2 or -1
+sectioned : List Call
+sectioned =
+    Fresh (negsuc 0) (negsuc 0)
+    ∷ OpenIn (pos 2) 5 1 1 1 (negsuc 0)
+    ∷ OpenIn (negsuc 0) 5 1 1 1 (negsuc 0)
+    ∷ OpenIn (pos 1) 5 1 1 1 (negsuc 0)
+    ∷ Request 5 2 14 []
+    ∷ Read 1 5 1 1 (pos 10)
+    ∷ Read 0 5 2 2 (pos 20)
+    ∷ Read 2 5 3 3 (pos 30)
+    ∷ Account 1 1 3
+    ∷ Account 2 1 3
+    ∷ []
+
+sectioned-answers :
+    answersOf (record { points = 1; records = 3 }) sectioned
+    ≡ naturals
+    ((0 ∷ [])
+    ∷ (2 ∷ [])
+    ∷ (2 ∷ [])
+    ∷ (0 ∷ [])
+    ∷ (0 ∷ 0 ∷ 28 ∷ [])
+    ∷ (0 ∷ 1 ∷ 0 ∷ 0 ∷ 0 ∷ [])
+    ∷ (0 ∷ 1 ∷ 0 ∷ 2 ∷ 0 ∷ [])
+    ∷ (0 ∷ 1 ∷ 0 ∷ 0 ∷ 0 ∷ [])
+    ∷ (0 ∷ 30 ∷ [])
+    ∷ (0 ∷ 30 ∷ [])
+    ∷ [])
+unfolding answersFrom sectioned
+sectioned-answers = refl
 
 -- so a replacement in the window and a recut past it leave a request that can be withdrawn, and nobody is registered
 corrected : List Call
@@ -222,14 +264,14 @@ metered : ℕ → State
 metered n =
     let reading : ℕ → Entry = λ d. record { start = d; end = d; energy = pos (10 + d); type = 0 } in
     let daily : Point = record {
-      facts = record { mirn = 1; kind = 1; install = 0; base = 1000 };
+      facts = record { mirn = 1; kind = 1; install = 0; base = 1000; section = 0 };
       entry = λ d. cond (ltb d n) (some (reading d)) none;
       off = λ d. false;
       fro = λ d. 1;
       pending = none;
     } in
     let other : Point = record {
-      facts = record { mirn = 2; kind = 0; install = 0; base = 7 };
+      facts = record { mirn = 2; kind = 0; install = 0; base = 7; section = 0 };
       entry = λ d. none;
       off = λ d. leb 9 d;
       fro = λ d. 2;

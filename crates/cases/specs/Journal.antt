@@ -16,13 +16,23 @@ use Rattle.daybook.specs.Calls.{fresh!, open!, energy!, status!, request!, with
 abbrev pub Fresh : ℤ → ℤ → Call
 Fresh r s = notice! (fresh! (record { nondaily = r; daily = s }))
 
-abbrev pub Open : ℕ → ℕ → ℕ → ℕ → ℤ → Call
-Open m k u i b = notice! (open! (record { mirn = pos m; kind = pos k; user = pos u; install = pos i; base = b }))
+-- in a section
+abbrev pub OpenIn : ℤ → ℕ → ℕ → ℕ → ℕ → ℤ → Call
+OpenIn c m k u i b =
+    notice! (open! (record { mirn = pos m; kind = pos k; user = pos u; install = pos i; base = b; section = c }))
 
--- an actual reading, not confirmed
+-- in section 0
+abbrev pub Open : ℕ → ℕ → ℕ → ℕ → ℤ → Call
+Open m k u i b = OpenIn (pos 0) m k u i b
+
+-- of a type, not confirmed
+abbrev pub Read : ℕ → ℕ → ℕ → ℕ → ℤ → Call
+Read y m s e x =
+    notice! (energy! (record { mirn = pos m; start = pos s; end = pos e; energy = x; «type_» = pos y; confirmed = pos 0 }))
+
+-- an actual reading
 abbrev pub Energy : ℕ → ℕ → ℕ → ℤ → Call
-Energy m s e x =
-    notice! (energy! (record { mirn = pos m; start = pos s; end = pos e; energy = x; «type_» = pos 0; confirmed = pos 0 }))
+Energy m s e x = Read 0 m s e x
 
 abbrev pub Status : ℕ → ℕ → ℕ → Call
 Status m d on = notice! (status! (record { mirn = pos m; day = pos d; on = pos on }))

@@ -7,6 +7,7 @@ use lib.Dec.{leb, eqb}
 use lib.IntN.{ℤ, pos}
 use Rattle.numbers.specs.Search.{maybe, isSome, firstFrom, lastBelow}
 use Rattle.numbers.specs.Shares.{share}
+use Rattle.daybook.specs.declared.Facts.{Facts}
 
 -- What an energy notice enters on each of its days. The type is 0 actual, 1 estimated or 2 substituted.
 pub record Entry : Type 0 where
@@ -20,13 +21,6 @@ pub record Pending : Type 0 where
   pub user : ℕ
   pub first : ℕ
   pub last : ℕ
-
--- What an opening says once and for all. The kind is 0 non-daily or 1 daily metered.
-pub record Facts : Type 0 where
-  pub mirn : ℕ
-  pub kind : ℕ
-  pub install : ℕ
-  pub base : ℕ
 
 -- A delivery point on each day 0 to 40,000: its entry, if the day is filled, whether it is off (de-energised), and its
 -- FRO, the responsible User, 0 for none. What stands past day 40,000 is never read.

@@ -20,7 +20,15 @@ abbrev pub rangesOf : List ℤ → Ranges
 rangesOf xs = record { nondaily = num xs 0; daily = num xs 1 }
 
 abbrev pub openingOf : List ℤ → Opening
-openingOf xs = record { mirn = num xs 0; kind = num xs 1; user = num xs 2; install = num xs 3; base = num xs 4 }
+openingOf xs =
+    record {
+      mirn = num xs 0;
+      kind = num xs 1;
+      user = num xs 2;
+      install = num xs 3;
+      base = num xs 4;
+      section = num xs 5;
+    }
 
 abbrev pub energyNoticeOf : List ℤ → EnergyNotice
 energyNoticeOf xs =

@@ -12,12 +12,13 @@ use Rattle.numbers.specs.Search.{maybe, isSome, firstFrom}
 use Rattle.calendar.specs.Calendar.{within, isDay, holidayList, allowablePeriod}
 use Rattle.daybook.specs.declared.Ranges.{Ranges}
 use Rattle.daybook.specs.declared.Opening.{Opening}
+use Rattle.daybook.specs.declared.Facts.{Facts}
 use Rattle.daybook.specs.declared.EnergyNotice.{EnergyNotice}
 use Rattle.daybook.specs.declared.StatusNotice.{StatusNotice}
 use Rattle.daybook.specs.declared.TransferRequest.{TransferRequest}
 use Rattle.daybook.specs.declared.Withdrawal.{Withdrawal}
 use Rattle.daybook.specs.declared.Edition.{Edition}
-use Rattle.daybook.specs.Book.{Entry, Pending, Facts, Point, Book, fromOn, fill, withEntries, withOff, withFro, withPending, lastOf, recordAt, records, registrations, spans, latest, lastFilled, appendDay}
+use Rattle.daybook.specs.Book.{Entry, Pending, Point, Book, fromOn, fill, withEntries, withOff, withFro, withPending, lastOf, recordAt, records, registrations, spans, latest, lastFilled, appendDay}
 
 -- A row: the number that is returned, and whether the row applies.
 abbrev pub Row : Type 0
@@ -92,7 +93,13 @@ fresh n B = decide (least (freshRows n)) 0 B ([], record { nondaily = n .nondail
 unfoldable pub factsOf : Opening → Facts
 factsOf n =
     let base : ℕ = cond (leZ (pos 0) (n .base)) (natOf (n .base)) 1000 in
-    record { mirn = natOf (n .mirn); kind = natOf (n .kind); install = natOf (n .install); base = base }
+    record {
+      mirn = natOf (n .mirn);
+      kind = natOf (n .kind);
+      install = natOf (n .install);
+      base = base;
+      section = natOf (n .section);
+    }
 
 -- The User is FRO from the install day on.
 unfoldable pub opened : Opening → Point
@@ -104,7 +111,7 @@ unfoldable pub openingRows : Edition → Opening → Bool → ℕ → List Row
 openingRows ed n known count = (
   2,
   not (isMirn (n .mirn) && isFlag (n .kind) && isUser (n .user) && isDay (n .install)
-      && within (negsuc 0) (pos 10000) (n .base)),
+      && within (negsuc 0) (pos 10000) (n .base) && within (pos 0) (pos 1) (n .section)),
 )
     ∷ (5, known) ∷ (16, leb (ed .points) count) ∷ []
 
@@ -184,15 +191,24 @@ pub data Outcome : Type 0 where
   registers : ℕ → Outcome
   lapses stays : Outcome
 
--- Only an append settles the request (document 02, c), by its own end: in the period, with end + 1 after the latest
--- registration's start, it registers; after the period the request lapses. A replacement or recut leaves it.
-abbrev pub outcomeOf : Which → Entry → ℕ → Option Pending → Outcome
-outcomeOf append x latestStart none = stays
-outcomeOf append x latestStart (some q) =
-    cond (leb (q .first) (x .end) && leb (x .end) (q .last) && ltb latestStart (suc (x .end))) (registers (q .user))
-    (cond (ltb (q .last) (x .end)) lapses stays)
-outcomeOf replacement x latestStart o = stays
-outcomeOf recut x latestStart o = stays
+-- In section 1 a transfer "can only be registered on an actual meter reading" (clause 1.1.2(f)(iii); document 02, a).
+abbrev pub typeRegisters : ℕ → ℕ → Bool
+typeRegisters section type = eqb section 0 || eqb type 0
+
+-- An append registers by its own end, in the period and with end + 1 after the latest registration's start, and by its
+-- type, where the section asks for one.
+abbrev pub appendRegisters : ℕ → Entry → ℕ → Pending → Bool
+appendRegisters section x latestStart q =
+    leb (q .first) (x .end) && leb (x .end) (q .last) && ltb latestStart (suc (x .end)) && typeRegisters section (x .type)
+
+-- Only an append settles the request (document 02, c). Where it registers nobody and ends after the period, the request
+-- lapses, in either section. A replacement or recut leaves it.
+abbrev pub outcomeOf : Which → ℕ → Entry → ℕ → Option Pending → Outcome
+outcomeOf append section x latestStart none = stays
+outcomeOf append section x latestStart (some q) =
+    cond (appendRegisters section x latestStart q) (registers (q .user)) (cond (ltb (q .last) (x .end)) lapses stays)
+outcomeOf replacement section x latestStart o = stays
+outcomeOf recut section x latestStart o = stays
 
 -- The User registered or 0, and whether the request lapsed.
 abbrev pub outcomeNumbers : Outcome → List ℕ
@@ -213,7 +229,8 @@ entered x w o p = (
 )
 
 unfoldable pub enter : Entry → Point → Numbers × Point
-enter x p = let w : Which = which p x in entered x w (outcomeOf w x (latest p .0) (p .pending)) p
+enter x p =
+    let w : Which = which p x in entered x w (outcomeOf w (p .facts .section) x (latest p .0) (p .pending)) p
 
 -- The rows that the point decides.
 unfoldable pub energyRowsAt : Edition → EnergyNotice → Book → Point → List Row

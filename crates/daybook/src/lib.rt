@@ -20,12 +20,23 @@ pub struct Ranges {
     pub daily: i64,
 }
 
+// The section is 1 for Wagga Wagga and Tamworth, 0 for the rest (document 02, a).
 pub struct Opening {
     pub mirn: i64,
     pub kind: i64,
     pub user: i64,
     pub install: i64,
     pub base: i64,
+    pub section: i64,
+}
+
+// What an opening says once and for all. The kind is 0 non-daily or 1 daily metered; the base load is MJ a day.
+pub struct Facts {
+    pub mirn: u64,
+    pub kind: u64,
+    pub install: u64,
+    pub base: u64,
+    pub section: u64,
 }
 
 pub struct EnergyNotice {

@@ -78,10 +78,10 @@ is-append append e = refl
 is-append replacement e = absurd (omega arith)
 is-append recut e = absurd (omega arith)
 
-stays-else : (w : Which) (x : Entry) (s : ℕ) (o : Option Pending) → (whichNumber w ≡ 1 → ⊥) → outcomeOf w x s o ≡ stays
-stays-else append x s o n = absurd (n refl)
-stays-else replacement x s o n = refl
-stays-else recut x s o n = refl
+stays-else : (w : Which) (section : ℕ) (x : Entry) (s : ℕ) (o : Option Pending) → (whichNumber w ≡ 1 → ⊥) → outcomeOf w section x s o ≡ stays
+stays-else append section x s o n = absurd (n refl)
+stays-else replacement section x s o n = refl
+stays-else recut section x s o n = refl
 
 module _ {p : List ℤ} (ok : SoundPart p) (x : RaisedNotice) (inside : InRange x) (a b : ℕ) where
   abbrev q : Lists
@@ -122,14 +122,14 @@ module _ {p : List ℤ} (ok : SoundPart p) (x : RaisedNotice) (inside : InRange 
       back = ap pointFrom (rec .partIs) ∙ point-alone kept
 
       abbrev o : Outcome
-      o = outcomeOf (whichIn q e) e (latestOf (q .regs) .0) (q .pending)
+      o = outcomeOf (whichIn q e) (q .facts .section) e (latestOf (q .regs) .0) (q .pending)
 
       pub corrected : (k .which ≡ 1 → ⊥)
           → (pos 0 ∷ pos (k .which) ∷ pos (k .removed) ∷ pos 0 ∷ pos 0 ∷ [] ≡ energyPart x a b p .0) × (p″ ≡ energyPart x a b p .1)
       unfolding energyPart enterLists enteredLists withRecs
       corrected n =
           let w = gives (part-entered 4 rows (enterLists e) p clear) in
-          let st : stays ≡ o = sym (stays-else (whichIn q e) e (latestOf (q .regs) .0) (q .pending) (λ z. n (rec .whichIs ∙ z))) in
+          let st : stays ≡ o = sym (stays-else (whichIn q e) (q .facts .section) e (latestOf (q .regs) .0) (q .pending) (λ z. n (rec .whichIs ∙ z))) in
           let l : pos 0 ∷ map pos (k .which ∷ k .removed ∷ 0 ∷ 0 ∷ []) ≡ pos 0 ∷ enterLists e q .0 =
           λ i. pos 0 ∷ map pos (rec .whichIs i ∷ rec .removedIs i ∷ ap outcomeNumbers st i) in
           (l ∙ w .0, rec .partIs ∙ ap (λ o. pointNumbers (roomOf p) (settledLists o (x .end) (recorded e q))) st ∙ w .1)
@@ -139,7 +139,7 @@ module _ {p : List ℤ} (ok : SoundPart p) (x : RaisedNotice) (inside : InRange 
         unfolding withRecs
         outcome-same =
             ap (outcomeAt x) back
-            ∙ ap (λ w. outcomeOf w e (latestOf (q .regs) .0) (q .pending)) (sym (is-append (whichIn q e) (sym (rec .whichIs) ∙ appends)))
+            ∙ ap (λ w. outcomeOf w (q .facts .section) e (latestOf (q .regs) .0) (q .pending)) (sym (is-append (whichIn q e) (sym (rec .whichIs) ∙ appends)))
 
         pub entered : (s : Settled) {p′ : List ℤ} → SettledTo p″ x s p′
             → (pos 0 ∷ pos (k .which) ∷ pos (k .removed) ∷ pos (s .user) ∷ pos (s .lapsed) ∷ [] ≡ energyPart x a b p .0) × (p′ ≡ energyPart x a b p .1)

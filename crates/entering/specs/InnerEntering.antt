@@ -85,7 +85,7 @@ pub record Recorded (p : List ℤ) (x : RaisedNotice) (k : Kept) (p′ : List �
 
 -- What the pending request comes to by an append.
 abbrev pub outcomeAt : RaisedNotice → Lists → Outcome
-outcomeAt x q = outcomeOf append (entryFrom x) (latestOf (q .regs) .0) (q .pending)
+outcomeAt x q = outcomeOf append (q .facts .section) (entryFrom x) (latestOf (q .regs) .0) (q .pending)
 
 abbrev pub settledLists : Outcome → ℕ → Lists → Lists
 settledLists o end q =

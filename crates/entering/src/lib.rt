@@ -104,8 +104,8 @@ pub fn enter_record(p: &mut [i64], x: RaisedNotice) -> Kept
     }
 }
 
-// The pending request, once an append stands: by its end the User is registered from the next day on, or the request
-// lapses, or it stays.
+// The pending request, once an append stands: by its end the User is registered from the next day on, in section 1 by an
+// actual reading only, or the request lapses, or it stays.
 pub fn settle_request(p: &mut [i64], x: RaisedNotice) -> Settled
     requires { ⌜ SoundPart (now p) × InRange x ⌝ }
     ensures { λ r. ⌜ SettledTo (now (p .entry)) x r (now (p .exit)) ⌝ }
@@ -116,7 +116,9 @@ pub fn settle_request(p: &mut [i64], x: RaisedNotice) -> Settled
     let last = places::pending_last(p);
     let latest = places::reg_start(p, n - 1);
     let end = x.end;
-    if (user != 0) & (first <= end) & (end <= last) & (latest < end + 1) {
+    let section = places::section(p);
+    let timely = (user != 0) & (first <= end) & (end <= last) & (latest < end + 1);
+    if timely & ((section == 0) | (x.type_ == 0)) {
         rows::append_registration(p, n, end + 1, user);
         rows::clear_pending(p);
         return Settled { user, lapsed: 0 };

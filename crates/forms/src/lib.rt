@@ -37,7 +37,7 @@ fn notice_form(n: NoticeWord) -> Form
 {
     match n {
         NoticeWord::Fresh => shape(2, 1, false, false),
-        NoticeWord::Open => shape(5, 1, false, false),
+        NoticeWord::Open => shape(6, 1, false, false),
         NoticeWord::Energy => shape(6, 5, false, false),
         NoticeWord::Status => shape(3, 1, false, false),
         NoticeWord::Request => shape(4, 3, true, false),

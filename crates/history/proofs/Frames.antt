@@ -17,7 +17,7 @@ use Rattle.numbers.proofs.Bools.{neither}
 use Rattle.numbers.proofs.Search.{from-bound}
 use Rattle.daybook.specs.declared.Edition.{Edition}
 use Rattle.daybook.specs.declared.Opening.{Opening}
-use Rattle.daybook.specs.Book.{Facts}
+use Rattle.daybook.specs.declared.Facts.{Facts}
 use Rattle.daybook.specs.Notices.{Row, Numbers, factsOf}
 use Rattle.daybook.specs.Calls.{Notice, fresh!, open!, energy!, status!, request!, withdraw! }
 use Rattle.lists.specs.Lists.{Lists, Register}

@@ -31,6 +31,7 @@ use Rattle.history.proofs.Accounts.{account-splits, accounts-add-up}
 use Rattle.history.proofs.Entries.{entry-stands}
 use Rattle.history.proofs.Allocations.{totals-add-up, shares-add-up, shares-32}
 use Rattle.history.proofs.Points.{point-at, one-user}
+use Rattle.history.proofs.Transfers.{sound-transferred}
 
 module _ (t : List ℤ) (s : sound (editionOf t) t ≡ true) where
   abbrev ed : Edition
@@ -109,4 +110,5 @@ module _ (t : List ℤ) (s : sound (editionOf t) t ≡ true) where
         accountsAddUp = accounts-sum;
         entries = entries-stand;
         allocations = allocated;
+        transfers = sound-transferred t s;
       }

@@ -4,20 +4,24 @@ use mathlib.Core.Bool.{true, false}
 use mathlib.Core.Option.{Option, none, some}
 use mathlib.Core.List.{List, [], _∷_}
 use Prim.Native.Nat.{ℕ, zero, suc, _≤_, _<_}
+use lib.Dec.{eqb}
 use lib.IntN.{ℤ, pos, _+ℤ_}
 use lib.ListN.{length, getD, drop}
+use Rattle.numbers.specs.Naturals.{natOf}
 use Rattle.numbers.specs.Sums.{sumFrom, sumOver}
 use Rattle.numbers.specs.Answers.{refused}
 use Rattle.daybook.specs.declared.Edition.{Edition}
 use Rattle.daybook.specs.declared.AccountQuery.{AccountQuery}
 use Rattle.daybook.specs.declared.AllocationQuery.{AllocationQuery}
-use Rattle.daybook.specs.Book.{Entry, Point, Book, filled, dayShare}
-use Rattle.daybook.specs.Notices.{Numbers}
+use Rattle.daybook.specs.declared.EnergyNotice.{EnergyNotice}
+use Rattle.daybook.specs.Book.{Entry, Point, Book, filled, latest, dayShare}
+use Rattle.daybook.specs.Notices.{Numbers, find}
 use Rattle.daybook.specs.Calls.{State}
 use Rattle.daybook.specs.Queries.{sumOf, accountOf, allocate}
 use Rattle.lists.specs.Lists.{covering}
 use Rattle.layout.specs.Layout.{editionOf, partOf, pointFrom, tableBook}
 use Rattle.layout.specs.Sound.{sound}
+use Rattle.energy.specs.Energy.{energyCall}
 use Rattle.account.specs.Account.{accountCall}
 use Rattle.allocate.specs.Allocate.{allocateCall}
 use Rattle.history.specs.Runs.{Lent}
@@ -73,6 +77,24 @@ pub record Allocated (t : List ℤ) (B : Book) (n : AllocationQuery) (room : ℕ
       → added (allocateCall t n room .1) ≡ loadIn (allocateCall t n room .0)
   pub all32 : refused (allocateCall t n room .0) ≡ false → length (allocateCall t n room .1) ≡ 32
 
+-- The User that an energy notice's answer names as registered, 0 for none.
+abbrev pub userIn : Numbers → ℤ
+userIn l = getD l 3 (pos 0)
+
+-- 7. A registered transfer, in either section (document 02, a): what an energy notice that names User u leaves of its
+-- point. The days up to the record's end stay whose they were, those since the latest registration its User's, who is
+-- not u; every later day is u's. In section 1 the reading is an actual one.
+pub record Transferred (ed : Edition) (t : List ℤ) (B : Book) (n : EnergyNotice) (u : ℕ) : Type 0 where
+  pub point : Point
+  pub found : find (natOf (n .mirn)) (B .points) ≡ some point
+  pub after : Point
+  pub foundAfter : find (natOf (n .mirn)) (tableBook ed (energyCall t n .1) .points) ≡ some after
+  pub sameDays : (d : ℕ) → d ≤ natOf (n .end) → after .fro d ≡ point .fro d
+  pub oldUser : (d : ℕ) → latest point .0 ≤ d → d ≤ natOf (n .end) → after .fro d ≡ latest point .1
+  pub newUser : (d : ℕ) → natOf (n .end) < d → after .fro d ≡ u
+  pub differ : eqb (latest point .1) u ≡ false
+  pub actual : point .facts .section ≡ 1 → natOf (n .«type_») ≡ 0
+
 -- 1. What is lent stands for the state: the table is sound in the state's edition, and its book is the state's.
 pub record StandsFor (L : Lent) (S : State) : Type 0 where
   pub edition : editionOf (L .table) ≡ S .edition
@@ -96,6 +118,7 @@ pub record AddsUp (ed : Edition) (t : List ℤ) (B : Book) : Type 0 where
   pub entries :
       (i : ℕ) (p : Point) (d : ℕ) (e : Entry) → pointNo i (B .points) ≡ some p → p .entry d ≡ some e → Stands p d e
   pub allocations : (n : AllocationQuery) (room : ℕ) → Allocated t B n room
+  pub transfers : (n : EnergyNotice) (u : ℕ) → 1 ≤ u → userIn (energyCall t n .0) ≡ pos u → Transferred ed t B n u
 
 pub record Agrees (L : Lent) (S : State) : Type 0 where
   pub standsFor : StandsFor L S

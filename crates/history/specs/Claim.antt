@@ -12,8 +12,8 @@ use Rattle.history.specs.Agreement.{Agrees}
 -- Lend any table t₀ to fresh, with any two ranges n. If it answers 0, then lend the table to any calls, one after the
 -- other, with any numbers, each call on the table that the one before left. Every call answers what the day book
 -- answers to the same calls, and of what is lent and the state after the last of them all that `Agrees` says holds: the
--- table is sound and stands for the state's book, each filled day has one User, and accounts, entries and allocations
--- add up.
+-- table is sound and stands for the state's book, each filled day has one User, accounts, entries and allocations add
+-- up, and a registered transfer parts the days between two Users, in either section.
 --
 -- The calls here are definitions. The contracts of the code equate each function with one of them, for every table and
 -- all numbers: opening::fresh with freshCall, opening::open with openCall, energy::energy with energyCall,

@@ -1,56 +1,34 @@
 -- Document 02, c: only an append registers a User or lets a request lapse. What became of the answers, from any register.
 use mathlib.Core.Path.{_≡_}
-use mathlib.Core.Bool.{Bool, true, false, not, _&&_, _||_, cond}
+use mathlib.Core.Bool.{Bool, true, false, not, _&&_, _||_}
 use mathlib.Core.Option.{Option, none, some}
 use mathlib.Core.List.{List, [], _∷_, _++_}
-use Prim.Native.Nat.{ℕ, suc}
-use lib.Dec.{leb, ltb}
 use lib.IntN.{ℤ, pos}
 use lib.ListN.{getD, take}
 use Rattle.numbers.specs.Naturals.{natOf, sameZ}
 use Rattle.numbers.specs.Search.{maybe}
 use Rattle.daybook.specs.declared.Edition.{Edition}
 use Rattle.daybook.specs.declared.EnergyNotice.{EnergyNotice}
-use Rattle.daybook.specs.Book.{Entry, Pending, Point, Book, fill, withEntries, latest}
-use Rattle.daybook.specs.Notices.{Numbers, find, withPoint, onPoint, which, entryOf, energyEarly, energyRowsAt, kept, Outcome, registers, lapses, stays, entered, energy}
-use Rattle.daybook.specs.Calls.{Notice, fresh!, open!, energy!, status!, request!, withdraw!, Call, notice!, query!, Answer}
+use Rattle.daybook.specs.Book.{Entry, Pending, Point, fill, withEntries}
+use Rattle.daybook.specs.Notices.{Numbers, find, withPoint, append, which, entryOf, kept, outcomeOf, energy}
+use Rattle.daybook.specs.Calls.{energy!, Call, notice!, Answer}
 use Rattle.layout.specs.Layout.{editionOf, tableBook}
 use Rattle.layout.specs.Sound.{sound}
-use Rattle.layout.specs.Calls.{onTable}
 use Rattle.energy.specs.Energy.{energyCall}
-use Rattle.history.specs.Runs.{Lent, noticeCall, lentStep}
+use Rattle.history.specs.Runs.{Lent, lentStep}
+use Rattle.history.specs.OtherRules.{Rule, energyCallBy, lentStepBy}
 
 -- ---- as it was before
 
--- What a pending request came to, whichever of the three the notice was.
-abbrev pub outcomeBefore : Entry → ℕ → Option Pending → Outcome
-outcomeBefore x latestStart none = stays
-outcomeBefore x latestStart (some q) =
-    cond (leb (q .first) (x .end) && leb (x .end) (q .last) && ltb latestStart (suc (x .end))) (registers (q .user))
-    (cond (ltb (q .last) (x .end)) lapses stays)
+-- Whichever of the three the notice was, the request came to what it comes to by an append.
+abbrev pub anySettles : Rule
+anySettles w section x latestStart o = outcomeOf append section x latestStart o
 
--- All else of an energy notice was as it is now, and so was every other call.
-unfoldable pub enterBefore : Entry → Point → Numbers × Point
-enterBefore x p = entered x (which p x) (outcomeBefore x (latest p .0) (p .pending)) p
+abbrev pub energyCallBefore : List ℤ → EnergyNotice → Numbers × List ℤ
+energyCallBefore = energyCallBy anySettles
 
-unfoldable pub energyBefore : Edition → EnergyNotice → Book → Numbers × Book
-energyBefore ed n B = onPoint 4 (n .mirn) (energyEarly n) (energyRowsAt ed n B) (enterBefore (entryOf n)) B
-
-unfoldable pub energyCallBefore : List ℤ → EnergyNotice → Numbers × List ℤ
-energyCallBefore t n = onTable 4 (λ ed. energyBefore ed n) t
-
-unfoldable pub noticeBefore : Notice → List ℤ → Numbers × List ℤ
-noticeBefore (fresh! n) t = noticeCall (fresh! n) t
-noticeBefore (open! n) t = noticeCall (open! n) t
-noticeBefore (energy! n) t = energyCallBefore t n
-noticeBefore (status! n) t = noticeCall (status! n) t
-noticeBefore (request! n holidays) t = noticeCall (request! n holidays) t
-noticeBefore (withdraw! n) t = noticeCall (withdraw! n) t
-
-unfoldable pub lentStepBefore : Call → Lent → Answer × Lent
-lentStepBefore (notice! c) L =
-    let w : Numbers × List ℤ = noticeBefore c (L .table) in ((w .0, []), record { table = w .1 })
-lentStepBefore (query! q) L = lentStep (query! q) L
+abbrev pub lentStepBefore : Call → Lent → Answer × Lent
+lentStepBefore = lentStepBy anySettles
 
 -- ---- what changed
 

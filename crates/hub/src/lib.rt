@@ -47,8 +47,9 @@ pub extern "C" fn petlumas_open(
     user: i64,
     install: i64,
     base: i64,
+    section: i64,
 ) -> i64
-    ensures { λ r. ⌜ (r, (now (register .exit), now (answer .exit))) ≡ written (openCall (tableIn (now (register .entry))) (record { mirn = mirn; kind = kind; user = user; install = install; base = base })) (now (register .entry)) (now (answer .entry)) ⌝ }
+    ensures { λ r. ⌜ (r, (now (register .exit), now (answer .exit))) ≡ written (openCall (tableIn (now (register .entry))) (record { mirn = mirn; kind = kind; user = user; install = install; base = base; section = section })) (now (register .entry)) (now (answer .entry)) ⌝ }
 {
     let n = Opening {
         mirn,
@@ -56,6 +57,7 @@ pub extern "C" fn petlumas_open(
         user,
         install,
         base,
+        section,
     };
     let mut t = [0i64; places::TABLE_LENGTH];
     let table = buffers::table_in(register, &mut t);

@@ -125,6 +125,10 @@ module _ (room : ℕ) (q : Lists) where
   unfolding pointNumbers headNumbers
   cell-last = refl
 
+  pub cell-section : numAt (pointNumbers room q) 10 ≡ q .facts .section
+  unfolding pointNumbers headNumbers
+  cell-section = refl
+
 -- ---- the rows of a point
 
 module _ {room : ℕ} {q : Lists} (f : Few room q) (k : ℕ) where
@@ -190,3 +194,6 @@ module _ {room : ℕ} {q : Lists} (w : Well room q) {p : List ℤ} (e : pointNum
 
   pub place-last : numAt p 9 ≡ pendingOrZeros (q .pending) .last
   place-last = ap (λ p. numAt p 9) (sym e) ∙ cell-last room q
+
+  pub place-section : numAt p 10 ≡ q .facts .section
+  place-section = ap (λ p. numAt p 10) (sym e) ∙ cell-section room q

@@ -1,4 +1,4 @@
--- MIRNs that differ, tested by the points' indices. Assumes nothing.
+-- Tests of a register's points by their indices, MIRNs that differ among them. Assumes nothing.
 use mathlib.Core.Path.{_≡_, sym, _∙_, ap, ap₂}
 use mathlib.Core.Bool.{Bool, not, _&&_}
 use mathlib.Core.List.{List}
@@ -14,7 +14,7 @@ use Rattle.numbers.specs.Rows.{all}
 use Rattle.numbers.proofs.Rows.{all-none, all-front, all-same}
 use Rattle.daybook.specs.declared.Edition.{Edition}
 use Rattle.lists.specs.Lists.{Lists}
-use Rattle.layout.specs.Layout.{stride, placeOf, numAt, pointFrom, pointsFrom}
+use Rattle.layout.specs.Layout.{stride, placeOf, partOf, numAt, pointFrom, pointsFrom, registerOf}
 use Rattle.layout.specs.Sound.{each, mirnsDiffer}
 use Rattle.layout.specs.InnerMirns.{laterDiffer}
 
@@ -30,15 +30,28 @@ module _ (ed : Edition) (t : List ℤ) where
       let e : placeOf ed a + stride ed ≡ placeOf ed (suc a) = omega (arith, mul-suc (stride ed) a) in
       drop-drop (stride ed) (placeOf ed a) t ∙ ap (λ n. drop n t) e
 
-  each-index : (f : ℕ → Bool) (k a : ℕ) → each (λ (r : Lists). f (r .facts .mirn)) (pointsFrom ed k (drop (placeOf ed a) t)) ≡ all (λ j. f (numAt t (placeOf ed (a + j)))) k
-  unfolding each pointsFrom pointFrom
-  each-index f zero a = sym (all-none _)
-  each-index f (suc k) a =
+  -- a test of each of the k points from point a on, by their parts
+  each-part : (test : Lists → Bool) (k a : ℕ) → each test (pointsFrom ed k (drop (placeOf ed a) t)) ≡ all (λ j. test (pointFrom (partOf ed t (a + j)))) k
+  unfolding each pointsFrom partOf
+  each-part test zero a = sym (all-none _)
+  each-part test (suc k) a =
       let z : a + 0 ≡ a = omega arith in
-      ap₂ _&&_ (ap f (first-number a) ∙ ap (λ i. f (numAt t (placeOf ed i))) (sym z))
-      (ap (λ u. each (λ (r : Lists). f (r .facts .mirn)) (pointsFrom ed k u)) (next a) ∙ each-index f k (suc a)
-      ∙ all-same _ _ k (λ j l. let e : suc a + j ≡ a + suc j = omega arith in ap (λ i. f (numAt t (placeOf ed i))) e))
-      ∙ sym (all-front (λ j. f (numAt t (placeOf ed (a + j)))) k)
+      ap₂ _&&_ (ap (λ i. test (pointFrom (partOf ed t i))) (sym z))
+      (ap (λ u. each test (pointsFrom ed k u)) (next a) ∙ each-part test k (suc a)
+      ∙ all-same _ _ k (λ j l. let e : suc a + j ≡ a + suc j = omega arith in ap (λ i. test (pointFrom (partOf ed t i))) e))
+      ∙ sym (all-front (λ j. test (pointFrom (partOf ed t (a + j)))) k)
+
+  -- of each point of the register
+  pub each-point : (test : Lists → Bool) → each test (registerOf ed t .points) ≡ all (λ i. test (pointFrom (partOf ed t i))) (numAt t 0)
+  unfolding registerOf
+  each-point test =
+      let z : 8 + stride ed * 0 ≡ 8 = omega (arith, mul-zero (stride ed)) in
+      ap (λ b. each test (pointsFrom ed (numAt t 0) (drop b t))) (sym z) ∙ each-part test (numAt t 0) 0
+      ∙ all-same _ _ (numAt t 0) (λ i l. let e : 0 + i ≡ i = omega arith in ap (λ i. test (pointFrom (partOf ed t i))) e)
+
+  each-index : (f : ℕ → Bool) (k a : ℕ) → each (λ (r : Lists). f (r .facts .mirn)) (pointsFrom ed k (drop (placeOf ed a) t)) ≡ all (λ j. f (numAt t (placeOf ed (a + j)))) k
+  unfolding pointFrom partOf
+  each-index f k a = each-part (λ r. f (r .facts .mirn)) k a ∙ all-same _ _ k (λ j l. ap f (first-number (a + j)))
 
   differ-index : (k a : ℕ) → mirnsDiffer (pointsFrom ed k (drop (placeOf ed a) t)) ≡ all (λ i. laterDiffer ed t (a + k) (a + i)) k
   unfolding mirnsDiffer pointsFrom pointFrom laterDiffer

@@ -10,7 +10,7 @@ use lib.ListN.{length, take, drop, set, length-append, length-replicate, replica
 use lib.Seq.{take-at, drop-at}
 use lib.IntN.{ℤ, pos}
 use Rattle.daybook.specs.declared.Edition.{Edition}
-use Rattle.daybook.specs.Book.{Facts}
+use Rattle.daybook.specs.declared.Facts.{Facts}
 use Rattle.lists.specs.Lists.{Lists, Register}
 use Rattle.layout.specs.Layout.{tableLength, stride, placeOf, Fits, partOf, pad, headNumbers, regNumbers, offNumbers, recNumbers, pointNumbers, pointsNumbers, layout}
 use Rattle.layout.specs.InnerWrites.{withPart, appendRegistration, openPoint, appendPoint}

@@ -1,5 +1,5 @@
 -- A sound part is the layout of the lists that are read from it, and they are well-formed. Assumes nothing.
-use mathlib.Core.Path.{_≡_, refl, sym, ap, ap₂, _∙_}
+use mathlib.Core.Path.{_≡_, sym, ap, ap₂, _∙_}
 use mathlib.Core.Bool.{true, cond}
 use mathlib.Core.Option.{Option}
 use mathlib.Core.List.{List, [], _∷_, _++_}
@@ -14,6 +14,7 @@ use Rattle.numbers.specs.Naturals.{natOf}
 use Rattle.numbers.proofs.Bools.{both}
 use Rattle.daybook.specs.Book.{Entry, Pending}
 use Rattle.lists.specs.InnerWell.{FactsOk, Well}
+use Rattle.layout.specs.Places.{regsPlace, sparePlace}
 use Rattle.layout.specs.Layout.{pad, regNumbers, offNumbers, recNumbers, pendingOrZeros, headNumbers, pointNumbers, numAt, regsFrom, offsFrom, recsFrom, pendingFrom, pointFrom}
 use Rattle.layout.specs.Sound.{listsSound, zeros, countsSound, unusedZero, partSound}
 use Rattle.layout.proofs.Numbers.{pad-take}
@@ -42,7 +43,7 @@ record Tested (p : List ℤ) (room : ℕ) : Type 0 where
   fewRegs : numAt p 4 ≤ 8
   fewOffs : numAt p 5 ≤ 8
   fewRecs : numAt p 6 ≤ room
-  headZeros : zeros p 10 16 ≡ true
+  headZeros : zeros p sparePlace regsPlace ≡ true
   regsZeros : zeros p (16 + 2 * numAt p 4) 32 ≡ true
   offsZeros : zeros p (32 + 2 * numAt p 5) 48 ≡ true
   recsZeros : zeros p (48 + 4 * numAt p 6) (length p) ≡ true
@@ -118,7 +119,7 @@ module _ (p : List ℤ) (room : ℕ) (len : length p ≡ 48 + 4 * room) (f : Tes
 
   head-lay : headNumbers (pointFrom p) ≡ take 16 p
   unfolding headNumbers pointFrom cells pad
-  head-lay = block 16 10 0 _ (ten ∙ cells-take 10 0 p (omega arith)) (omega arith) (omega arith) (f .headZeros)
+  head-lay = block 16 11 0 _ (used ∙ cells-take 11 0 p (omega arith)) (omega arith) (omega arith) (f .headZeros)
     where
       facts : FactsOk (pointFrom p .facts)
       facts = part-well .factsOk
@@ -132,15 +133,17 @@ module _ (p : List ℤ) (room : ℕ) (len : length p ≡ 48 + 4 * room) (f : Tes
       few-recs : numAt p 6 ≤ 40000
       few-recs = omega (arith, recs-count (part-well .recsOk) (omega (arith, facts .installOk)), many-recs)
 
-      ten : pos (numAt p 0) ∷ pos (numAt p 1) ∷ pos (numAt p 2) ∷ pos (numAt p 3)
+      used : pos (numAt p 0) ∷ pos (numAt p 1) ∷ pos (numAt p 2) ∷ pos (numAt p 3)
           ∷ pos (length regs) ∷ pos (length offs) ∷ pos (length recs)
-          ∷ pos (pendingOrZeros request .user) ∷ pos (pendingOrZeros request .first) ∷ pos (pendingOrZeros request .last) ∷ [] ≡ cells p 0 10
-      ten =
+          ∷ pos (pendingOrZeros request .user) ∷ pos (pendingOrZeros request .first) ∷ pos (pendingOrZeros request .last) ∷ pos (numAt p 10) ∷ []
+          ≡ cells p 0 11
+      used =
           two (own 0 (omega (arith, facts .mirnHigh))) (own 1 (omega (arith, facts .kindOk)))
           (two (own 2 (omega (arith, facts .installOk))) (own 3 (omega (arith, facts .baseOk)))
           (two (ap pos many-regs ∙ own 4 (omega (arith, f .fewRegs))) (ap pos many-offs ∙ own 5 (omega (arith, f .fewOffs)))
           (two (ap pos many-recs ∙ own 6 (omega (arith, few-recs))) (ap pos (three .userBack) ∙ own 7 (three .userLow))
-          (two (ap pos (three .firstBack) ∙ own 8 (three .firstLow)) (ap pos (three .lastBack) ∙ own 9 (three .lastLow)) refl))))
+          (two (ap pos (three .firstBack) ∙ own 8 (three .firstLow)) (ap pos (three .lastBack) ∙ own 9 (three .lastLow))
+          (λ i. own 10 (omega (arith, facts .sectionOk)) i ∷ [])))))
 
   regs-block : pad 16 (regNumbers regs) ≡ take 16 (drop 16 p)
   unfolding pointFrom

@@ -17,6 +17,7 @@ use Rattle.daybook.specs.Book.{Pending}
 use Rattle.lists.specs.Lists.{Lists}
 use Rattle.lists.specs.InnerWell.{PendingOk, nopending, pending, Well}
 use Rattle.lists.proofs.Registrations.{some-reg}
+use Rattle.layout.specs.Places.{regsPlace, sparePlace}
 use Rattle.layout.specs.Layout.{regNumbers, offNumbers, recNumbers, pendingOrZeros, headNumbers, pointNumbers, numAt}
 use Rattle.layout.specs.Sound.{listsSound, zeros, countsSound, unusedZero, partSound}
 use Rattle.layout.proofs.Numbers.{length-regNumbers, length-offNumbers, length-recNumbers, few, length-point, in-regs, in-offs, in-recs}
@@ -61,7 +62,7 @@ module _ {room : ℕ} {q : Lists} (w : Well room q) where
       let fewRecs = le-leb (numAt p 6) ((length p - 48) / 4) (omega (arith, cell-recs room q, w .recsFew, length-point (few w))) in
       join (join (join someReg fewRegs) fewOffs) fewRecs
 
-  head-unused : zeros p 10 16 ≡ true
+  head-unused : zeros p sparePlace regsPlace ≡ true
   unfolding zeros all pointNumbers headNumbers
   head-unused = refl
 

@@ -11,7 +11,8 @@ use lib.ListN.{length}
 use borrow.Author.Tests.{leb-true, ltb-true, eqb-true, not-true, le-leb, lt-ltb, eq-eqb, ne-eqb}
 use Rattle.numbers.specs.Search.{maybe}
 use Rattle.numbers.proofs.Bools.{both, join}
-use Rattle.daybook.specs.Book.{Pending, Facts, lastOf}
+use Rattle.daybook.specs.declared.Facts.{Facts}
+use Rattle.daybook.specs.Book.{Pending, lastOf}
 use Rattle.lists.specs.Lists.{Lists}
 use Rattle.lists.specs.InnerSteps.{latestOf}
 use Rattle.lists.specs.InnerWell.{Regs, noreg, reg, StartsOn, starts, Spans, nospan, still, ended, PendingOk, nopending, pending, FactsOk}
@@ -23,12 +24,15 @@ pub facts-sound : {f : Facts} → FactsOk f → factsSound f ≡ true
 unfolding factsSound
 facts-sound {f} o =
     let mirn = join (le-leb 1 (f .mirn) (o .mirnLow)) (le-leb (f .mirn) 9999999999 (o .mirnHigh)) in
-    join (join (join mirn (le-leb (f .kind) 1 (o .kindOk))) (le-leb (f .install) 39999 (o .installOk))) (le-leb (f .base) 10000 (o .baseOk))
+    join
+    (join (join (join mirn (le-leb (f .kind) 1 (o .kindOk))) (le-leb (f .install) 39999 (o .installOk))) (le-leb (f .base) 10000 (o .baseOk)))
+    (le-leb (f .section) 1 (o .sectionOk))
 
 pub facts-ok : (f : Facts) → factsSound f ≡ true → FactsOk f
 unfolding factsSound
 facts-ok f e =
-    let a = both _ _ e in
+    let s = both _ _ e in
+    let a = both _ _ (s .0) in
     let b = both _ _ (a .0) in
     let c = both _ _ (b .0) in
     let d = both _ _ (c .0) in
@@ -38,6 +42,7 @@ facts-ok f e =
       kindOk = leb-true (f .kind) 1 (c .1);
       installOk = leb-true (f .install) 39999 (b .1);
       baseOk = leb-true (f .base) 10000 (a .1);
+      sectionOk = leb-true (f .section) 1 (s .1);
     }
 
 -- ---- registrations

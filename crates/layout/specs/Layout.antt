@@ -6,10 +6,11 @@ use lib.IntN.{ℤ, pos, negsuc}
 use lib.ListN.{length, getD, take, drop, replicate}
 use Rattle.numbers.specs.Naturals.{natOf}
 use Rattle.daybook.specs.declared.Edition.{Edition}
-use Rattle.daybook.specs.Book.{Entry, Pending, Facts, Point, Book, records, registrations, spans}
+use Rattle.daybook.specs.declared.Facts.{Facts}
+use Rattle.daybook.specs.Book.{Entry, Pending, Point, Book, records, registrations, spans}
 use Rattle.daybook.specs.Queries.{shareCount}
 use Rattle.lists.specs.Lists.{Lists, Register, bookOf}
-use Rattle.layout.specs.Places.{pointsPlace, nondailyPlace, dailyPlace, headerLength, mirnPlace, kindPlace, installPlace, basePlace, regCount, offCount, recCount, pendingUser, pendingFirst, pendingLast, sparePlace, regsPlace, offsPlace, recsPlace, regLength, offLength, recLength, recPlace}
+use Rattle.layout.specs.Places.{pointsPlace, nondailyPlace, dailyPlace, headerLength, mirnPlace, kindPlace, installPlace, basePlace, regCount, offCount, recCount, pendingUser, pendingFirst, pendingLast, sectionPlace, sparePlace, regsPlace, offsPlace, recsPlace, regLength, offLength, recLength, recPlace}
 
 -- ---- editions and places
 
@@ -72,13 +73,13 @@ pendingOrZeros none = record { user = 0; first = 0; last = 0 }
 pendingOrZeros (some q) = q
 
 -- The first sixteen places of a point: MIRN, kind, install, base load, how many registrations, off spans and records,
--- pending User, first, last, zeros.
+-- pending User, first, last, section, zeros.
 unfoldable pub headNumbers : Lists → List ℤ
 headNumbers q =
     pos (q .facts .mirn) ∷ pos (q .facts .kind) ∷ pos (q .facts .install) ∷ pos (q .facts .base)
     ∷ pos (length (q .regs)) ∷ pos (length (q .offs)) ∷ pos (length (q .recs))
     ∷ pos (pendingOrZeros (q .pending) .user) ∷ pos (pendingOrZeros (q .pending) .first)
-    ∷ pos (pendingOrZeros (q .pending) .last)
+    ∷ pos (pendingOrZeros (q .pending) .last) ∷ pos (q .facts .section)
     ∷ replicate (regsPlace - sparePlace) (pos 0)
 
 -- Then registrations, off spans and records.
@@ -136,6 +137,7 @@ factsAt p =
       kind = numAt p kindPlace;
       install = numAt p installPlace;
       base = numAt p basePlace;
+      section = numAt p sectionPlace;
     }
 
 unfoldable pub pointFrom : List ℤ → Lists

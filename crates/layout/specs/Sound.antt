@@ -10,7 +10,8 @@ use Rattle.numbers.specs.Rows.{all}
 use Rattle.numbers.specs.Search.{maybe}
 use Rattle.calendar.specs.Calendar.{within}
 use Rattle.daybook.specs.declared.Edition.{Edition}
-use Rattle.daybook.specs.Book.{Entry, Pending, Facts, lastOf, appendDay}
+use Rattle.daybook.specs.declared.Facts.{Facts}
+use Rattle.daybook.specs.Book.{Entry, Pending, lastOf, appendDay}
 use Rattle.daybook.specs.Notices.{fitsKind, isRange, offWithin}
 use Rattle.lists.specs.Lists.{Lists, pointOf}
 use Rattle.layout.specs.Places.{pointsPlace, nondailyPlace, dailyPlace, headerSpare, headerLength, regCount, offCount, recCount, pendingUser, pendingEnd, sparePlace, regsPlace, offsPlace, recsPlace, recLength, regPlace, offPlace, recPlace}
@@ -29,6 +30,7 @@ neighbours test (x ∷ y ∷ l) = test x y && neighbours test (y ∷ l)
 unfoldable pub factsSound : Facts → Bool
 factsSound f =
     leb 1 (f .mirn) && leb (f .mirn) 9999999999 && leb (f .kind) 1 && leb (f .install) 39999 && leb (f .base) 10000
+    && leb (f .section) 1
 
 abbrev pub startsOn : ℕ → List (ℕ × ℕ) → Bool
 startsOn install [] = true

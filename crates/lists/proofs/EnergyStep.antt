@@ -17,7 +17,7 @@ use Rattle.calendar.specs.Calendar.{within, isDay}
 use Rattle.daybook.specs.declared.EnergyNotice.{EnergyNotice}
 use Rattle.daybook.specs.declared.Edition.{Edition}
 use Rattle.daybook.specs.Book.{Entry, Pending, days, fill, withEntries, withFro, withPending, records, latest, appendDay}
-use Rattle.daybook.specs.Notices.{least, isMirn, isFlag, Which, append, replacement, recut, whichNumber, which, entryOf, energyEarly, energyRows, energyRowsAt, fitsKind, kept, removed, Outcome, registers, lapses, stays, outcomeOf, outcomeNumbers, settled, entered, enter, energy}
+use Rattle.daybook.specs.Notices.{least, isMirn, isFlag, Which, append, replacement, recut, whichNumber, which, entryOf, energyEarly, energyRows, energyRowsAt, fitsKind, kept, removed, Outcome, registers, lapses, stays, typeRegisters, appendRegisters, outcomeOf, outcomeNumbers, settled, entered, enter, energy}
 use Rattle.lists.specs.Lists.{Lists, Register, offOn, entryOn, userOn, pointOf, bookOf}
 use Rattle.lists.specs.InnerSteps.{latestOf, whichIn, appendDayOf, recsAfter, userFrom, regsAfter, pendingAfter, enteredLists, enterLists, energyListsRows, energyLists}
 use Rattle.lists.specs.InnerWell.{Regs, StartsOn, PendingOk, nopending, pending, Well, WellFormed, MayEnter}
@@ -113,8 +113,8 @@ module _ {room : ℕ} {q : Lists} (ok : Well room q) where
   enter-is : (x : Entry) → MayEnter room x q → enter x (pointOf q) ≡ (enterLists x q .0, pointOf (enterLists x q .1))
   unfolding enter enterLists whichIn appendDayOf pointOf
   enter-is x may =
-      ap (λ w. entered x w (outcomeOf w x (latest (pointOf q) .0) (q .pending)) (pointOf q)) (which-is ok x)
-      ∙ ap (λ l. entered x (whichIn q x) (outcomeOf (whichIn q x) x (l .0) (q .pending)) (pointOf q)) (latest-is ok)
+      ap (λ w. entered x w (outcomeOf w (q .facts .section) x (latest (pointOf q) .0) (q .pending)) (pointOf q)) (which-is ok x)
+      ∙ ap (λ l. entered x (whichIn q x) (outcomeOf (whichIn q x) (q .facts .section) x (l .0) (q .pending)) (pointOf q)) (latest-is ok)
       ∙ entered-is x (whichIn q x) _ (entries-after (ok .recsOk) x (whichIn q x) refl (λ a. skip-ge (q .offs) _ (x .start) (may .next a)))
 
 -- An energy notice on the book's days is the notice on the lists.
@@ -134,12 +134,19 @@ record Settled (install : ℕ) (regs : List (ℕ × ℕ)) (o : Option Pending) :
   pub regsFew : length regs ≤ 8
   pub pendingOk : PendingOk regs o
 
+-- an append that registers ends on the latest registration's start or after it
+registers-after : (section : ℕ) (x : Entry) (s : ℕ) (q : Pending) → appendRegisters section x s q ≡ true → s < suc (x .end)
+registers-after section x s q e =
+    let inside : Bool = leb (q .first) (x .end) && leb (x .end) (q .last) in
+    let after : Bool = ltb s (suc (x .end)) in
+    ltb-true s (suc (x .end)) (both inside after (both (inside && after) (typeRegisters section (x .type)) e .0) .1)
+
 -- whatever the request comes to leaves them so
-settled-keeps : {install : ℕ} {regs : List (ℕ × ℕ)} {o : Option Pending} → Settled install regs o → (w : Which) (x : Entry) → x .end ≤ 39999
-    → Settled install (regsAfter (outcomeOf w x (latestOf regs .0) o) (x .end) regs) (pendingAfter (outcomeOf w x (latestOf regs .0) o) o)
-settled-keeps ok replacement x h = ok
-settled-keeps ok recut x h = ok
-settled-keeps {install} {regs} {o} ok append x h = go o (ok .pendingOk)
+settled-keeps : {install : ℕ} {regs : List (ℕ × ℕ)} {o : Option Pending} → Settled install regs o → (w : Which) (section : ℕ) (x : Entry) → x .end ≤ 39999
+    → Settled install (regsAfter (outcomeOf w section x (latestOf regs .0) o) (x .end) regs) (pendingAfter (outcomeOf w section x (latestOf regs .0) o) o)
+settled-keeps ok replacement section x h = ok
+settled-keeps ok recut section x h = ok
+settled-keeps {install} {regs} {o} ok append section x h = go o (ok .pendingOk)
   where
     norequest : Settled install regs none
     norequest = record { regsOk = ok .regsOk; regsStart = ok .regsStart; regsFew = ok .regsFew; pendingOk = nopending }
@@ -161,16 +168,16 @@ settled-keeps {install} {regs} {o} ok append x h = go o (ok .pendingOk)
         }
 
     go : (o : Option Pending) → PendingOk regs o
-        → Settled install (regsAfter (outcomeOf append x (latestOf regs .0) o) (x .end) regs) (pendingAfter (outcomeOf append x (latestOf regs .0) o) o)
+        → Settled install (regsAfter (outcomeOf append section x (latestOf regs .0) o) (x .end) regs) (pendingAfter (outcomeOf append section x (latestOf regs .0) o) o)
     go none p = norequest
-    go (some r) (pending a b c d e f) = by (leb (r .first) (x .end) && leb (x .end) (r .last)) (ltb (latestOf regs .0) (suc (x .end))) refl
+    go (some r) (pending a b c d e f) =
+        by (appendRegisters section x (latestOf regs .0) r) (registers-after section x (latestOf regs .0) r)
       where
-        by : (s t : Bool) → ltb (latestOf regs .0) (suc (x .end)) ≡ t
-            → Settled install (regsAfter (cond (s && t) (registers (r .user)) (cond (ltb (r .last) (x .end)) lapses stays)) (x .end) regs)
-            (pendingAfter (cond (s && t) (registers (r .user)) (cond (ltb (r .last) (x .end)) lapses stays)) (some r))
-        by true true g = registered (r .user) a b c f (ltb-true _ _ g)
-        by true false g = waits (ltb (r .last) (x .end)) (pending a b c d e f)
-        by false t g = waits (ltb (r .last) (x .end)) (pending a b c d e f)
+        by : (t : Bool) → (t ≡ true → latestOf regs .0 < suc (x .end))
+            → Settled install (regsAfter (cond t (registers (r .user)) (cond (ltb (r .last) (x .end)) lapses stays)) (x .end) regs)
+            (pendingAfter (cond t (registers (r .user)) (cond (ltb (r .last) (x .end)) lapses stays)) (some r))
+        by true g = registered (r .user) a b c f (g refl)
+        by false g = waits (ltb (r .last) (x .end)) (pending a b c d e f)
 
 -- An entry that may go onto the point leaves it well-formed.
 pub enter-keeps : {room : ℕ} {q : Lists} → Well room q → (x : Entry) → MayEnter room x q → Well room (enterLists x q .1)
@@ -191,7 +198,7 @@ enter-keeps {q = q} ok x may =
     after : Settled (q .facts .install) (enterLists x q .1 .regs) (enterLists x q .1 .pending)
     after =
         settled-keeps (record { regsOk = ok .regsOk; regsStart = ok .regsStart; regsFew = ok .regsFew; pendingOk = ok .pendingOk })
-        (whichIn q x) x (may .endOk)
+        (whichIn q x) (q .facts .section) x (may .endOk)
 
     on : (d : ℕ) → x .start ≤ d → d ≤ x .end → offOn (q .offs) d ≡ false
     on =

@@ -73,6 +73,7 @@ pub record OpenClear (ed : Edition) (n : Opening) (known : Bool) (count : ℕ) :
   pub userHigh : natOf (n .user) ≤ 16
   pub installOk : natOf (n .install) ≤ 39999
   pub baseOk : within (negsuc 0) (pos 10000) (n .base) ≡ true
+  pub sectionOk : natOf (n .section) ≤ 1
   pub new : known ≡ false
   pub room : count < ed .points
 
@@ -83,7 +84,8 @@ open-clear ed n known count z =
     let two = least-none 1 _ _ z in
     let five = least-none 4 known _ (two .1) in
     let sixteen = least-none 15 _ [] (five .1) in
-    let base = both-hold _ _ (two .0) in
+    let section = both-hold _ _ (two .0) in
+    let base = both _ _ (section .0) in
     let install = both _ _ (base .0) in
     let user = both _ _ (install .0) in
     let kind = both _ _ (user .0) in
@@ -97,6 +99,7 @@ open-clear ed n known count z =
       userHigh = u .1;
       installOk = within-bounds 0 39999 (n .install) (install .1) .1;
       baseOk = base .1;
+      sectionOk = within-bounds 0 1 (n .section) (section .1) .1;
       new = five .0;
       room = leb-false (ed .points) count (sixteen .0);
     }
@@ -116,6 +119,7 @@ facts-ok {n = n} clear =
       kindOk = clear .kindOk;
       installOk = clear .installOk;
       baseOk = base-bound (n .base) (clear .baseOk);
+      sectionOk = clear .sectionOk;
     }
 
 -- The point of the new lists is the book's new point.

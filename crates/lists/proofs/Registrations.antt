@@ -232,6 +232,17 @@ unfolding lastOf
 last-after x noreg = omega arith
 last-after x (reg {x = y} {l = l} a b c e n r) = let h : y .0 ≤ lastFrom y l .0 = last-after y r in omega arith
 
+-- From the last start on its User is the User of each day.
+user-last : {v lo : ℕ} {l : List (ℕ × ℕ)} (x : ℕ × ℕ) → Regs v lo l → (d : ℕ) → lastFrom x l .0 ≤ d → userOn (x .1) l d ≡ lastFrom x l .1
+unfolding userOn lastOf
+user-last x noreg d h = refl
+user-last x (reg {x = y} {l = l} a b c e n r) d h =
+    let k : y .0 ≤ lastFrom y l .0 = last-after y r in user-since (x .1) y l d (omega arith) ∙ user-last y r d h
+
+pub user-latest : {lo : ℕ} {l : List (ℕ × ℕ)} → Regs 0 lo l → (d : ℕ) → latestOf l .0 ≤ d → userOn 0 l d ≡ latestOf l .1
+unfolding latestOf
+user-latest r d h = user-last (0, 0) r d h
+
 -- Before a day after the last start stand all of them.
 earlier-all : {v lo : ℕ} {l : List (ℕ × ℕ)} (x : ℕ × ℕ) → Regs v lo l → (d : ℕ) → lastFrom x l .0 < d → earlier start d l ≡ l
 unfolding earlier lastOf

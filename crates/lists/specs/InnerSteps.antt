@@ -154,7 +154,7 @@ enteredLists x w o q =
 
 unfoldable pub enterLists : Entry → Lists → Numbers × Lists
 enterLists x q =
-    let w : Which = whichIn q x in enteredLists x w (outcomeOf w x (latestOf (q .regs) .0) (q .pending)) q
+    let w : Which = whichIn q x in enteredLists x w (outcomeOf w (q .facts .section) x (latestOf (q .regs) .0) (q .pending)) q
 
 unfoldable pub energyListsRows : Edition → EnergyNotice → Register → Lists → List Row
 energyListsRows ed n R q =

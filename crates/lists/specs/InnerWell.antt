@@ -9,7 +9,8 @@ use lib.ListN.{length}
 use lib.IntN.{pos, negsuc}
 use Rattle.calendar.specs.Calendar.{within}
 use Rattle.daybook.specs.declared.Edition.{Edition}
-use Rattle.daybook.specs.Book.{Entry, Pending, Facts}
+use Rattle.daybook.specs.declared.Facts.{Facts}
+use Rattle.daybook.specs.Book.{Entry, Pending}
 use Rattle.daybook.specs.Notices.{fitsKind, isRange, append}
 use Rattle.lists.specs.Lists.{Lists, Register, offOn}
 use Rattle.lists.specs.InnerSteps.{latestOf, skip, findLists, whichIn, appendDayOf, someOverlap}
@@ -58,6 +59,7 @@ pub record FactsOk (f : Facts) : Type 0 where
   pub kindOk : f .kind ≤ 1
   pub installOk : f .install ≤ 39999
   pub baseOk : f .base ≤ 10000
+  pub sectionOk : f .section ≤ 1
 
 -- A point of at most `room` records.
 pub record Well (room : ℕ) (q : Lists) : Type 0 where

@@ -5,7 +5,8 @@ use mathlib.Core.List.{List, [], _∷_, map}
 use Prim.Native.Nat.{ℕ}
 use lib.Dec.{leb, ltb}
 use lib.IntN.{ℤ}
-use Rattle.daybook.specs.Book.{Entry, Pending, Facts, Point, Book, fill}
+use Rattle.daybook.specs.declared.Facts.{Facts}
+use Rattle.daybook.specs.Book.{Entry, Pending, Point, Book, fill}
 
 -- A registration is (start, User), an off span (off day, on day) with none while it is still off.
 pub record Lists : Type 0 where

@@ -1,5 +1,5 @@
 -- The numbers of an opening, as the code reads and writes them. Assumes nothing.
-use mathlib.Core.Path.{_≡_, refl, ap, _∙_}
+use mathlib.Core.Path.{_≡_, refl, ap, ap₂, _∙_}
 use mathlib.Core.Bool.{true, false, cond}
 use mathlib.Core.List.{List}
 use Prim.Native.Nat.{ℕ, _+_}
@@ -15,8 +15,9 @@ use Rattle.numbers.specs.Naturals.{natOf}
 use Rattle.numbers.proofs.Naturals.{rd, natural-read}
 use Rattle.daybook.specs.declared.Edition.{Edition}
 use Rattle.daybook.specs.declared.Opening.{Opening}
+use Rattle.daybook.specs.declared.Facts.{Facts}
 use Rattle.daybook.specs.Notices.{factsOf}
-use Rattle.layout.specs.Layout.{placeOf, Fits}
+use Rattle.layout.specs.Layout.{placeOf, Fits, partOf}
 use Rattle.layout.specs.InnerWrites.{withPart, openPoint, appendPoint}
 use Rattle.table.proofs.Laws.{part-is, part-put, lent, backIn}
 
@@ -42,12 +43,10 @@ module _ (n : Opening) (f : SFits w64 (n .base)) where
 -- ---- the new point's part, lent and put back, and the count
 
 pub append-is : (ed : Edition) → Fits ed → (t : List ℤ) (i a b : ℕ) → a ≡ placeOf ed i → b ≡ placeOf ed (i + 1) → (n : Opening)
-    → {p : List ℤ} {mirn kind user install base : ℕ} → mirn ≡ natOf (n .mirn) → kind ≡ natOf (n .kind) → user ≡ natOf (n .user) → install ≡ natOf (n .install) → base ≡ factsOf n .base
-    → p ≡ openPoint (lent t a b) (record { mirn = mirn; kind = kind; install = install; base = base }) user
+    → {p : List ℤ} {facts : Facts} {user : ℕ} → facts ≡ factsOf n → user ≡ natOf (n .user) → p ≡ openPoint (lent t a b) facts user
     → set (backIn t a b p) 0 (pos (i + 1)) ≡ appendPoint ed t i (factsOf n) (natOf (n .user))
-unfolding appendPoint factsOf
-append-is ed fits t i a b f g n {p} {mirn} {kind} {user} {install} {base} m k u d x e =
+unfolding appendPoint
+append-is ed fits t i a b f g n {p} {facts} {user} x u e =
     ap (λ l. set l 0 (pos (i + 1)))
     (part-put ed fits t i a b f g p
-    ∙ ap (withPart ed t i)
-    (e ∙ ap (λ l. openPoint l (record { mirn = mirn; kind = kind; install = install; base = base }) user) (part-is ed fits t i a b f g) ∙ rw (m, k, u, d, x)))
+    ∙ ap (withPart ed t i) (e ∙ ap (λ l. openPoint l facts user) (part-is ed fits t i a b f g) ∙ ap₂ (openPoint (partOf ed t i)) x u))

@@ -34,7 +34,7 @@ use Rattle.opening.specs.Opening.{openCall}
 
 -- are all numbers of an opening in range?
 abbrev pub ranged : Opening → Bool
-ranged n = isMirn (n .mirn) && isFlag (n .kind) && isUser (n .user) && isDay (n .install) && within (negsuc 0) (pos 10000) (n .base)
+ranged n = isMirn (n .mirn) && isFlag (n .kind) && isUser (n .user) && isDay (n .install) && within (negsuc 0) (pos 10000) (n .base) && within (pos 0) (pos 1) (n .section)
 
 module _ (ed : Edition) (t : List ℤ) (g : ed ≡ editionOf t) (n : Opening) where
   here : openCall t n ≡ onEdition 0 (opening ed n) ed t

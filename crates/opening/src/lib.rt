@@ -9,10 +9,12 @@ ghost use Rattle.numbers.specs.Answers.{refused};
 ghost use Rattle.calendar.specs.Calendar.{within, isDay};
 ghost use Rattle.daybook.specs.Notices.{isMirn, isFlag, isUser, factsOf};
 ghost use Rattle.daybook.specs.Calls.{noticeNumbers, noticeRefused};
+ghost use Rattle.lists.specs.InnerWell.{FactsOk};
 ghost use Rattle.layout.specs.Layout.{tableLength, Fits};
 ghost use Rattle.layout.specs.InnerWrites.{appendPoint};
 ghost use Rattle.opening.specs.Opening.{freshCall, openCall};
 use daybook::Edition;
+use daybook::Facts;
 use daybook::NoticeAnswer;
 use daybook::Opening;
 use daybook::Ranges;
@@ -37,13 +39,14 @@ pub fn fresh(t: &mut [i64], n: Ranges) -> NoticeAnswer
 
 // Row 2 of an opening: are all its numbers in range?
 fn in_range(n: Opening) -> bool
-    ensures { λ r. ⌜ r ≡ (isMirn (n .mirn) && isFlag (n .kind) && isUser (n .user) && isDay (n .install) && within (negsuc 0) (pos 10000) (n .base)) ⌝ }
+    ensures { λ r. ⌜ r ≡ (isMirn (n .mirn) && isFlag (n .kind) && isUser (n .user) && isDay (n .install) && within (negsuc 0) (pos 10000) (n .base) && within (pos 0) (pos 1) (n .section)) ⌝ }
 {
     daybook::is_mirn(n.mirn)
         & daybook::is_flag(n.kind)
         & daybook::is_user(n.user)
         & calendar::is_day(n.install)
         & ((-1 <= n.base) & (n.base <= 10000))
+        & ((0 <= n.section) & (n.section <= 1))
 }
 
 // -1 stands for 1,000 (8.11.5).
@@ -57,23 +60,33 @@ fn base_load(n: Opening) -> u64
     numbers::natural(b)
 }
 
+fn facts_of(n: Opening) -> Facts
+    ensures { λ r. ⌜ r ≡ factsOf n ⌝ }
+{
+    let mirn = n.mirn;
+    let kind = n.kind;
+    let install = n.install;
+    let section = n.section;
+    Facts {
+        mirn: numbers::natural(mirn),
+        kind: numbers::natural(kind),
+        install: numbers::natural(install),
+        base: base_load(n),
+        section: numbers::natural(section),
+    }
+}
+
 // Point i, behind the others, and i + 1 points.
 fn append_point(t: &mut [i64], ed: Edition, i: usize, n: Opening)
-    requires { ⌜ Fits ed × (i < ed .points) × (tableLength ≤ length (now t)) × (natOf (n .mirn) < 2 ^ 63) × (natOf (n .kind) < 2 ^ 63) × (natOf (n .user) < 2 ^ 63) × (natOf (n .install) < 2 ^ 63) × (factsOf n .base < 2 ^ 63) ⌝ }
+    requires { ⌜ Fits ed × (i < ed .points) × (tableLength ≤ length (now t)) × FactsOk (factsOf n) × (natOf (n .user) < 2 ^ 63) ⌝ }
     ensures { λ _. ⌜ now (t .exit) ≡ appendPoint ed (now (t .entry)) i (factsOf n) (natOf (n .user)) ⌝ }
 {
-    let m = n.mirn;
-    let k = n.kind;
     let u = n.user;
-    let d = n.install;
-    let mirn = numbers::natural(m);
-    let kind = numbers::natural(k);
     let user = numbers::natural(u);
-    let install = numbers::natural(d);
-    let base = base_load(n);
+    let f = facts_of(n);
     let a = table::place(ed, i);
     let b = table::place(ed, i + 1);
-    rows::open_point(&mut t[a..b], mirn, kind, install, base, user);
+    rows::open_point(&mut t[a..b], f, user);
     numbers::put(t, places::POINTS, i as u64 + 1);
 }
 

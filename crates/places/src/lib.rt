@@ -5,7 +5,7 @@ ghost use Prim.Native.Nat.{_+_, _<_, _≤_, _^_};
 ghost use lib.IntN.{pos};
 ghost use lib.ListN.{length, getD};
 ghost use Rattle.numbers.specs.InnerEnergies.{biasOf};
-ghost use Rattle.layout.specs.Places.{pointsPlace, nondailyPlace, dailyPlace, headerLength, mirnPlace, kindPlace, installPlace, basePlace, regCount, offCount, recCount, pendingUser, pendingFirst, pendingLast, recsPlace, regPlace, offPlace, recPlace};
+ghost use Rattle.layout.specs.Places.{pointsPlace, nondailyPlace, dailyPlace, headerLength, mirnPlace, kindPlace, installPlace, basePlace, regCount, offCount, recCount, pendingUser, pendingFirst, pendingLast, sectionPlace, recsPlace, regPlace, offPlace, recPlace};
 ghost use Rattle.layout.specs.Layout.{numAt};
 
 pub const TABLE_LENGTH: usize = 7688;
@@ -21,7 +21,7 @@ pub const HEADER_SPARE: usize = 3;
 
 pub const HEADER_LENGTH: usize = 8;
 
-// A point's part: its facts, how many rows it has, a pending request; the places from SPARE on are 0.
+// A point's part: its facts, how many rows it has, a pending request, its section; the places from SPARE on are 0.
 pub const MIRN: usize = 0;
 
 pub const KIND: usize = 1;
@@ -44,7 +44,9 @@ pub const PENDING_LAST: usize = 9;
 
 pub const PENDING_END: usize = 10;
 
-pub const SPARE: usize = 10;
+pub const SECTION: usize = 10;
+
+pub const SPARE: usize = 11;
 
 // Then its registrations (start, User), off spans (off day, on day) and records (start, end, energy, type).
 pub const REGS: usize = 16;
@@ -107,6 +109,13 @@ pub fn base(p: &[i64]) -> u64
     ensures { λ r. ⌜ (r ≡ numAt (now (p .entry)) basePlace) × (r ≤ 2 ^ 63) ⌝ }
 {
     numbers::get(p, BASE)
+}
+
+pub fn section(p: &[i64]) -> u64
+    requires { ⌜ recsPlace ≤ length (now p) ⌝ }
+    ensures { λ r. ⌜ (r ≡ numAt (now (p .entry)) sectionPlace) × (r ≤ 2 ^ 63) ⌝ }
+{
+    numbers::get(p, SECTION)
 }
 
 // How many rows of each kind a part says that it has.

@@ -1,10 +1,12 @@
 // Row writers: each writes one row of a point's part p, with the count that it changes, and nothing else. A `requires`
 // here is met by every caller: a part is long enough, and counts and numbers have been tested.
+use daybook::Facts;
 ghost use mathlib.Core.Path.{_≡_};
 ghost use Prim.Native.Nat.{_+_, _<_, _≤_, _^_};
 ghost use lib.IntN.{pos, negsuc};
 ghost use lib.ListN.{length, set};
 ghost use Rattle.numbers.specs.InnerEnergies.{energyOf};
+ghost use Rattle.lists.specs.InnerWell.{FactsOk};
 ghost use Rattle.layout.specs.Places.{recsPlace, recPlace};
 ghost use Rattle.layout.specs.InnerWrites.{cleared, putRecord, appendRecord, cutRecords, appendRegistration, openSpan, closeSpan, setPending, clearPending, openPoint};
 ghost use Rattle.rows.specs.InnerRows.{recordOf};
@@ -122,11 +124,12 @@ pub fn clear_pending(p: &mut [i64])
 }
 
 // A point's facts and its first registration, in a part that holds zeros.
-pub fn open_point(p: &mut [i64], mirn: u64, kind: u64, install: u64, base: u64, user: u64)
-    requires { ⌜ (recsPlace ≤ length (now p)) × (mirn < 2 ^ 63) × (kind < 2 ^ 63) × (install < 2 ^ 63) × (base < 2 ^ 63) × (user < 2 ^ 63) ⌝ }
-    ensures { λ _. ⌜ now (p .exit) ≡ openPoint (now (p .entry)) (record { mirn = mirn; kind = kind; install = install; base = base }) user ⌝ }
+pub fn open_point(p: &mut [i64], f: Facts, user: u64)
+    requires { ⌜ (recsPlace ≤ length (now p)) × FactsOk f × (user < 2 ^ 63) ⌝ }
+    ensures { λ _. ⌜ now (p .exit) ≡ openPoint (now (p .entry)) f user ⌝ }
 {
-    put_pair(p, places::MIRN, mirn, kind);
-    put_pair(p, places::INSTALL, install, base);
-    append_registration(p, 0, install, user);
+    put_pair(p, places::MIRN, f.mirn, f.kind);
+    put_pair(p, places::INSTALL, f.install, f.base);
+    numbers::put(p, places::SECTION, f.section);
+    append_registration(p, 0, f.install, user);
 }

@@ -26,7 +26,11 @@ fn facts_sound(p: &[i64]) -> bool
 {
     let mirn = places::mirn(p);
     let numbered = (1 <= mirn) & (mirn <= 9999999999);
-    numbered & (places::kind(p) <= 1) & (places::install(p) <= 39999) & (places::base(p) <= 10000)
+    numbered
+        & (places::kind(p) <= 1)
+        & (places::install(p) <= 39999)
+        & (places::base(p) <= 10000)
+        & (places::section(p) <= 1)
 }
 
 // Spare places, unused rows and, without a pending User, the pending request.

@@ -105,7 +105,7 @@ append-point-requires c κs =
     let d = edition e .edition in
     let s = entry e .args in
     let k = clear _ (d .ensures .1) (s .t .now) (d .ensures .0) (s .n) (is-sound e) (is-ranged r) _ (index-is i) (g .before .before .if3 .left) (omega (arith, g .points .ensures .0)) in
-    (d .ensures .1, omega arith, sound-long _ (s .t .now) (is-sound e) .0, omega (arith, k .mirnHigh), omega (arith, k .kindOk), omega (arith, k .userHigh), omega (arith, k .installOk), omega (arith, facts-ok k .baseOk))
+    (d .ensures .1, omega arith, sound-long _ (s .t .now) (is-sound e) .0, facts-ok k, omega (arith, k .userHigh))
 
 returns-5 : tie.Need-returns-5
 returns-5 c =

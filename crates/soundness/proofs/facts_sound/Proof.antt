@@ -5,9 +5,13 @@ use Rattle.soundness.proofs.facts_sound.Tie as tie
 
 returns : tie.Need-returns
 unfolding factsSound
-returns c = rw (c .base .ensures .0, c .before .install .ensures .0, c .before .before .kind .ensures .0, c .before .before .before .mirn .ensures .0)
+returns c =
+    let b = c .before in
+    rw (c .section .ensures .0, b .base .ensures .0, b .before .install .ensures .0, b .before .before .kind .ensures .0, b .before .before .before .mirn .ensures .0)
 
 pub facts-sound-spec : {M : Type 1} → statement M
 facts-sound-spec =
     tie.close
-    (tie.spec (λ c κs. search needs) (λ c κs. search needs) (λ c κs. search needs) (λ c κs. search needs) returns)
+    (tie.spec
+    (λ c κs. search needs) (λ c κs. search needs) (λ c κs. search needs) (λ c κs. search needs) (λ c κs. search needs)
+    returns)
