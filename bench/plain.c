@@ -75,7 +75,7 @@ static bool facts_sound(const int64_t *p) {
     return within(p[MIRN], 1, MIRN_MOST) && within(p[KIND], 0, 1) && is_day(p[INSTALL]) &&
            within(p[BASE], 0, 10000) && within(p[REGISTRATION_COUNT], 1, REGISTRATIONS) &&
            within(p[SPAN_COUNT], 0, SPANS) && within(p[RECORD_COUNT], 0, RECORDS) &&
-           all_zero(p + SPARE, p + REGISTRATION_ROWS);
+           within(p[SECTION], 0, 1) && all_zero(p + SPARE, p + REGISTRATION_ROWS);
 }
 
 static bool registrations_sound(const int64_t *p) {
@@ -214,13 +214,14 @@ static int64_t refuse_record(const int64_t *table, const int64_t *p, int64_t row
     return 0;
 }
 
-/* A pending request after an append that ends on this day. */
-static void settle(int64_t *p, int64_t end, struct plain_energy *answer) {
+/* A pending request after an append that ends on this day. In section 1 only an actual reading
+   registers. */
+static void settle(int64_t *p, int64_t end, int64_t type, struct plain_energy *answer) {
     if (p[PENDING] == 0)
         return;
     if (within(end, p[FIRST], p[LAST])) {
         int64_t *next = p + REGISTRATION_ROWS + REGISTRATION_NUMBERS * p[REGISTRATION_COUNT];
-        if (end + 1 <= next[-2])
+        if (end + 1 <= next[-2] || (p[SECTION] == 1 && type != 0))
             return;
         next[0] = end + 1;
         next[1] = p[PENDING];
@@ -253,7 +254,7 @@ static struct plain_energy enter(int64_t *p, int64_t row, int64_t start, int64_t
     r[2] = energy;
     r[3] = type;
     if (answer.which == 1)
-        settle(p, end, &answer);
+        settle(p, end, type, &answer);
     return answer;
 }
 

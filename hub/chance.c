@@ -97,6 +97,7 @@ void choose_open(struct chance *c, int64_t *args) {
     args[2] = choose_user(c);
     args[3] = mostly(c, between(c, 0, 120));
     args[4] = mostly(c, between(c, -1, 10000));
+    args[5] = mostly(c, between(c, 0, 1));
 }
 
 void choose_energy_notice(struct chance *c, int64_t *args) {
@@ -219,8 +220,10 @@ void start_register(struct chance *c) {
         int64_t kind = between(c, 0, 1);
         int64_t user = between(c, 1, 16);
         int64_t install = between(c, 0, 60);
+        int64_t base = between(c, 0, 1);
+        int64_t section = between(c, 0, 1);
         petlumas_open(c->reg, PETLUMAS_REGISTER_BYTES, answer, sizeof answer, i, kind, user,
-                      install, between(c, 0, 1));
+                      install, base, section);
     }
     uint64_t ways = one_in(c, 2) ? 15 : 18;
     for (uint64_t count = below(c, 500); count > 0; count--)

@@ -39,6 +39,7 @@ enum {
     PENDING,
     FIRST,
     LAST,
+    SECTION,
     SPARE,
     REGISTRATION_ROWS = 16,
     SPAN_ROWS = 32,

@@ -38,8 +38,9 @@
  *
  * A day is 0 to 39,999, from 1 January 1970 to 7 July 2079. A MIRN is 1 to
  * 9,999,999,999, a User 1 to 16, a kind 0 (non-daily) or 1 (daily metered), a
- * type 0 (actual), 1 (estimated) or 2 (substituted), a yes 1 and a no 0. Energy
- * is in whole MJ, -1,000,000 to 1,000,000. Any other number gets its refusal.
+ * type 0 (actual), 1 (estimated) or 2 (substituted), a section 1 (Wagga Wagga
+ * and Tamworth) or 0 (the rest), a yes 1 and a no 0. Energy is in whole MJ,
+ * -1,000,000 to 1,000,000. Any other number gets its refusal.
  *
  * What the caller owes, since no proof can see it:
  *   - A pointer is not null and has as many bytes behind it as its length says.
@@ -87,15 +88,18 @@ int64_t petlumas_fresh(uint8_t *PETLUMAS_RESTRICT reg, size_t reg_len,
 /* Opens a point.
  * mirn, kind, user, install: the point, its User and its first day.
  * base: the base load, MJ for one day, 0 to 10,000, or -1 for 1,000.
+ * section: in section 1 a transfer is registered on an actual reading only.
  * Answer: no field.
  * Refusals: 1, 2, 5, 16. */
 int64_t petlumas_open(uint8_t *PETLUMAS_RESTRICT reg, size_t reg_len,
                       uint8_t *PETLUMAS_RESTRICT answer, size_t answer_len,
                       int64_t mirn, int64_t kind, int64_t user,
-                      int64_t install, int64_t base);
+                      int64_t install, int64_t base, int64_t section);
 
-/* Enters an energy record. An append settles a pending request by its end; a
- * replacement or a recut corrects the record and leaves the request.
+/* Enters an energy record. An append settles a pending request by its end: in
+ * the request's period it registers the User, in section 1 if its type is 0,
+ * and after it the request lapses. A replacement or a recut corrects the record
+ * and leaves the request.
  * mirn, start, end, energy, type: the record.
  * confirmed: yes lets an energy beyond the range pass.
  * Answer: which it was (1 append, 2 replacement, 3 recut), how many later
