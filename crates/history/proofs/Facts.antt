@@ -18,21 +18,21 @@ use Rattle.daybook.specs.Notices.{Row, least, Numbers, decide, find, put, withP
 use Rattle.daybook.specs.Calls.{Notice, fresh!, open!, energy!, status!, request!, withdraw!, noted}
 use Rattle.lists.proofs.Rows.{decide-keeps}
 
-abbrev factsAt : Point → Facts
-factsAt p = p .facts
+abbrev pointFacts : Point → Facts
+pointFacts p = p .facts
 
 -- The facts of all points, in order of opening.
 abbrev pub factsIn : Book → List Facts
-factsIn B = map factsAt (B .points)
+factsIn B = map pointFacts (B .points)
 
-put-facts : (m : ℕ) (p p′ : Point) (ps : List Point) → p′ .facts ≡ p .facts → find m ps ≡ some p → map factsAt (put m p′ ps) ≡ map factsAt ps
+put-facts : (m : ℕ) (p p′ : Point) (ps : List Point) → p′ .facts ≡ p .facts → find m ps ≡ some p → map pointFacts (put m p′ ps) ≡ map pointFacts ps
 unfolding find put
 put-facts m p p′ [] s e = refl
 put-facts m p p′ (x ∷ ps) s e = go (eqb m (x .facts .mirn)) e (put-facts m p p′ ps s)
   where
-    go : (b : Bool) → cond b (some x) (find m ps) ≡ some p → (find m ps ≡ some p → map factsAt (put m p′ ps) ≡ map factsAt ps)
-        → map factsAt (cond b (p′ ∷ ps) (x ∷ put m p′ ps)) ≡ x .facts ∷ map factsAt ps
-    go true e ih = ap (λ f. f ∷ map factsAt ps) (s ∙ sym (ap factsAt (Option·some-injective x p e)))
+    go : (b : Bool) → cond b (some x) (find m ps) ≡ some p → (find m ps ≡ some p → map pointFacts (put m p′ ps) ≡ map pointFacts ps)
+        → map pointFacts (cond b (p′ ∷ ps) (x ∷ put m p′ ps)) ≡ x .facts ∷ map pointFacts ps
+    go true e ih = ap (λ f. f ∷ map pointFacts ps) (s ∙ sym (ap pointFacts (Option·some-injective x p e)))
     go false e ih = ap (λ l. x .facts ∷ l) (ih e)
 
 -- a call on a point leaves them where its effect leaves the point's
@@ -63,7 +63,7 @@ pub facts-after : (P : List Facts → Type 0) (c : Notice) (ed : Edition) (B : B
 unfolding noted fresh opening energy enter status switched withOff request withdraw withPending opened
 facts-after P (fresh! n) ed B empty now more = decide-keeps 0 B _ (λ C. P (factsIn C)) _ now (λ z. empty)
 facts-after P (open! n) ed B empty now more =
-    decide-keeps 0 B _ (λ C. P (factsIn C)) _ now (λ z. subst P (sym (map-append factsAt (B .points) (opened n ∷ []))) (more n refl z))
+    decide-keeps 0 B _ (λ C. P (factsIn C)) _ now (λ z. subst P (sym (map-append pointFacts (B .points) (opened n ∷ []))) (more n refl z))
 facts-after P (energy! n) ed B empty now more = subst P (sym (on-point-facts _ _ _ _ _ (λ p. entered-facts _ _ _ p) B)) now
 facts-after P (status! n) ed B empty now more = subst P (sym (on-point-facts _ _ _ _ _ (λ p. refl) B)) now
 facts-after P (request! n holidays) ed B empty now more = subst P (sym (on-point-facts _ _ _ _ _ (λ p. refl) B)) now

@@ -28,7 +28,7 @@ use Rattle.layout.proofs.Mirns.{each-point}
 use Rattle.energy.specs.Energy.{energyCall}
 use Rattle.history.specs.Runs.{Lent, noticeCall, lentStep}
 use Rattle.history.specs.OtherRules.{enterBy, energyCallBy, noticeCallBy, lentStepBy}
-use Rattle.history.specs.Sections.{unusedZeroBefore, factsSoundBefore, partSoundBefore, soundBefore, noSection, inSection0, OlderRegisters}
+use Rattle.history.specs.Sections.{unusedZeroBefore, factsSoundBefore, partSoundBefore, soundBefore, noSection, wasSound, inSection0, OlderRegisters}
 use Rattle.history.proofs.Steps.{step-agrees, state-is, own-sound}
 use Rattle.history.proofs.EnergyBooks.{stepBy, found, row, now-is, by-is}
 use Rattle.history.proofs.Facts.{factsIn, facts-after}
@@ -120,7 +120,7 @@ step-same n B (some p) row h =
     let x : Entry = entryOf n in
     ap (λ c. stepBy n B (λ p. entered x (which p x) (outcomeOf (which p x) c x (latest p .0) (p .pending)) p) (some p) row) (h p refl)
 
-module _ (t : List ℤ) (old : soundBefore (editionOf t) t ≡ true) where
+module _ (t : List ℤ) (old : wasSound t ≡ true) where
   abbrev ed : Edition
   ed = editionOf t
 
@@ -142,7 +142,7 @@ module _ (t : List ℤ) (old : soundBefore (editionOf t) t ≡ true) where
   notice-same (request! n holidays) = refl
   notice-same (withdraw! n) = refl
 
-call-same : (L : Lent) (c : Call) → soundBefore (editionOf (L .table)) (L .table) ≡ true → lentStep c L ≡ lentStepBy noSection c L
+call-same : (L : Lent) (c : Call) → wasSound (L .table) ≡ true → lentStep c L ≡ lentStepBy noSection c L
 unfolding lentStep lentStepBy
 call-same L (notice! c) old = ap (λ (w : Numbers × List ℤ). ((w .0, []), record { table = w .1 })) (notice-same (L .table) old c)
 call-same L (query! q) old = refl
@@ -160,8 +160,8 @@ stays-in-0 c ed B h s =
     ∙ facts-after (λ fs. each section0 fs ≡ true) c ed B refl (each-map (λ (p : Point). p .facts) section0 (B .points) ∙ s) (λ n e z.
     each-append section0 (factsIn B) (factsOf n ∷ []) (each-map (λ (p : Point). p .facts) section0 (B .points) ∙ s) (ap (λ z. eqb (natOf z) 0 && true) (h n e)))
 
-runs-on : (L : Lent) (c : Call) → soundBefore (editionOf (L .table)) (L .table) ≡ true → ((n : Opening) → c ≡ notice! (open! n) → n .section ≡ pos 0)
-    → soundBefore (editionOf (lentStep c L .1 .table)) (lentStep c L .1 .table) ≡ true
+runs-on : (L : Lent) (c : Call) → wasSound (L .table) ≡ true → ((n : Opening) → c ≡ notice! (open! n) → n .section ≡ pos 0)
+    → wasSound (lentStep c L .1 .table) ≡ true
 unfolding lentStep step
 runs-on L (query! q) old h = old
 runs-on L (notice! c) old h =

@@ -1,5 +1,5 @@
--- Calls by another rule of what a pending request comes to. A request of document 02 that changed the rule has a theorem
--- which compares calls by the rule as it was with calls as they are.
+-- Calls by another rule of what a pending request comes to. A request of document 02 that changed the rule has a
+-- theorem which compares calls by the rule as it was with calls as they are.
 use mathlib.Core.Option.{Option}
 use mathlib.Core.List.{List, []}
 use Prim.Native.Nat.{ℕ}

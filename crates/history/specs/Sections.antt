@@ -41,8 +41,8 @@ partSoundBefore p =
 
 unfoldable pub soundBefore : Edition → List ℤ → Bool
 soundBefore ed t =
-    leb tableLength (length t) && leb (numAt t 0) (ed .points) && isRange (getD t 1 (pos 0)) && isRange (getD t 2 (pos 0))
-    && zeros t 3 8
+    leb tableLength (length t) && leb (numAt t 0) (ed .points)
+    && isRange (getD t 1 (pos 0)) && isRange (getD t 2 (pos 0)) && zeros t 3 8
     && all (λ i. partSoundBefore (partOf ed t i)) (numAt t 0)
     && mirnsDiffer (pointsFrom ed (numAt t 0) (drop 8 t))
     && zeros t (placeOf ed (numAt t 0)) tableLength
@@ -51,6 +51,10 @@ soundBefore ed t =
 abbrev pub noSection : Rule
 noSection w section x latestStart o = outcomeOf w 0 x latestStart o
 
+-- Was a table sound, in its edition?
+abbrev pub wasSound : List ℤ → Bool
+wasSound t = soundBefore (editionOf t) t
+
 -- ---- what is claimed
 
 -- All points are in section 0.
@@ -58,14 +62,12 @@ abbrev pub inSection0 : Book → Bool
 inSection0 B = each (λ (p : Point). eqb (p .facts .section) 0) (B .points)
 
 -- The registers that were sound before are the sound ones with all points in section 0. Such a one runs on: each call
--- answers what it did and leaves what it left, and unless it opens a point in section 1, it leaves such a register again.
--- (Before, a call tested soundness as it was, which holds here. Open, which has a sixth number now, is as it is now.)
+-- answers what it did and leaves what it left, and unless it opens a point in section 1, it leaves such a register
+-- again. (Before, a call tested soundness as it was, which holds here. Open, which has a sixth number now, is as it is
+-- now.)
 pub record OlderRegisters : Type 0 where
-  pub soundNow :
-      (t : List ℤ) → soundBefore (editionOf t) t ≡ (sound (editionOf t) t && inSection0 (tableBook (editionOf t) t))
-  pub asBefore :
-      (L : Lent) (c : Call) → soundBefore (editionOf (L .table)) (L .table) ≡ true → lentStep c L ≡ lentStepBy noSection c L
+  pub soundNow : (t : List ℤ) → wasSound t ≡ (sound (editionOf t) t && inSection0 (tableBook (editionOf t) t))
+  pub asBefore : (L : Lent) (c : Call) → wasSound (L .table) ≡ true → lentStep c L ≡ lentStepBy noSection c L
   pub runsOn :
-      (L : Lent) (c : Call) → soundBefore (editionOf (L .table)) (L .table) ≡ true
-      → ((n : Opening) → c ≡ notice! (open! n) → n .section ≡ pos 0)
-      → let t : List ℤ = lentStep c L .1 .table in soundBefore (editionOf t) t ≡ true
+      (L : Lent) (c : Call) → wasSound (L .table) ≡ true → ((n : Opening) → c ≡ notice! (open! n) → n .section ≡ pos 0)
+      → wasSound (lentStep c L .1 .table) ≡ true
