@@ -97,9 +97,9 @@ int64_t petlumas_open(uint8_t *PETLUMAS_RESTRICT reg, size_t reg_len,
                       int64_t install, int64_t base, int64_t section);
 
 /* Enters an energy record. An append settles a pending request by its end: in
- * the request's period it registers the User, in section 1 if its type is 0,
- * and after it the request lapses. A replacement or a recut corrects the record
- * and leaves the request.
+ * the request's period it registers the User, in section 1 only if its type is
+ * 0, and after it the request lapses. A replacement or a recut corrects the
+ * record and leaves the request.
  * mirn, start, end, energy, type: the record.
  * confirmed: yes lets an energy beyond the range pass.
  * Answer: which it was (1 append, 2 replacement, 3 recut), how many later

@@ -1,6 +1,6 @@
 -- What a pending request comes to, on a part: the row writers leave what the lists' step says. Assumes nothing.
 use mathlib.Core.Path.{_≡_, refl, sym, _∙_, ap, ap₂, subst}
-use mathlib.Core.Bool.{Bool, true, false, not, _&&_, cond}
+use mathlib.Core.Bool.{Bool, true, false, not, _&&_, _||_, cond}
 use mathlib.Core.Option.{Option, some}
 use mathlib.Core.List.{List, [], _∷_, _++_}
 use Prim.Native.Nat.{ℕ, suc, _+_, _-_, _*_, _≤_, _<_}
@@ -9,11 +9,11 @@ use native.Mathlib.Numerals.{add-one}
 use lib.Dec.{leb, ltb, eqb}
 use lib.ListN.{length, getD}
 use lib.IntN.{ℤ}
-use borrow.Author.Tests.{ne-eqb, ltb-true}
+use borrow.Author.Tests.{ne-eqb, ltb-true, leb-true, leb-false, le-ltb, lt-ltb}
 use Rattle.numbers.specs.Search.{maybe}
 use Rattle.numbers.proofs.Bools.{both}
 use Rattle.daybook.specs.Book.{Entry, Pending}
-use Rattle.daybook.specs.Notices.{append, Outcome, registers, lapses, stays, typeRegisters, outcomeOf, outcomeNumbers}
+use Rattle.daybook.specs.Notices.{append, Outcome, registers, lapses, stays, typeRegisters, appendRegisters, outcomeOf, outcomeNumbers}
 use Rattle.lists.specs.Lists.{Lists}
 use Rattle.lists.specs.InnerSteps.{latestOf, userFrom, withPendingLists}
 use Rattle.lists.specs.InnerWell.{PendingOk, nopending, pending}
@@ -39,20 +39,30 @@ latest-at l k e = ap (maybe (0, 0) (λ x. x)) (last-at noReg l k e)
 
 -- ---- what the code tests
 
--- does it register, does it lapse?
+-- does it register, does it stay?
 abbrev registersIf : ℕ → ℕ → ℕ → ℕ → ℕ → Bool → Bool
 registersIf user first last latest end actual =
     not (eqb user 0) && leb first end && leb end last && ltb latest (end + 1) && actual
 
-abbrev lapsesIf : ℕ → ℕ → ℕ → Bool
-lapsesIf user last end = not (eqb user 0) && ltb last end
+abbrev staysIf : ℕ → ℕ → ℕ → Bool
+staysIf user last end = eqb user 0 || leb end last
+
+-- past the last day, or not
+late : (last end : ℕ) → cond (ltb last end) lapses stays ≡ cond (leb end last) stays lapses
+late last end = go (leb end last) refl
+  where
+    go : (b : Bool) → leb end last ≡ b → cond (ltb last end) lapses stays ≡ cond b stays lapses
+    go true h = rw (le-ltb last end (leb-true end last h))
+    go false h = rw (lt-ltb last end (leb-false end last h))
 
 outcome-by : {regs : List (ℕ × ℕ)} {o : Option Pending} → PendingOk regs o → (section : ℕ) (x : Entry) (latest : ℕ)
     → outcomeOf append section x latest o
     ≡ cond (registersIf (pendingOrZeros o .user) (pendingOrZeros o .first) (pendingOrZeros o .last) latest (x .end) (typeRegisters section (x .type)))
-    (registers (pendingOrZeros o .user)) (cond (lapsesIf (pendingOrZeros o .user) (pendingOrZeros o .last) (x .end)) lapses stays)
+    (registers (pendingOrZeros o .user)) (cond (staysIf (pendingOrZeros o .user) (pendingOrZeros o .last) (x .end)) stays lapses)
 outcome-by nopending section x latest = refl
-outcome-by (pending {q = r} a b c d e f) section x latest = rw (ne-eqb (r .user) 0 (omega arith), add-one (x .end))
+outcome-by (pending {q = r} a b c d e f) section x latest =
+    rw (ne-eqb (r .user) 0 (omega arith), add-one (x .end))
+    (ap (λ o. cond (appendRegisters section x latest r) (registers (r .user)) o) (late (r .last) (x .end)))
 
 -- where it registers there is a request, with a free row and another User than the latest
 record Registers (regs : List (ℕ × ℕ)) (user latest end : ℕ) : Type 0 where
@@ -113,9 +123,9 @@ module _ {p : List ℤ} (ok : SoundPart p) (x : RaisedNotice) {n user first last
   first? = registersIf user first last latest (x .end) (typeRegisters section (x .«type_»))
 
   abbrev second? : Bool
-  second? = lapsesIf user last (x .end)
+  second? = staysIf user last (x .end)
 
-  outcome-is : outcomeAt x q ≡ cond first? (registers user) (cond second? lapses stays)
+  outcome-is : outcomeAt x q ≡ cond first? (registers user) (cond second? stays lapses)
   outcome-is =
       ap₂ (λ c s. outcomeOf append c (entryFrom x) s (q .pending)) (sym section-is) (sym latest-is)
       ∙ outcome-by (part-well ok .pendingOk) section (entryFrom x) latest
@@ -159,10 +169,10 @@ module _ {p : List ℤ} (ok : SoundPart p) (x : RaisedNotice) {n user first last
             ea ∙ ap₂ (λ t k. appendRegistration t k (x .end + 1) user) (sym (part-laid ok)) many
             ∙ append-registration (roomOf p) q fits (x .end + 1) user (omega (arith, room .room)) ∙ ap (λ l. pointNumbers (roomOf p) (withRegs l q)) regs-are
 
-  pub lapsed : first? ≡ false → second? ≡ true → {p′ : List ℤ} → p′ ≡ clearPending p → SettledTo p x (record { user = 0; lapsed = 1 }) p′
+  pub lapsed : first? ≡ false → second? ≡ false → {p′ : List ℤ} → p′ ≡ clearPending p → SettledTo p x (record { user = 0; lapsed = 1 }) p′
   unfolding withPendingLists
   lapsed f s ec =
       settled-as lapses 0 1 (outcome-is ∙ rw (f, s)) refl (ec ∙ ap clearPending (sym (part-laid ok)) ∙ clear-pending (roomOf p) q fits)
 
-  pub stayed : first? ≡ false → second? ≡ false → SettledTo p x (record { user = 0; lapsed = 0 }) p
+  pub stayed : first? ≡ false → second? ≡ true → SettledTo p x (record { user = 0; lapsed = 0 }) p
   stayed f s = settled-as stays 0 0 (outcome-is ∙ rw (f, s)) refl (sym (part-laid ok))

@@ -105,7 +105,7 @@ pub fn enter_record(p: &mut [i64], x: RaisedNotice) -> Kept
 }
 
 // The pending request, once an append stands: by its end the User is registered from the next day on, in section 1 by an
-// actual reading only, or the request lapses, or it stays.
+// actual reading only, or the request stays, or it lapses.
 pub fn settle_request(p: &mut [i64], x: RaisedNotice) -> Settled
     requires { ⌜ SoundPart (now p) × InRange x ⌝ }
     ensures { λ r. ⌜ SettledTo (now (p .entry)) x r (now (p .exit)) ⌝ }
@@ -123,9 +123,9 @@ pub fn settle_request(p: &mut [i64], x: RaisedNotice) -> Settled
         rows::clear_pending(p);
         return Settled { user, lapsed: 0 };
     }
-    if (user != 0) & (last < end) {
-        rows::clear_pending(p);
-        return Settled { user: 0, lapsed: 1 };
+    if (user == 0) | (end <= last) {
+        return Settled { user: 0, lapsed: 0 };
     }
-    Settled { user: 0, lapsed: 0 }
+    rows::clear_pending(p);
+    Settled { user: 0, lapsed: 1 }
 }

@@ -55,14 +55,14 @@ returns c =
 
 returns-2 : tie.Need-returns-2
 returns-2 c =
-    let d = c .before .before .before in
-    let g = d .before .before .before in
-    lapsed (start g .pre .0) (start g .args .x) (is g) (d .before .if1 .left) (d .if2 .taken) (c .before .clear-pending2 .ensures)
+    let g = c .before .before .before in
+    stayed (start g .pre .0) (start g .args .x) (is g) (c .before .if1 .left) (c .if2 .taken)
 
 returns-3 : tie.Need-returns-3
 returns-3 c =
-    let g = c .before .before .before in
-    stayed (start g .pre .0) (start g .args .x) (is g) (c .before .if1 .left) (c .if2 .left)
+    let d = c .before .before .before in
+    let g = d .before .before .before in
+    lapsed (start g .pre .0) (start g .args .x) (is g) (d .before .if1 .left) (d .if2 .left) (c .before .clear-pending2 .ensures)
 
 pub settle-request-spec : {M : Type 1} → statement M
 settle-request-spec =
@@ -73,7 +73,7 @@ settle-request-spec =
     append-registration-requires
     (λ c κs. search needs) (λ c. search needs)
     returns
-    (λ c κs. search needs) (λ c. search needs)
-    returns-2
     (λ c. search needs)
+    returns-2
+    (λ c κs. search needs) (λ c. search needs)
     returns-3)
