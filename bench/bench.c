@@ -190,7 +190,7 @@ static void fill_point(uint8_t *reg, int64_t mirn, int64_t kind, int64_t days, b
     uint8_t none[1] = {0};
     int64_t day = mirn % 7;
     must_enter(petlumas_open(reg, BYTES, answer, sizeof answer, mirn, kind, 1 + mirn % 16, day, -1,
-                             mirn % 2),
+                             mirn % 2, 1 + mirn % 4),
                "opening");
     for (int64_t k = 0; k < RECORDS; k++) {
         int64_t end = day + days - 1;

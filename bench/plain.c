@@ -75,7 +75,8 @@ static bool facts_sound(const int64_t *p) {
     return within(p[MIRN], 1, MIRN_MOST) && within(p[KIND], 0, 1) && is_day(p[INSTALL]) &&
            within(p[BASE], 0, 10000) && within(p[REGISTRATION_COUNT], 1, REGISTRATIONS) &&
            within(p[SPAN_COUNT], 0, SPANS) && within(p[RECORD_COUNT], 0, RECORDS) &&
-           within(p[SECTION], 0, 1) && all_zero(p + SPARE, p + REGISTRATION_ROWS);
+           within(p[SECTION], 0, 1) && within(p[OPERATOR], 0, 4) &&
+           all_zero(p + SPARE, p + REGISTRATION_ROWS);
 }
 
 static bool registrations_sound(const int64_t *p) {

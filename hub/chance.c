@@ -98,6 +98,7 @@ void choose_open(struct chance *c, int64_t *args) {
     args[3] = mostly(c, between(c, 0, 120));
     args[4] = mostly(c, between(c, -1, 10000));
     args[5] = mostly(c, between(c, 0, 1));
+    args[6] = mostly(c, between(c, 1, 4));
 }
 
 void choose_energy_notice(struct chance *c, int64_t *args) {
@@ -210,9 +211,17 @@ static void feed(struct chance *c, uint64_t ways) {
     }
 }
 
+/* As in a register from before points had operators: 0 stands for operator 1. */
+static void forget_operators(struct chance *c) {
+    size_t points = (size_t)number_at(c, POINT_COUNT);
+    for (size_t i = 0; i < points; i++)
+        put_number(c->reg, HEADER_NUMBERS + POINT_NUMBERS * i + OPERATOR, 0);
+}
+
 void start_register(struct chance *c) {
     uint8_t answer[8];
     int64_t points = one_in(c, 2) ? between(c, 1, POINTS) : between(c, 1, 3);
+    int64_t least = one_in(c, 3) ? 4 : 1; /* operator 4 alone gets 19 where others' reserves begin */
     petlumas_fresh(c->reg, PETLUMAS_REGISTER_BYTES, answer, sizeof answer, -1,
                    between(c, -1, 1000000));
     for (int64_t i = 1; i <= points; i++) {
@@ -222,9 +231,12 @@ void start_register(struct chance *c) {
         int64_t install = between(c, 0, 60);
         int64_t base = between(c, 0, 1);
         int64_t section = between(c, 0, 1);
+        int64_t operator = between(c, least, 4);
         petlumas_open(c->reg, PETLUMAS_REGISTER_BYTES, answer, sizeof answer, i, kind, user,
-                      install, base, section);
+                      install, base, section, operator);
     }
+    if (one_in(c, 4))
+        forget_operators(c);
     uint64_t ways = one_in(c, 2) ? 15 : 18;
     for (uint64_t count = below(c, 500); count > 0; count--)
         feed(c, ways);

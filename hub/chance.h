@@ -6,7 +6,7 @@
 
 #include <stdbool.h>
 
-enum { ARGS_MOST = 6 };
+enum { ARGS_MOST = 7 };
 
 struct chance {
     uint64_t random;                      /* not 0 */

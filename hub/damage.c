@@ -18,7 +18,7 @@ enum {
     SHARES_BYTES = PETLUMAS_ALLOCATE_TABLE_BYTES,
     PAGE_BYTES = 4096,
     ARENA_BYTES = 16 * PAGE_BYTES,
-    REFUSALS = 17,
+    REFUSALS = 20,
     CASES_PER_REGISTER = 250,
 };
 
@@ -146,7 +146,7 @@ static int64_t call_fresh(struct test *t, const int64_t *a) {
 
 static int64_t call_open(struct test *t, const int64_t *a) {
     return petlumas_open(t->reg.at, t->reg.length, t->answer.at, t->answer.length, a[0], a[1], a[2],
-                         a[3], a[4], a[5]);
+                         a[3], a[4], a[5], a[6]);
 }
 
 static int64_t call_energy(struct test *t, const int64_t *a) {

@@ -40,6 +40,7 @@ enum {
     FIRST,
     LAST,
     SECTION,
+    OPERATOR,
     SPARE,
     REGISTRATION_ROWS = 16,
     SPAN_ROWS = 32,

@@ -79,7 +79,7 @@ static bool play_fresh(struct player *p, struct numbers n) {
 static bool play_open(struct player *p, struct numbers n) {
     uint8_t answer[PETLUMAS_OPEN_ANSWER_BYTES];
     petlumas_open(p->buffer, lent_bytes(p), answer, sizeof answer, n.at[0], n.at[1], n.at[2],
-                  n.at[3], n.at[4], n.at[5]);
+                  n.at[3], n.at[4], n.at[5], n.at[6]);
     return print_answer(p, answer, sizeof answer / 8);
 }
 
@@ -285,7 +285,7 @@ static bool hub_allocate(struct player *p, struct numbers n) {
 /* ---- lines */
 
 static const struct call calls[] = {
-    {"fresh", 2, play_fresh},     {"open", 6, play_open},         {"energy", 6, play_energy},
+    {"fresh", 2, play_fresh},     {"open", 7, play_open},         {"energy", 6, play_energy},
     {"status", 3, play_status},   {"request", ANY, play_request}, {"withdraw", 2, play_withdraw},
     {"account", 3, play_account}, {"allocate", 6, play_allocate}, {"date", 3, play_date},
     {"look", 1, play_look},       {"poke", 2, play_poke},         {"tlen", 1, play_tlen},

@@ -27,6 +27,7 @@
  *   14  off while off, on while on, or a day that is too early
  *   15  there is nothing to split the load by
  *   16  no room: 33rd point, 49th record, 9th off span, 9th registration
+ *   19  the points left would not cover the other operators' unfilled reserves
  *
  * The answer is the refusal and then the fields that a function names, 8 bytes
  * each, little endian. It is written on a refusal too, with every field 0. An
@@ -39,8 +40,8 @@
  * A day is 0 to 39,999, from 1 January 1970 to 7 July 2079. A MIRN is 1 to
  * 9,999,999,999, a User 1 to 16, a kind 0 (non-daily) or 1 (daily metered), a
  * type 0 (actual), 1 (estimated) or 2 (substituted), a section 1 (Wagga Wagga
- * and Tamworth) or 0 (the rest), a yes 1 and a no 0. Energy is in whole MJ,
- * -1,000,000 to 1,000,000. Any other number gets its refusal.
+ * and Tamworth) or 0 (the rest), an operator 1 to 4, a yes 1 and a no 0. Energy
+ * is in whole MJ, -1,000,000 to 1,000,000. Any other number gets its refusal.
  *
  * What the caller owes, since no proof can see it:
  *   - A pointer is not null and has as many bytes behind it as its length says.
@@ -89,12 +90,16 @@ int64_t petlumas_fresh(uint8_t *PETLUMAS_RESTRICT reg, size_t reg_len,
  * mirn, kind, user, install: the point, its User and its first day.
  * base: the base load, MJ for one day, 0 to 10,000, or -1 for 1,000.
  * section: in section 1 a transfer is registered on an actual reading only.
+ * operator_: the network operator whose point it is. Four points are reserved for
+ *   each: in a register that began with petlumas_fresh, one with fewer than four
+ *   gets neither 16 nor 19, whatever the others opened.
  * Answer: no field.
- * Refusals: 1, 2, 5, 16. */
+ * Refusals: 1, 2, 5, 16, 19. */
 int64_t petlumas_open(uint8_t *PETLUMAS_RESTRICT reg, size_t reg_len,
                       uint8_t *PETLUMAS_RESTRICT answer, size_t answer_len,
                       int64_t mirn, int64_t kind, int64_t user,
-                      int64_t install, int64_t base, int64_t section);
+                      int64_t install, int64_t base, int64_t section,
+                      int64_t operator_);
 
 /* Enters an energy record. An append settles a pending request by its end: in
  * the request's period it registers the User, in section 1 only if its type is

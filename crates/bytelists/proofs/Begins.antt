@@ -13,6 +13,7 @@ use Rattle.daybook.specs.declared.Edition.{Edition}
 use Rattle.daybook.specs.declared.Ranges.{Ranges}
 use Rattle.daybook.specs.Notices.{Numbers, least, decide, freshRows, fresh}
 use Rattle.lists.specs.Lists.{bookOf}
+use Rattle.lists.proofs.Operators.{kept-none}
 use Rattle.lists.proofs.OpenStep.{no-points}
 use Rattle.layout.specs.Layout.{tableLength, editionOf, tableBook}
 use Rattle.layout.specs.Calls.{answerAndTable}
@@ -72,7 +73,7 @@ accepted-is t n = go (leb tableLength (length t)) refl (least (freshRows n)) ref
         record {
           answer = refl;
           long = leb-true tableLength (length t) h;
-          left = written-length ed (edition-fits t) (no-points ed n z) t;
+          left = written-length ed (edition-fits t) (no-points ed n z) t (kept-none _);
         }
     go true h (suc r) z e = let k : suc r ≡ 0 = cc in absurd (omega arith)
     go false h row z e = let k : _≡_ {A = ℕ} 1 0 = cc in absurd (omega arith)

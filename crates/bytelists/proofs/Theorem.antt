@@ -1,9 +1,25 @@
 -- The claim about every list of calls through the hub. Assumes nothing.
-use mathlib.Core.Path.{_≡_, refl, ap₂}
+use mathlib.Core.Path.{_≡_, refl, sym, _∙_, ap, ap₂}
+use mathlib.Core.Bool.{Bool, true, false, cond}
 use mathlib.Core.List.{List, [], _∷_}
-use Rattle.daybook.specs.Calls.{State}
+use Prim.Native.Nat.{ℕ, _*_, _<_}
+use native.Mathlib.Omega.{arith}
+use lib.Dec.{leb}
+use lib.IntN.{ℤ, pos}
+use lib.ListN.{length}
+use Rattle.numbers.specs.Naturals.{natOf, sameZ}
+use Rattle.daybook.specs.declared.Edition.{Edition}
+use Rattle.daybook.specs.declared.Opening.{Opening}
+use Rattle.daybook.specs.Notices.{opening}
+use Rattle.daybook.specs.Calls.{Call, Answer, noted, State, step}
+use Rattle.layout.specs.Layout.{editionOf}
+use Rattle.layout.proofs.Editions.{edition-fits}
+use Rattle.buffers.specs.Buffers.{tableIn, withNumbers, replied, written}
+use Rattle.history.specs.Runs.{freshState}
+use Rattle.history.specs.Promise.{refusalIn, Reserved}
+use Rattle.history.proofs.Promise.{Fit, none-covered, Kept, covered-step, step-edition, bookRefusal, reserved-covered}
 use Rattle.history.proofs.Theorem.{stands-agrees}
-use Rattle.bytelists.specs.ByteLists.{LentCall, LentBytes, byteRun, replies, bookStep, bookRun, bookReplies}
+use Rattle.bytelists.specs.ByteLists.{petlumas-open, hub-notice, LentCall, Reply, noticeIn, callIn, LentBytes, byteStep, byteRun, replies, bookStep, bookRun, bookReplies}
 use Rattle.bytelists.specs.Claim.{EveryHubList}
 use Rattle.bytelists.proofs.Steps.{Holds, Follows, call-follows}
 use Rattle.bytelists.proofs.Begins.{fresh-holds}
@@ -18,7 +34,50 @@ run-follows (h ∷ hs) L S r =
     let (held, same) = run-follows hs _ _ (f .holds) in
     (held, ap₂ _∷_ (f .reply) same)
 
+-- ---- the reserves
+
+-- the points left cover the reserves, be a call's answer buffer too short or not
+covered-run : (hs : List LentCall) (S : State) → Fit (S .edition) → Kept (S .edition) (S .book) → Kept (bookRun hs S .edition) (bookRun hs S .book)
+unfolding bookRun bookStep
+covered-run [] S fit k = k
+covered-run (h ∷ hs) S fit k =
+    let c : Call = callIn (h .call) (h .second) in
+    let a : Answer = step c S .0 in
+    go (leb (8 * length (a .0)) (length (h .answer))) (covered-run hs (step c S .1) (rw (step-edition c S) fit) (covered-step c S fit k)) (covered-run hs S fit k)
+  where
+    go : (b : Bool) → Kept (bookRun hs (step (callIn (h .call) (h .second)) S .1) .edition) (bookRun hs (step (callIn (h .call) (h .second)) S .1) .book)
+        → Kept (bookRun hs S .edition) (bookRun hs S .book)
+        → let S′ : State = cond b (step (callIn (h .call) (h .second)) S .1) S in Kept (bookRun hs S′ .edition) (bookRun hs S′ .book)
+    go true x y = x
+    go false x y = y
+
+-- what is returned above 2 is the book's refusal
+returned-is : (a : Answer) (second answer : List ℕ) (m : ℕ) → 2 < m → written a second answer .0 ≡ pos m → refusalIn (a .0) ≡ pos m
+unfolding written replied
+returned-is a second answer m h e = go (leb (8 * length (a .0)) (length answer)) (sameZ (refusalIn (a .0)) (pos 1)) e
+  where
+    go : (was one : Bool) → cond {A = ℤ × List ℕ} was (refusalIn (a .0), withNumbers (a .0) answer) (cond one (pos 1) (pos 2), answer) .0 ≡ pos m
+        → refusalIn (a .0) ≡ pos m
+    go true one e = e
+    go false true e = let z : 1 ≡ m = ap natOf e in absurd (omega arith)
+    go false false e = let z : 2 ≡ m = ap natOf e in absurd (omega arith)
+
+reserved-bytes : (L : LentBytes) (S : State) → Holds L S → Reserved S (bookRefusal S) → (second answer : List ℕ)
+    → Reserved S (λ n. byteStep (hub-notice (petlumas-open n)) second answer L .0 .0)
+unfolding bookStep callIn noticeIn step noted
+reserved-bytes L S r kept second answer =
+    record {
+      never16 = λ n b e. kept .never16 n b (returned-is _ second answer 16 (omega arith) (sym (same n) ∙ e));
+      never19 = λ n b e. kept .never19 n b (returned-is _ second answer 19 (omega arith) (sym (same n) ∙ e));
+    }
+  where
+    same : (n : Opening) → byteStep (hub-notice (petlumas-open n)) second answer L .0 .0 ≡ written (opening (S .edition) n (S .book) .0, []) second answer .0
+    same n = ap (λ (r : Reply). r .0) (call-follows (hub-notice (petlumas-open n)) second answer L S r .reply)
+
 pub every-hub-list : EveryHubList
 every-hub-list b₀ second answer n returned hs =
     let (held, same) = run-follows hs _ _ (fresh-holds b₀ second answer n returned) in
-    (stands-agrees _ _ (held .standsFor), same)
+    let ed : Edition = editionOf (tableIn b₀) in
+    let fit : Fit ed = edition-fits (tableIn b₀) .reserved in
+    let covered = covered-run hs (freshState ed n) fit (none-covered ed fit) in
+    (stands-agrees _ _ (held .standsFor), same, reserved-bytes _ _ held (reserved-covered _ covered))

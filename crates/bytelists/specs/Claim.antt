@@ -8,8 +8,9 @@ use Rattle.daybook.specs.Calls.{State}
 use Rattle.layout.specs.Layout.{editionOf}
 use Rattle.history.specs.Runs.{freshState}
 use Rattle.history.specs.Agreement.{Agrees}
+use Rattle.history.specs.Promise.{Reserved}
 use Rattle.buffers.specs.Buffers.{tableIn}
-use Rattle.bytelists.specs.ByteLists.{petlumas-fresh, hub-notice, LentCall, LentBytes, lentIn, byteStep, byteRun, replies, bookRun, bookReplies}
+use Rattle.bytelists.specs.ByteLists.{petlumas-fresh, petlumas-open, hub-notice, LentCall, LentBytes, lentIn, byteStep, byteRun, replies, bookRun, bookReplies}
 
 -- Lend any bytes b₀ and any answer buffer to petlumas_fresh, with any two ranges n. If it returns 0, then lend the
 -- bytes that it left to any calls of the hub, one after the other, with any numbers and with buffers of any bytes.
@@ -18,6 +19,7 @@ use Rattle.bytelists.specs.ByteLists.{petlumas-fresh, hub-notice, LentCa
 -- Each call returns what the book's answer begins with, and leaves the bytes of the book's numbers in its answer buffer
 -- and, for an allocation, in its answer table; the book decides a request by the holidays that its bytes spell. A call
 -- whose answer buffer is too short for the book's answer returns 2, and leaves the book and its buffers as they were.
+-- And an operator that then holds fewer points than its reserve gets neither 16 nor 19 from petlumas_open.
 --
 -- The calls here are definitions. The contracts of the hub's exported functions equate what each returns and leaves
 -- with them, for every register, all numbers and buffers: petlumas_fresh, petlumas_open, petlumas_energy, petlumas_status,
@@ -31,3 +33,5 @@ EveryHubList =
     → let L : LentBytes = byteStep (hub-notice (petlumas-fresh n)) second answer (record { register = b₀ }) .1 in
     let S : State = freshState (editionOf (tableIn b₀)) n in
     Agrees (lentIn (byteRun hs L)) (bookRun hs S) × (replies hs L ≡ bookReplies hs S)
+    × ((second answer : List ℕ)
+    → Reserved (bookRun hs S) (λ m. byteStep (hub-notice (petlumas-open m)) second answer (byteRun hs L) .0 .0))

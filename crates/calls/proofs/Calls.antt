@@ -18,22 +18,22 @@ use Rattle.journal.specs.declared.QueryWord.{QueryWord}
 use Rattle.journal.specs.declared.QueryWord.the-variants.{Account, Allocate, Date}
 use Rattle.journal.specs.declared.CallWord.{CallWord}
 use Rattle.journal.specs.declared.CallWord.the-variants as Call·
-use Rattle.calls.specs.declared.Six.{Six}
+use Rattle.calls.specs.declared.Seven.{Seven}
 use Rattle.calls.specs.Calls.{noticed, asked, Left, called}
-use Rattle.calls.specs.InnerCalls.{sixOf, listed}
+use Rattle.calls.specs.InnerCalls.{sevenOf, listed}
 
-pub six-noticed : (n : NoticeWord) (t xs list : List ℤ) → noticed n t (listed (sixOf xs)) list ≡ noticed n t xs list
-six-noticed Fresh t xs list = refl
-six-noticed Open t xs list = refl
-six-noticed Energy t xs list = refl
-six-noticed Status t xs list = refl
-six-noticed Request t xs list = refl
-six-noticed Withdraw t xs list = refl
+pub seven-noticed : (n : NoticeWord) (t xs list : List ℤ) → noticed n t (listed (sevenOf xs)) list ≡ noticed n t xs list
+seven-noticed Fresh t xs list = refl
+seven-noticed Open t xs list = refl
+seven-noticed Energy t xs list = refl
+seven-noticed Status t xs list = refl
+seven-noticed Request t xs list = refl
+seven-noticed Withdraw t xs list = refl
 
-pub six-asked : (q : QueryWord) (t xs : List ℤ) (room : ℕ) → asked q t (listed (sixOf xs)) room ≡ asked q t xs room
-six-asked Account t xs room = refl
-six-asked Allocate t xs room = refl
-six-asked Date t xs room = refl
+pub seven-asked : (q : QueryWord) (t xs : List ℤ) (room : ℕ) → asked q t (listed (sevenOf xs)) room ≡ asked q t xs room
+seven-asked Account t xs room = refl
+seven-asked Allocate t xs room = refl
+seven-asked Date t xs room = refl
 
 -- a signed number is read back from its bits
 pub back : (z : ℤ) → SFits w64 z → toZ w64 (ofZ w64 z) ≡ z
@@ -52,9 +52,9 @@ after-notice table w = record { result = w .0; register = w .1 .0; answer = w .1
 abbrev after-query : List ℕ → ℤ × (List ℕ × List ℕ) → Left
 after-query register w = record { result = w .0; register = register; answer = w .1 .1; table = w .1 .0 }
 
-module _ (xs : List ℤ) (six : Six) (list register answer table : List ℕ) {w : ℤ × (List ℕ × List ℕ)} (e : six ≡ sixOf xs) where
-  pub notice-left : {call : CallWord} {n : NoticeWord} → call ≡ Call·.Notice n → w ≡ written (noticed n (tableIn register) (listed six) (holidaysIn list)) register answer → called call xs list register answer table ≡ after-notice table w
-  notice-left {n = n} t h = rw t (ap (after-notice table) (sym (rw (e, six-noticed n (tableIn register) xs (holidaysIn list)) at h)))
+module _ (xs : List ℤ) (seven : Seven) (list register answer table : List ℕ) {w : ℤ × (List ℕ × List ℕ)} (e : seven ≡ sevenOf xs) where
+  pub notice-left : {call : CallWord} {n : NoticeWord} → call ≡ Call·.Notice n → w ≡ written (noticed n (tableIn register) (listed seven) (holidaysIn list)) register answer → called call xs list register answer table ≡ after-notice table w
+  notice-left {n = n} t h = rw t (ap (after-notice table) (sym (rw (e, seven-noticed n (tableIn register) xs (holidaysIn list)) at h)))
 
-  pub query-left : {call : CallWord} {q : QueryWord} → call ≡ Call·.Query q → w ≡ written (asked q (tableIn register) (listed six) (length table / 8)) table answer → called call xs list register answer table ≡ after-query register w
-  query-left {q = q} t h = rw t (ap (after-query register) (sym (rw (e, six-asked q (tableIn register) xs (length table / 8)) at h)))
+  pub query-left : {call : CallWord} {q : QueryWord} → call ≡ Call·.Query q → w ≡ written (asked q (tableIn register) (listed seven) (length table / 8)) table answer → called call xs list register answer table ≡ after-query register w
+  query-left {q = q} t h = rw t (ap (after-query register) (sym (rw (e, seven-asked q (tableIn register) xs (length table / 8)) at h)))

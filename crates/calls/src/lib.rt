@@ -6,7 +6,7 @@ ghost use lib.ListN.{length};
 ghost use Rattle.daybook.specs.Conversions.{num};
 ghost use Rattle.buffers.specs.Buffers.{tableIn, holidaysIn, written};
 ghost use Rattle.calls.specs.Calls.{noticed, asked, called};
-ghost use Rattle.calls.specs.InnerCalls.{sixOf, listed};
+ghost use Rattle.calls.specs.InnerCalls.{sevenOf, listed};
 use journal::CallWord;
 use journal::NoticeWord;
 use journal::QueryWord;
@@ -21,37 +21,39 @@ fn number(nums: &[i64], i: usize) -> i64
     0
 }
 
-// The numbers of a call, which has six at most.
-struct Six {
+// The numbers of a call, which has seven at most.
+struct Seven {
     n0: i64,
     n1: i64,
     n2: i64,
     n3: i64,
     n4: i64,
     n5: i64,
+    n6: i64,
 }
 
-fn first_six(nums: &[i64]) -> Six
-    ensures { λ r. ⌜ r ≡ sixOf (now (nums .entry)) ⌝ }
+fn first_seven(nums: &[i64]) -> Seven
+    ensures { λ r. ⌜ r ≡ sevenOf (now (nums .entry)) ⌝ }
 {
-    Six {
+    Seven {
         n0: number(nums, 0),
         n1: number(nums, 1),
         n2: number(nums, 2),
         n3: number(nums, 3),
         n4: number(nums, 4),
         n5: number(nums, 5),
+        n6: number(nums, 6),
     }
 }
 
 // A notice with the numbers a, through its exported function.
-fn notify(n: NoticeWord, a: Six, list: &[u8], register: &mut [u8], answer: &mut [u8]) -> i64
+fn notify(n: NoticeWord, a: Seven, list: &[u8], register: &mut [u8], answer: &mut [u8]) -> i64
     ensures { λ r. ⌜ (r, (now (register .exit), now (answer .exit))) ≡ written (noticed n (tableIn (now (register .entry))) (listed a) (holidaysIn (now (list .entry)))) (now (register .entry)) (now (answer .entry)) ⌝ }
 {
     match n {
         NoticeWord::Fresh => hub::petlumas_fresh(register, answer, a.n0, a.n1),
         NoticeWord::Open => {
-            hub::petlumas_open(register, answer, a.n0, a.n1, a.n2, a.n3, a.n4, a.n5)
+            hub::petlumas_open(register, answer, a.n0, a.n1, a.n2, a.n3, a.n4, a.n5, a.n6)
         }
         NoticeWord::Energy => {
             hub::petlumas_energy(register, answer, a.n0, a.n1, a.n2, a.n3, a.n4, a.n5)
@@ -65,7 +67,7 @@ fn notify(n: NoticeWord, a: Six, list: &[u8], register: &mut [u8], answer: &mut 
 }
 
 // And a query.
-fn ask(q: QueryWord, a: Six, register: &[u8], answer: &mut [u8], table: &mut [u8]) -> i64
+fn ask(q: QueryWord, a: Seven, register: &[u8], answer: &mut [u8], table: &mut [u8]) -> i64
     ensures { λ r. ⌜ (r, (now (table .exit), now (answer .exit))) ≡ written (asked q (tableIn (now (register .entry))) (listed a) (length (now (table .entry)) / 8)) (now (table .entry)) (now (answer .entry)) ⌝ }
 {
     match q {
@@ -88,7 +90,7 @@ pub fn invoke(
 ) -> i64
     ensures { λ r. ⌜ called call (now (nums .entry)) (now (list .entry)) (now (register .entry)) (now (answer .entry)) (now (table .entry)) ≡ record { result = r; register = now (register .exit); answer = now (answer .exit); table = now (table .exit) } ⌝ }
 {
-    let a = first_six(nums);
+    let a = first_seven(nums);
     match call {
         CallWord::Notice(n) => notify(n, a, list, register, answer),
         CallWord::Query(q) => ask(q, a, register, answer, table),

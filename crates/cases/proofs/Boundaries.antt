@@ -3,7 +3,7 @@ use mathlib.Core.Path.{_≡_, refl}
 use mathlib.Core.Bool.{false, _&&_, cond}
 use mathlib.Core.Option.{Option, none, some}
 use mathlib.Core.List.{List, [], _∷_, _++_, map}
-use Prim.Native.Nat.{ℕ, suc, _+_, _-_}
+use Prim.Native.Nat.{ℕ, zero, suc, _+_, _-_}
 use native.Mathlib.Nat.{mul-one}
 use native.Mathlib.Omega.{arith}
 use lib.Dec.{leb, ltb, eqb}
@@ -16,7 +16,9 @@ use Rattle.daybook.specs.Book.{Entry, Pending, Point}
 use Rattle.daybook.specs.Notices.{least, append, replacement, recut, Outcome, registers, lapses, stays, outcomeOf, statusRows, requestRows}
 use Rattle.daybook.specs.Queries.{active, someFilled, weight}
 use Rattle.daybook.specs.Calls.{Call, State}
-use Rattle.cases.specs.Journal.{Fresh, OpenIn, Open, Read, Energy, Status, Request, Withdraw, Account, Allocate, answersFrom, answersOf, naturals}
+use Rattle.lists.specs.Lists.{Lists, userOn, offOn, entryOn, pointOf, bookOf, withFacts, unnamedAgain}
+use Rattle.layout.specs.Layout.{standard}
+use Rattle.cases.specs.Journal.{Fresh, OpenIn, OpenBy, Open, Read, Energy, Status, Request, Withdraw, Account, Allocate, answersFrom, answersOf, naturals}
 
 -- an odd megajoule goes early, also below 0 and over the most days; 0 is shared as 0 (document 02, f)
 odd :
@@ -33,7 +35,7 @@ odd = (refl, refl, refl, refl, refl, refl, refl, refl)
 
 -- 1 point of 1 record, where only the bounds of the edition count
 abbrev small : Edition
-small = record { points = 1; records = 1 }
+small = record { points = 1; records = 1; reserve = 0 }
 
 -- a full point takes a replacement and no append; a full table takes no point
 full : List Call
@@ -164,7 +166,7 @@ sectioned =
     ∷ []
 
 sectioned-answers :
-    answersOf (record { points = 1; records = 3 }) sectioned
+    answersOf (record { points = 1; records = 3; reserve = 0 }) sectioned
     ≡ naturals
     ((0 ∷ [])
     ∷ (2 ∷ [])
@@ -179,6 +181,60 @@ sectioned-answers :
     ∷ [])
 unfolding answersFrom sectioned
 sectioned-answers = refl
+
+-- n openings by operator o, of the MIRNs from m on
+by : ℕ → ℕ → ℕ → List Call
+by o m zero = []
+by o m (suc n) = OpenBy (pos o) m ∷ by o (suc m) n
+
+-- operator 2 opens twenty points, and its 21st would eat a reserve; a MIRN that is known is said first. Then the others
+-- take their twelve, each 5th but the last one being refused, and the table is full. There is no operator 0, 5 or -1
+-- (document 02, g).
+reserves : List Call
+reserves =
+    Fresh (negsuc 0) (negsuc 0) ∷ OpenBy (pos 0) 1 ∷ OpenBy (pos 5) 1 ∷ OpenBy (negsuc 0) 1
+    ∷ (by 2 101 20 ++ by 2 121 1 ++ by 2 101 1 ++ by 1 201 5 ++ by 3 301 5 ++ by 4 401 5 ++ by 2 101 1)
+
+reserves-answers :
+    answersOf standard reserves
+    ≡ naturals
+    (map (λ r. r ∷ [])
+    (0 ∷ 2 ∷ 2 ∷ 2 ∷ (replicate 20 0 ++ (19 ∷ 5 ∷ 0 ∷ 0 ∷ 0 ∷ 0 ∷ 19 ∷ 0 ∷ 0 ∷ 0 ∷ 0 ∷ 19 ∷ 0 ∷ 0 ∷ 0 ∷ 0 ∷ 16 ∷ 5 ∷ []))))
+unfolding answersFrom reserves by
+reserves-answers = refl
+
+-- where every reserve is filled, the last points are anybody's; with a reserve of 0 all are
+unreserved-answers :
+    (answersOf (record { points = 5; records = 1; reserve = 1 }) (by 1 1 3 ++ by 2 11 1 ++ by 3 21 1 ++ by 4 31 1 ++ by 1 41 1)
+    ≡ naturals (map (λ r. r ∷ []) (0 ∷ 0 ∷ 19 ∷ 0 ∷ 0 ∷ 0 ∷ 16 ∷ [])))
+    × (answersOf (record { points = 6; records = 1; reserve = 1 }) (by 1 1 1 ++ by 2 11 1 ++ by 3 21 1 ++ by 4 31 1 ++ by 1 41 3)
+    ≡ naturals (map (λ r. r ∷ []) (0 ∷ 0 ∷ 0 ∷ 0 ∷ 0 ∷ 0 ∷ 16 ∷ [])))
+    × (answersOf (record { points = 3; records = 1; reserve = 0 }) (by 4 1 4) ≡ naturals (map (λ r. r ∷ []) (0 ∷ 0 ∷ 0 ∷ 16 ∷ [])))
+unfolding answersFrom by
+unreserved-answers = (refl, refl, refl)
+
+-- an older register: points with 0 for the operator are operator 1's, so that operator 1 has filled its reserve of 2 and
+-- the others have theirs; and the 0 of a point that was there stays, whatever the book names it
+older : ℕ → ℕ → Lists
+older m o =
+    record {
+      facts = record { mirn = m; kind = 1; install = 0; base = 1000; section = 0; operator = o };
+      regs = (0, 1) ∷ [];
+      offs = [];
+      recs = [];
+      pending = none;
+    }
+
+older-answers :
+    (answersFrom
+    (record {
+      edition = record { points = 8; records = 1; reserve = 2 };
+      book = bookOf (record { nondaily = negsuc 0; daily = negsuc 0; points = older 1 0 ∷ older 2 1 ∷ [] });
+    }) (by 1 11 1 ++ by 2 21 3)
+    ≡ naturals (map (λ r. r ∷ []) (19 ∷ 0 ∷ 0 ∷ 19 ∷ [])))
+    × (unnamedAgain (older 1 0 ∷ older 2 3 ∷ []) (older 1 1 ∷ older 2 3 ∷ older 3 4 ∷ []) ≡ older 1 0 ∷ older 2 3 ∷ older 3 4 ∷ [])
+unfolding answersFrom by older bookOf pointOf userOn offOn entryOn unnamedAgain withFacts
+older-answers = (refl, refl)
 
 -- so a replacement in the window and a recut past it leave a request that can be withdrawn, and nobody is registered
 corrected : List Call
@@ -264,14 +320,14 @@ metered : ℕ → State
 metered n =
     let reading : ℕ → Entry = λ d. record { start = d; end = d; energy = pos (10 + d); type = 0 } in
     let daily : Point = record {
-      facts = record { mirn = 1; kind = 1; install = 0; base = 1000; section = 0 };
+      facts = record { mirn = 1; kind = 1; install = 0; base = 1000; section = 0; operator = 1 };
       entry = λ d. cond (ltb d n) (some (reading d)) none;
       off = λ d. false;
       fro = λ d. 1;
       pending = none;
     } in
     let other : Point = record {
-      facts = record { mirn = 2; kind = 0; install = 0; base = 7; section = 0 };
+      facts = record { mirn = 2; kind = 0; install = 0; base = 7; section = 0; operator = 1 };
       entry = λ d. none;
       off = λ d. leb 9 d;
       fro = λ d. 2;

@@ -1,7 +1,7 @@
 -- Calls as a journal writes them, numbers in document 01's order, and what the day book answers to a list of them.
 use mathlib.Core.List.{List, [], _∷_, map}
 use Prim.Native.Nat.{ℕ}
-use lib.IntN.{ℤ, pos}
+use lib.IntN.{ℤ, pos, negsuc}
 use Rattle.numbers.specs.Rows.{all}
 use Rattle.numbers.specs.Search.{firstFrom, lastBelow}
 use Rattle.numbers.specs.Sums.{sumFrom}
@@ -9,19 +9,27 @@ use Rattle.numbers.specs.Shares.{floorPart, ceilPart, partialEnergy, share}
 use Rattle.calendar.specs.Calendar.{allowablePeriod, businessDayBefore, businessDayAfter, listed, holidayList}
 use Rattle.daybook.specs.declared.Edition.{Edition}
 use Rattle.daybook.specs.Book.{fromOn, fill, withEntries, withOff, withFro, withPending, lastOf, gather, recordAt, records, begins, registrationAt, registrations, latest, spanAt, spans, lastFilled, appendDay, dayShare}
-use Rattle.daybook.specs.Notices.{least, Numbers, decide, find, put, withPoint, onPoint, freshRows, fresh, factsOf, opened, openingRows, opening, which, entryOf, energyEarly, offWithin, energyRows, laterStarts, entered, enter, energyRowsAt, energy, statusEarly, statusRows, switched, status, requestEarly, requestRows, request, withdrawEarly, withdrawRows, withdraw}
+use Rattle.daybook.specs.Notices.{least, Numbers, decide, find, put, withPoint, onPoint, freshRows, fresh, factsOf, opened, held, othersUnfilled, openingRows, opening, which, entryOf, energyEarly, offWithin, energyRows, laterStarts, entered, enter, energyRowsAt, energy, statusEarly, statusRows, switched, status, requestEarly, requestRows, request, withdrawEarly, withdrawRows, withdraw}
 use Rattle.daybook.specs.Queries.{sumOf, ownShare, accountOf, accountRows, account, someFilled, allFilled, dailyGas, meteredOf, tdmOf, nslOf, weight, weights, total, split, pointShares, totalOf, allocateRows, allocate}
 use Rattle.daybook.specs.Calls.{fresh!, open!, energy!, status!, request!, withdraw!, account!, allocate!, Call, notice!, query!, Answer, noted, given, State, step, answers}
 
 abbrev pub Fresh : ℤ → ℤ → Call
 Fresh r s = notice! (fresh! (record { nondaily = r; daily = s }))
 
--- in a section
-abbrev pub OpenIn : ℤ → ℕ → ℕ → ℕ → ℕ → ℤ → Call
-OpenIn c m k u i b =
-    notice! (open! (record { mirn = pos m; kind = pos k; user = pos u; install = pos i; base = b; section = c }))
+-- in a section, by an operator
+abbrev pub OpenAs : ℤ → ℤ → ℕ → ℕ → ℕ → ℕ → ℤ → Call
+OpenAs c o m k u i b =
+    notice! (open! (record { mirn = pos m; kind = pos k; user = pos u; install = pos i; base = b; section = c; operator = o }))
 
--- in section 0
+-- in a section, by operator 1
+abbrev pub OpenIn : ℤ → ℕ → ℕ → ℕ → ℕ → ℤ → Call
+OpenIn c m k u i b = OpenAs c (pos 1) m k u i b
+
+-- by an operator, in section 0: a daily point of User 1, from day 0 on
+abbrev pub OpenBy : ℤ → ℕ → Call
+OpenBy o m = OpenAs (pos 0) o m 1 1 0 (negsuc 0)
+
+-- in section 0, by operator 1
 abbrev pub Open : ℕ → ℕ → ℕ → ℕ → ℤ → Call
 Open m k u i b = OpenIn (pos 0) m k u i b
 
@@ -59,7 +67,7 @@ numbers (a ∷ l) = a .0 ∷ numbers l
 
 -- Each call's numbers, the refusal first. To unfold this definition is to unfold the whole day book.
 unfoldable pub answersFrom : State → List Call → List Numbers
-unfolding all firstFrom lastBelow sumFrom floorPart ceilPart partialEnergy share allowablePeriod businessDayBefore businessDayAfter listed holidayList fromOn fill withEntries withOff withFro withPending lastOf gather recordAt records begins registrationAt registrations latest spanAt spans lastFilled appendDay dayShare least decide find put withPoint onPoint freshRows fresh factsOf opened openingRows opening which entryOf energyEarly offWithin energyRows laterStarts entered enter energyRowsAt energy statusEarly statusRows switched status requestEarly requestRows request withdrawEarly withdrawRows withdraw sumOf ownShare accountOf accountRows account someFilled allFilled dailyGas meteredOf tdmOf nslOf weight weights total split pointShares totalOf allocateRows allocate noted given step answers
+unfolding all firstFrom lastBelow sumFrom floorPart ceilPart partialEnergy share allowablePeriod businessDayBefore businessDayAfter listed holidayList fromOn fill withEntries withOff withFro withPending lastOf gather recordAt records begins registrationAt registrations latest spanAt spans lastFilled appendDay dayShare least decide find put withPoint onPoint freshRows fresh factsOf opened held othersUnfilled openingRows opening which entryOf energyEarly offWithin energyRows laterStarts entered enter energyRowsAt energy statusEarly statusRows switched status requestEarly requestRows request withdrawEarly withdrawRows withdraw sumOf ownShare accountOf accountRows account someFilled allFilled dailyGas meteredOf tdmOf nslOf weight weights total split pointShares totalOf allocateRows allocate noted given step answers
 answersFrom S calls = numbers (answers calls S)
 
 -- From nothing: what stands in the book before fresh does not matter.

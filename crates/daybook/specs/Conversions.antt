@@ -28,6 +28,7 @@ openingOf xs =
       install = num xs 3;
       base = num xs 4;
       section = num xs 5;
+      operator = num xs 6;
     }
 
 abbrev pub energyNoticeOf : List ℤ → EnergyNotice

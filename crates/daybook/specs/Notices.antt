@@ -26,7 +26,7 @@ Row = ℕ × Bool
 
 -- The highest number of a row.
 abbrev pub highestRefusal : ℕ
-highestRefusal = 16
+highestRefusal = 19
 
 -- The lowest number of a row that applies; 0 if none does.
 abbrev pub smaller : ℕ → ℕ → ℕ
@@ -99,6 +99,7 @@ factsOf n =
       install = natOf (n .install);
       base = base;
       section = natOf (n .section);
+      operator = natOf (n .operator);
     }
 
 -- The User is FRO from the install day on.
@@ -107,17 +108,41 @@ opened n =
     let fro : ℕ → ℕ = fromOn (natOf (n .install)) (natOf (n .user)) (λ d. 0) in
     record { facts = factsOf n; entry = λ d. none; off = λ d. false; fro = fro; pending = none }
 
-unfoldable pub openingRows : Edition → Opening → Bool → ℕ → List Row
-openingRows ed n known count = (
+-- The operators of the points, in order of opening.
+abbrev pub operatorsIn : List Point → List ℕ
+operatorsIn ps = map (λ (p : Point). p .facts .operator) ps
+
+-- How many points operator o holds, and how many of those reserved for it are unfilled (document 02, g).
+unfoldable pub held : List ℕ → ℕ → ℕ
+held [] o = 0
+held (x ∷ l) o = cond (eqb x o) 1 0 + held l o
+
+abbrev pub unfilled : Edition → List ℕ → ℕ → ℕ
+unfilled ed operators o = ed .reserve - held operators o
+
+-- A sum over the four operators.
+abbrev pub overFour : (ℕ → ℕ) → ℕ
+overFour f = f 1 + f 2 + f 3 + f 4
+
+-- The unfilled reserves of the other three.
+unfoldable pub othersUnfilled : Edition → List ℕ → ℕ → ℕ
+othersUnfilled ed operators o = overFour (λ x. cond (eqb x o) 0 (unfilled ed operators x))
+
+-- An opening needs a free row, and points left after it that cover the others' unfilled reserves (document 02, g).
+unfoldable pub openingRows : Edition → Opening → Bool → List ℕ → List Row
+openingRows ed n known operators = (
   2,
   not (isMirn (n .mirn) && isFlag (n .kind) && isUser (n .user) && isDay (n .install)
-      && within (negsuc 0) (pos 10000) (n .base) && within (pos 0) (pos 1) (n .section)),
+      && within (negsuc 0) (pos 10000) (n .base) && within (pos 0) (pos 1) (n .section)
+      && within (pos 1) (pos 4) (n .operator)),
 )
-    ∷ (5, known) ∷ (16, leb (ed .points) count) ∷ []
+    ∷ (5, known)
+    ∷ (16, leb (ed .points) (length operators))
+    ∷ (19, ltb (ed .points - suc (length operators)) (othersUnfilled ed operators (natOf (n .operator)))) ∷ []
 
 unfoldable pub opening : Edition → Opening → Book → Numbers × Book
 opening ed n B =
-    decide (least (openingRows ed n (isSome (find (natOf (n .mirn)) (B .points))) (length (B .points)))) 0 B
+    decide (least (openingRows ed n (isSome (find (natOf (n .mirn)) (B .points))) (operatorsIn (B .points)))) 0 B
     ([], record { nondaily = B .nondaily; daily = B .daily; points = B .points ++ (opened n ∷ []) })
 
 -- ---- energy (3.6.8, 3.6.9)

@@ -9,10 +9,12 @@ ghost use Rattle.calendar.specs.Calendar.{dateNumbers};
 ghost use Rattle.daybook.specs.Notices.{isMirn, isUser, isFlag, isRange};
 ghost use Rattle.daybook.specs.Calls.{noticeNumbers, energyNumbers, requestNumbers, accountNumbers, allocationNumbers};
 
-// Beside the book stands the edition of the table: how many points it holds, and how many records of each.
+// Beside the book stands the edition of the table: how many points it holds, how many records of each, and how many
+// points it reserves for each operator (document 02, g).
 pub struct Edition {
     pub points: usize,
     pub records: usize,
+    pub reserve: usize,
 }
 
 pub struct Ranges {
@@ -20,7 +22,8 @@ pub struct Ranges {
     pub daily: i64,
 }
 
-// The section is 1 for Wagga Wagga and Tamworth, 0 for the rest (document 02, a).
+// The section is 1 for Wagga Wagga and Tamworth, 0 for the rest (document 02, a). The network operator is 1 to 4
+// (document 02, g).
 pub struct Opening {
     pub mirn: i64,
     pub kind: i64,
@@ -28,6 +31,7 @@ pub struct Opening {
     pub install: i64,
     pub base: i64,
     pub section: i64,
+    pub operator: i64,
 }
 
 // What an opening says once and for all. The kind is 0 non-daily or 1 daily metered; the base load is MJ a day.
@@ -37,6 +41,7 @@ pub struct Facts {
     pub install: u64,
     pub base: u64,
     pub section: u64,
+    pub operator: u64,
 }
 
 pub struct EnergyNotice {

@@ -16,7 +16,7 @@ use Rattle.daybook.specs.declared.Edition.{Edition}
 use Rattle.daybook.specs.declared.EnergyNotice.{EnergyNotice}
 use Rattle.daybook.specs.Notices.{least, Numbers, isMirn, isFlag, entryOf, energyEarly, energyRows, energy}
 use Rattle.lists.specs.Lists.{Register}
-use Rattle.lists.specs.InnerSteps.{enterLists, energyListsRows, energyLists}
+use Rattle.lists.specs.InnerSteps.{enteredLists, enterLists, energyListsRows, energyLists}
 use Rattle.lists.specs.InnerWell.{WellFormed}
 use Rattle.lists.proofs.Rows.{above, upTo, least-first, least-skip, least-none}
 use Rattle.lists.proofs.EnergyStep.{energy-step, energy-keeps, energy-clear, enter-keeps}
@@ -70,7 +70,7 @@ module _ (ed : Edition) (fits : Fits ed) (t : List ℤ) (g : ed ≡ editionOf t)
   well-formed s = sound-lays ed fits t s .0
 
   call : sound ed t ≡ true → CallOn ed R 4 (n .mirn) (energyEarly n) (energyListsRows ed n R) (enterLists (entryOf n)) (energy ed n)
-  unfolding energyLists energyEarly energyListsRows energyRows above upTo
+  unfolding energyLists enterLists enteredLists energyEarly energyListsRows energyRows above upTo
   call s =
       let ok = well-formed s in
       record {
@@ -79,6 +79,7 @@ module _ (ed : Edition) (fits : Fits ed) (t : List ℤ) (g : ed ≡ editionOf t)
         high = λ q. refl;
         is = energy-step ed n R ok;
         keeps = energy-keeps ed n ok;
+        operator = λ q. refl;
         room = λ q w e. few (enter-keeps w (entryOf n) (energy-clear ed n R q e));
       }
 

@@ -20,7 +20,7 @@ shapeOf takes gives list table = record { takes = takes; gives = gives; list = l
 
 abbrev pub noticeForm : NoticeWord → Form
 noticeForm Fresh = shapeOf 2 1 false false
-noticeForm Open = shapeOf 6 1 false false
+noticeForm Open = shapeOf 7 1 false false
 noticeForm Energy = shapeOf 6 5 false false
 noticeForm Status = shapeOf 3 1 false false
 noticeForm Request = shapeOf 4 3 true false

@@ -21,7 +21,7 @@ pub struct Form {
 }
 
 fn shape(takes: usize, gives: usize, list: bool, table: bool) -> Form
-    requires { ⌜ (takes ≤ 6) × (gives ≤ 18) ⌝ }
+    requires { ⌜ (takes ≤ 7) × (gives ≤ 18) ⌝ }
     ensures { λ r. ⌜ Formed r (shapeOf takes gives list table) ⌝ }
 {
     Form {
@@ -37,7 +37,7 @@ fn notice_form(n: NoticeWord) -> Form
 {
     match n {
         NoticeWord::Fresh => shape(2, 1, false, false),
-        NoticeWord::Open => shape(6, 1, false, false),
+        NoticeWord::Open => shape(7, 1, false, false),
         NoticeWord::Energy => shape(6, 5, false, false),
         NoticeWord::Status => shape(3, 1, false, false),
         NoticeWord::Request => shape(4, 3, true, false),
@@ -76,8 +76,8 @@ pub fn natural(nums: &[i64], i: usize) -> u64
 
 // The numbers of a line up to its list.
 pub fn own_numbers(f: Form) -> usize
-    requires { ⌜ f .takes ≤ 6 ⌝ }
-    ensures { λ r. ⌜ (r ≡ ownNumbers f) × (r ≤ 7) ⌝ }
+    requires { ⌜ f .takes ≤ 7 ⌝ }
+    ensures { λ r. ⌜ (r ≡ ownNumbers f) × (r ≤ 8) ⌝ }
 {
     if f.list {
         return f.takes + 1;
@@ -87,7 +87,7 @@ pub fn own_numbers(f: Form) -> usize
 
 // All its numbers.
 fn size(f: Form, nums: &[i64]) -> u64
-    requires { ⌜ f .takes ≤ 6 ⌝ }
+    requires { ⌜ f .takes ≤ 7 ⌝ }
     ensures { λ r. ⌜ r ≡ sizeOf f (now (nums .entry)) ⌝ }
 {
     let own = own_numbers(f) as u64;
@@ -100,7 +100,7 @@ fn size(f: Form, nums: &[i64]) -> u64
 
 // Whether a line has the numbers of its form.
 pub fn counted(f: Form, nums: &[i64]) -> bool
-    requires { ⌜ f .takes ≤ 6 ⌝ }
+    requires { ⌜ f .takes ≤ 7 ⌝ }
     ensures { λ r. ⌜ r ≡ eqb (length (now (nums .entry))) (sizeOf f (now (nums .entry))) ⌝ }
 {
     nums.len() as u64 == size(f, nums)

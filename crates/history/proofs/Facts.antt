@@ -7,14 +7,13 @@ use mathlib.Core.List.{List, [], _∷_, _++_, map, map-append}
 use Prim.Native.Nat.{ℕ}
 use lib.Dec.{eqb}
 use lib.IntN.{ℤ}
-use lib.ListN.{length}
 use Rattle.numbers.specs.Naturals.{natOf}
 use Rattle.numbers.specs.Search.{maybe, isSome}
 use Rattle.daybook.specs.declared.Edition.{Edition}
 use Rattle.daybook.specs.declared.Facts.{Facts}
 use Rattle.daybook.specs.declared.Opening.{Opening}
 use Rattle.daybook.specs.Book.{Entry, Point, Book, withEntries, withOff, withFro, withPending}
-use Rattle.daybook.specs.Notices.{Row, least, Numbers, decide, find, put, withPoint, onPoint, fresh, factsOf, opened, openingRows, opening, Which, Outcome, registers, lapses, stays, entered, enter, energy, switched, status, request, withdraw}
+use Rattle.daybook.specs.Notices.{Row, least, Numbers, decide, find, put, withPoint, onPoint, fresh, factsOf, opened, operatorsIn, openingRows, opening, Which, Outcome, registers, lapses, stays, entered, enter, energy, switched, status, request, withdraw}
 use Rattle.daybook.specs.Calls.{Notice, fresh!, open!, energy!, status!, request!, withdraw!, noted}
 use Rattle.lists.proofs.Rows.{decide-keeps}
 
@@ -57,7 +56,7 @@ entered-facts x w stays p = refl
 -- What holds of no facts, and of these with an opening's behind them where no row sends it back, holds after any notice.
 pub facts-after : (P : List Facts → Type 0) (c : Notice) (ed : Edition) (B : Book) → P [] → P (factsIn B)
     → ((n : Opening) → c ≡ open! n
-    → least (openingRows ed n (isSome (find (natOf (n .mirn)) (B .points))) (length (B .points))) ≡ 0
+    → least (openingRows ed n (isSome (find (natOf (n .mirn)) (B .points))) (operatorsIn (B .points))) ≡ 0
     → P (factsIn B ++ (factsOf n ∷ [])))
     → P (factsIn (noted c ed B .1))
 unfolding noted fresh opening energy enter status switched withOff request withdraw withPending opened

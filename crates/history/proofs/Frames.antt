@@ -1,7 +1,7 @@
 -- A call that writes a point leaves all other numbers of the table as they were. Assumes nothing.
 use mathlib.Core.Path.{_≡_, refl, sym, _∙_, ap, ap₂, subst}
-use mathlib.Core.Bool.{Bool, true, false, _&&_, _||_, cond, false≢true}
-use mathlib.Core.Option.{Option, none, some}
+use mathlib.Core.Bool.{Bool, true, false, not, _&&_, _||_, cond, false≢true}
+use mathlib.Core.Option.{Option, none, some, Option·some-injective}
 use mathlib.Core.List.{List, [], _∷_, _++_}
 use Prim.Native.Nat.{ℕ, _+_, _-_, _≤_, _<_}
 use native.Mathlib.Omega.{arith}
@@ -9,7 +9,7 @@ use lib.Dec.{leb, ltb, eqb}
 use lib.IntN.{ℤ, pos}
 use lib.ListN.{length, getD, drop, length-set}
 use lib.Seq.{getD-take, getD-drop, getD-set-other}
-use borrow.Author.Tests.{leb-false, ltb-false, eqb-false}
+use borrow.Author.Tests.{leb-false, ltb-false, eqb-true, eqb-false}
 use Rattle.numbers.specs.Naturals.{natOf}
 use Rattle.numbers.specs.Search.{maybe}
 use Rattle.numbers.specs.Answers.{refused}
@@ -21,16 +21,16 @@ use Rattle.daybook.specs.declared.Facts.{Facts}
 use Rattle.daybook.specs.Notices.{Row, Numbers, factsOf}
 use Rattle.daybook.specs.Calls.{Notice, fresh!, open!, energy!, status!, request!, withdraw! }
 use Rattle.lists.specs.Lists.{Lists, Register}
-use Rattle.lists.specs.InnerSteps.{findLists, putLists, withLists, onLists, openedLists, openingLists, energyLists, statusLists, requestLists, withdrawLists, noticeLists}
+use Rattle.lists.specs.InnerSteps.{withOffs, withPendingLists, findLists, putLists, withLists, onLists, openedLists, openingLists, enteredLists, enterLists, energyLists, statusLists, requestLists, withdrawLists, noticeLists}
 use Rattle.lists.specs.InnerWell.{Points, WellFormed}
 use Rattle.lists.proofs.Rows.{decide-keeps}
-use Rattle.lists.proofs.Notices.{notice-step, notice-keeps}
-use Rattle.layout.specs.Layout.{tableLength, stride, placeOf, editionOf, partOf, pointNumbers, layout, numAt, registerOf, tableBook}
+use Rattle.lists.proofs.Notices.{notice-step, notice-keeps, notice-kept}
+use Rattle.layout.specs.Layout.{tableLength, stride, placeOf, editionOf, partOf, headNumbers, pointNumbers, layout, numAt, pointFrom, registerOf, tableBook}
 use Rattle.layout.specs.InnerWrites.{withPart, appendRegistration, openPoint, appendPoint}
 use Rattle.layout.specs.Sound.{sound}
 use Rattle.layout.specs.Calls.{answerAndTable, onEdition}
 use Rattle.layout.proofs.Numbers.{Few, few, length-point}
-use Rattle.layout.proofs.Parts.{part-ends, with-part-length, with-part-front, with-part-past}
+use Rattle.layout.proofs.Parts.{part-ends, with-part-length, with-part-front, with-part-past, with-part-itself}
 use Rattle.layout.proofs.PartBlocks.{snoc-length}
 use Rattle.layout.proofs.PointParts.{all-few-of, withPoints, table-split}
 use Rattle.layout.proofs.NewPoint.{freshPoint, append-point}
@@ -39,7 +39,7 @@ use Rattle.layout.proofs.Editions.{edition-fits}
 use Rattle.layout.proofs.SoundParts.{part-length}
 use Rattle.table.specs.Lookup.{indexOf}
 use Rattle.table.proofs.Laws.{sound-long, mirnAt}
-use Rattle.table.proofs.Found.{found, missing}
+use Rattle.table.proofs.Found.{Found, found, missing}
 use Rattle.table.proofs.Calls.{leaves-is}
 use Rattle.opening.specs.Opening.{openCall}
 use Rattle.energy.specs.Energy.{energyCall}
@@ -73,6 +73,31 @@ module _ (ed : Edition) (t : List ℤ) (i : ℕ) (p : List ℤ) (e : length p �
       ∙ ap (λ u. getD u (k - past) (pos 0)) (with-part-past ed t i p e h past (omega arith))
       ∙ getD-drop past t (k - past) (pos 0))
   at k true l true r o = absurd (false≢true (sym o))
+
+  -- a part's own number at a place of the table
+  part-at : (u : List ℤ) (j : ℕ) → j < stride ed → getD (partOf ed u i) j (pos 0) ≡ getD u (placeOf ed i + j) (pos 0)
+  unfolding partOf
+  part-at u j l = getD-take (stride ed) (drop (placeOf ed i) u) j (pos 0) l ∙ getD-drop (placeOf ed i) u j (pos 0)
+
+  -- where the operator's place holds what it held
+  operator-framed : getD p 11 (pos 0) ≡ getD (partOf ed t i) 11 (pos 0)
+      → Framed (λ k. inPart ed i k && not (eqb k (placeOf ed i + 11))) t (withPart ed t i p)
+  operator-framed same =
+      record {
+        sameLength = with-part-length ed t i p e h;
+        outside = λ k. go k (inPart ed i k) refl (eqb k (placeOf ed i + 11)) refl;
+      }
+    where
+      go : (k : ℕ) (a : Bool) → inPart ed i k ≡ a → (b : Bool) → eqb k (placeOf ed i + 11) ≡ b → (a && not b) ≡ false
+          → getD (withPart ed t i p) k (pos 0) ≡ getD t k (pos 0)
+      go k false o b x z = at k (leb (placeOf ed i) k) refl (ltb k past) refl o
+      go k true o true x z =
+          ap (λ k. getD (withPart ed t i p) k (pos 0)) (eqb-true k (placeOf ed i + 11) x)
+          ∙ sym (part-at (withPart ed t i p) 11 (omega arith))
+          ∙ ap (λ p. getD p 11 (pos 0)) (with-part-itself ed t i p e h)
+          ∙ same ∙ part-at t 11 (omega arith)
+          ∙ ap (λ k. getD t k (pos 0)) (sym (eqb-true k (placeOf ed i + 11) x))
+      go k true o false x z = absurd (false≢true (sym z))
 
   part-framed : Framed (inPart ed i) t (withPart ed t i p)
   part-framed =
@@ -123,25 +148,35 @@ module _ (t : List ℤ) (s : sound (editionOf t) t ≡ true) where
 
   -- a call on the point of a MIRN
 
+  -- the operator's number in a part is that of its lists
+  operator-cell : (room : ℕ) (q : Lists) → getD (pointNumbers room q) 11 (pos 0) ≡ pos (q .facts .operator)
+  unfolding pointNumbers headNumbers
+  operator-cell room q = refl
+
   point-laid : (m : ℤ) (q q′ : Lists) → findLists (natOf m) (R .points) ≡ some q → Few (ed .records) q′
-      → Framed (ofPoint t m) t (laid (withLists (natOf m) q′ R))
-  point-laid m q q′ f g = go (indexOf ed t (natOf m)) refl
+      → q′ .facts .operator ≡ q .facts .operator → Framed (ofPoint t m) t (laid (withLists (natOf m) q′ R))
+  point-laid m q q′ f g same = go (indexOf ed t (natOf m)) refl
     where
       go : (o : Option ℕ) → indexOf ed t (natOf m) ≡ o
-          → Framed (λ k. maybe false (λ i. inPart ed i k) o) t (laid (withLists (natOf m) q′ R))
+          → Framed (λ k. maybe false (λ i. inPart ed i k && not (eqb k (placeOf ed i + 11))) o) t (laid (withLists (natOf m) q′ R))
       go none e =
           let h : findLists (natOf m) (R .points) ≡ none = missing ed (edition-fits t) t s (natOf m) e in
           let z : _≡_ {A = ℕ} 0 1 = cc in
           absurd (omega arith)
       go (some i) e =
           let low : i < 0 + numAt t 0 = unfold indexOf in from-bound (mirnAt ed t (natOf m)) 0 (numAt t 0) i e .1 in
-          subst (Framed (inPart ed i) t) (found ed (edition-fits t) t s (natOf m) i e .put q′ g)
-          (part-framed ed t i (pointNumbers (ed .records) q′) (length-point g) (ends i (omega (arith, low, sound-long ed t s .1))))
+          let here : Found ed t (natOf m) i = found ed (edition-fits t) t s (natOf m) i e in
+          let is : q ≡ pointFrom (partOf ed t i) = Option·some-injective q _ (sym f ∙ here .find) in
+          subst (Framed _ t) (here .put q′ g)
+          (operator-framed ed t i (pointNumbers (ed .records) q′) (length-point g) (ends i (omega (arith, low, sound-long ed t s .1)))
+          (operator-cell (ed .records) q′ ∙ ap pos (same ∙ ap (λ (q : Lists). q .facts .operator) is)
+          ∙ sym (operator-cell (ed .records) _) ∙ ap (λ p. getD p 11 (pos 0)) (here .laid)))
 
   on-lists : (k : ℕ) (m : ℤ) (early : List Row) (rows : Lists → List Row) (effect : Lists → Numbers × Lists)
+      → ((q : Lists) → effect q .1 .facts .operator ≡ q .facts .operator)
       → Kept (ofPoint t m) (onLists k m early rows effect R .1)
   unfolding onLists withLists
-  on-lists k m early rows effect =
+  on-lists k m early rows effect same =
       decide-keeps k R _ (Kept own) _ (as-is own) (λ z. go (findLists (natOf m) (R .points)) refl)
     where
       own : ℕ → Bool
@@ -150,7 +185,7 @@ module _ (t : List ℤ) (s : sound (editionOf t) t ≡ true) where
       go : (o : Option Lists) → findLists (natOf m) (R .points) ≡ o
           → Kept own (maybe {B = Numbers × Register} ([], R) (λ q. (effect q .0, withLists (natOf m) (effect q .1) R)) o .1)
       go none e w = as-is own w
-      go (some q) e w = point-laid m q (effect q .1) e (put-few (natOf m) q (effect q .1) (R .points) e (w .pointsOk))
+      go (some q) e w = point-laid m q (effect q .1) e (put-few (natOf m) q (effect q .1) (R .points) e (w .pointsOk)) (same q)
 
   -- an opening
 
@@ -192,7 +227,7 @@ module _ (t : List ℤ) (s : sound (editionOf t) t ≡ true) where
   unfolding tableBook
   notice-framed c own f =
       subst (λ (w : Numbers × List ℤ). Framed own t (w .1))
-      (sym (notice-is t s c ∙ ap (answerAndTable ed t) (notice-step c ed R ok) ∙ leaves-is ed t (noticeLists c ed R) (notice-keeps c ed ok)))
+      (sym (notice-is t s c ∙ ap (answerAndTable ed t) (notice-step c ed R ok) ∙ leaves-is ed t (noticeLists c ed R) (notice-keeps c ed ok) (notice-kept c ed R)))
       (go (refused (noticeLists c ed R .0)))
     where
       go : (b : Bool) → Framed own t (cond b t (laid (noticeLists c ed R .1)))
@@ -229,13 +264,13 @@ framed c e t own f = go (sound (editionOf t) t) refl
     go false s = subst (Framed own t) (sym (left-alone t s c e)) (unchanged own t)
 
 pub frames : Frames
-unfolding noticeCall noticeLists energyLists statusLists requestLists withdrawLists
+unfolding noticeCall noticeLists energyLists enterLists enteredLists statusLists withOffs requestLists withdrawLists withPendingLists
 frames =
     record {
       opening = λ t n. framed (open! n) refl t (ofNewPoint t) (λ s. on-opening t s n);
-      energy = λ t n. framed (energy! n) refl t (ofPoint t (n .mirn)) (λ s. on-lists t s 4 (n .mirn) _ _ _);
-      status = λ t n. framed (status! n) refl t (ofPoint t (n .mirn)) (λ s. on-lists t s 0 (n .mirn) _ _ _);
+      energy = λ t n. framed (energy! n) refl t (ofPoint t (n .mirn)) (λ s. on-lists t s 4 (n .mirn) _ _ _ (λ q. refl));
+      status = λ t n. framed (status! n) refl t (ofPoint t (n .mirn)) (λ s. on-lists t s 0 (n .mirn) _ _ _ (λ q. refl));
       request = λ t n holidays.
-          framed (request! n holidays) refl t (ofPoint t (n .mirn)) (λ s. on-lists t s 2 (n .mirn) _ _ _);
-      withdraw = λ t n. framed (withdraw! n) refl t (ofPoint t (n .mirn)) (λ s. on-lists t s 0 (n .mirn) _ _ _);
+          framed (request! n holidays) refl t (ofPoint t (n .mirn)) (λ s. on-lists t s 2 (n .mirn) _ _ _ (λ q. refl));
+      withdraw = λ t n. framed (withdraw! n) refl t (ofPoint t (n .mirn)) (λ s. on-lists t s 0 (n .mirn) _ _ _ (λ q. refl));
     }

@@ -1,6 +1,6 @@
 -- The claim about every list of calls: the calls follow the book, what a sound table's book adds up to, and both
--- together. And what one call leaves as it was, which answers request c changed, and which registers were sound before
--- request a.
+-- together. And what one call leaves as it was, that the reserves of operators are kept, which answers request c changed,
+-- and which registers were sound before requests a and g.
 pub mod Steps
 pub mod Runs
 pub mod Accounts
@@ -10,8 +10,9 @@ pub mod Points
 pub mod EnergyBooks
 pub mod Transfers
 pub mod SoundTables
+pub mod Facts
+pub mod Promise
 pub mod Theorem
 pub mod Frames
 pub mod OnlyAppends
-pub mod Facts
-pub mod Sections
+pub mod Older

@@ -13,6 +13,7 @@ use Rattle.daybook.specs.declared.Ranges.{Ranges}
 use Rattle.daybook.specs.Notices.{least, Numbers, decide, freshRows, fresh}
 use Rattle.daybook.specs.Calls.{Call, State, run, answers}
 use Rattle.lists.specs.Lists.{bookOf}
+use Rattle.lists.proofs.Operators.{kept-none}
 use Rattle.lists.proofs.OpenStep.{no-points}
 use Rattle.layout.specs.Layout.{tableLength, editionOf, tableBook}
 use Rattle.layout.specs.Calls.{answerAndTable}
@@ -50,7 +51,7 @@ fresh-begins t n = go (leb tableLength (length t)) (least (freshRows n)) refl
     go : (long : Bool) (row : ℕ) → least (freshRows n) ≡ row → given long row .0 ≡ pos 0 ∷ []
         → StandsFor (record { table = given long row .1 }) (freshState ed n)
     go true zero z e =
-        let h : Holds ed (edition-fits t) _ (freshState ed n .book) = written-holds ed (edition-fits t) (no-points ed n z) t in
+        let h : Holds ed (edition-fits t) _ (freshState ed n .book) = written-holds ed (edition-fits t) (no-points ed n z) t (kept-none _) in
         record { edition = edition-left t (freshState ed n .book); isSound = h .isSound; book = h .book }
     go true (suc r) z e = let k : _≡_ {A = ℕ} 0 1 = cc in absurd (omega arith)
     go false row z e = let k : _≡_ {A = ℕ} 0 1 = cc in absurd (omega arith)

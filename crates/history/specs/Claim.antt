@@ -5,15 +5,17 @@ use lib.IntN.{ℤ, pos}
 use Rattle.daybook.specs.declared.Ranges.{Ranges}
 use Rattle.daybook.specs.Calls.{Call, State, run, answers}
 use Rattle.layout.specs.Layout.{editionOf}
-use Rattle.opening.specs.Opening.{freshCall}
+use Rattle.opening.specs.Opening.{freshCall, openCall}
 use Rattle.history.specs.Runs.{Lent, lentRun, lentAnswers, freshState}
 use Rattle.history.specs.Agreement.{Agrees}
+use Rattle.history.specs.Promise.{refusalIn, Reserved}
 
 -- Lend any table t₀ to fresh, with any two ranges n. If it answers 0, then lend the table to any calls, one after the
 -- other, with any numbers, each call on the table that the one before left. Every call answers what the day book
 -- answers to the same calls, and of what is lent and the state after the last of them all that `Agrees` says holds: the
 -- table is sound and stands for the state's book, each filled day has one User, accounts, entries and allocations add
--- up, and a registered transfer parts the days between two Users, in either section.
+-- up, and a registered transfer parts the days between two Users, in either section. And an operator that then holds
+-- fewer points than its reserve is refused neither by 16 nor by 19 when it opens one.
 --
 -- The calls here are definitions. The contracts of the code equate each function with one of them, for every table and
 -- all numbers: opening::fresh with freshCall, opening::open with openCall, energy::energy with energyCall,
@@ -25,3 +27,4 @@ EveryList =
     → let L : Lent = record { table = freshCall t₀ n .1 } in
     let S : State = freshState (editionOf t₀) n in
     Agrees (lentRun cs L) (run cs S) × (lentAnswers cs L ≡ answers cs S)
+    × Reserved (run cs S) (λ m. refusalIn (openCall (lentRun cs L .table) m .0))

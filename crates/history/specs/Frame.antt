@@ -1,6 +1,6 @@
 -- What a call that writes a point leaves as it was, for any table and numbers.
 use mathlib.Core.Path.{_≡_}
-use mathlib.Core.Bool.{Bool, false, _&&_, _||_}
+use mathlib.Core.Bool.{Bool, false, not, _&&_, _||_}
 use mathlib.Core.List.{List}
 use Prim.Native.Nat.{ℕ, _+_}
 use lib.Dec.{leb, ltb, eqb}
@@ -14,7 +14,7 @@ use Rattle.daybook.specs.declared.EnergyNotice.{EnergyNotice}
 use Rattle.daybook.specs.declared.StatusNotice.{StatusNotice}
 use Rattle.daybook.specs.declared.TransferRequest.{TransferRequest}
 use Rattle.daybook.specs.declared.Withdrawal.{Withdrawal}
-use Rattle.layout.specs.Places.{pointsPlace}
+use Rattle.layout.specs.Places.{pointsPlace, operatorPlace}
 use Rattle.layout.specs.Layout.{stride, placeOf, editionOf, numAt}
 use Rattle.table.specs.Lookup.{indexOf}
 use Rattle.opening.specs.Opening.{openCall}
@@ -26,9 +26,11 @@ use Rattle.transfer.specs.Transfer.{requestCall, withdrawCall}
 abbrev pub inPart : Edition → ℕ → ℕ → Bool
 inPart ed i k = leb (placeOf ed i) k && ltb k (placeOf ed i + stride ed)
 
--- In the part of the point of this MIRN, if there is one?
+-- In the part of the point of this MIRN, if there is one, and not the place of its operator?
 abbrev pub ofPoint : List ℤ → ℤ → ℕ → Bool
-ofPoint t mirn k = maybe false (λ i. inPart (editionOf t) i k) (indexOf (editionOf t) t (natOf mirn))
+ofPoint t mirn k =
+    let ed : Edition = editionOf t in
+    maybe false (λ i. inPart ed i k && not (eqb k (placeOf ed i + operatorPlace))) (indexOf ed t (natOf mirn))
 
 -- In the part of one more point, or the count of points?
 abbrev pub ofNewPoint : List ℤ → ℕ → Bool
@@ -39,8 +41,8 @@ pub record Framed (own : ℕ → Bool) (t t′ : List ℤ) : Type 0 where
   pub sameLength : length t′ ≡ length t
   pub outside : (k : ℕ) → own k ≡ false → getD t′ k (pos 0) ≡ getD t k (pos 0)
 
--- A notice leaves every number outside its own point's part as it was, an opening every number but those of the new
--- point's part and the count of points.
+-- A notice leaves every number outside its own point's part as it was, and that point's operator, be it 0 (document 02,
+-- g); an opening every number but those of the new point's part and the count of points.
 pub record Frames : Type 0 where
   pub opening : (t : List ℤ) (n : Opening) → Framed (ofNewPoint t) t (openCall t n .1)
   pub energy : (t : List ℤ) (n : EnergyNotice) → Framed (ofPoint t (n .mirn)) t (energyCall t n .1)

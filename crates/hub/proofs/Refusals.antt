@@ -21,7 +21,7 @@ use Rattle.daybook.specs.declared.Withdrawal.{Withdrawal}
 use Rattle.daybook.specs.declared.AccountQuery.{AccountQuery}
 use Rattle.daybook.specs.declared.AllocationQuery.{AllocationQuery}
 use Rattle.daybook.specs.Book.{Book, Point}
-use Rattle.daybook.specs.Notices.{Row, highestRefusal, least, Numbers, decide, find, onPoint, freshRows, fresh, openingRows, opening, energyEarly, energyRows, energyRowsAt, energy, statusEarly, statusRows, status, requestEarly, requestRows, request, withdrawEarly, withdrawRows, withdraw}
+use Rattle.daybook.specs.Notices.{Row, highestRefusal, least, Numbers, decide, find, onPoint, freshRows, fresh, operatorsIn, openingRows, opening, energyEarly, energyRows, energyRowsAt, energy, statusEarly, statusRows, status, requestEarly, requestRows, request, withdrawEarly, withdrawRows, withdraw}
 use Rattle.daybook.specs.Queries.{accountRows, account, allocateRows, allocate}
 use Rattle.lists.proofs.Rows.{upTo, up-to-append, up-to-least}
 use Rattle.layout.specs.Layout.{tableLength, editionOf, tableBook}
@@ -74,7 +74,7 @@ fresh-small t n = go (leb tableLength (length t))
 
 pub open-small : (t : List ℤ) (n : Opening) → refusalOf (openCall t n .0) ≤ highestRefusal
 unfolding openCall opening openingRows upTo
-open-small t n = on-table 0 (opening (editionOf t) n) (editionOf t) t (λ B. rw decided (up-to-least highestRefusal (openingRows (editionOf t) n _ (length (B .points))) refl))
+open-small t n = on-table 0 (opening (editionOf t) n) (editionOf t) t (λ B. rw decided (up-to-least highestRefusal (openingRows (editionOf t) n _ (operatorsIn (B .points))) refl))
 
 pub energy-small : (t : List ℤ) (n : EnergyNotice) → refusalOf (energyCall t n .0) ≤ highestRefusal
 unfolding energyCall energy energyEarly energyRowsAt energyRows upTo

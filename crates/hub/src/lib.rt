@@ -48,8 +48,9 @@ pub extern "C" fn petlumas_open(
     install: i64,
     base: i64,
     section: i64,
+    operator: i64,
 ) -> i64
-    ensures { λ r. ⌜ (r, (now (register .exit), now (answer .exit))) ≡ written (openCall (tableIn (now (register .entry))) (record { mirn = mirn; kind = kind; user = user; install = install; base = base; section = section })) (now (register .entry)) (now (answer .entry)) ⌝ }
+    ensures { λ r. ⌜ (r, (now (register .exit), now (answer .exit))) ≡ written (openCall (tableIn (now (register .entry))) (record { mirn = mirn; kind = kind; user = user; install = install; base = base; section = section; operator = operator })) (now (register .entry)) (now (answer .entry)) ⌝ }
 {
     let n = Opening {
         mirn,
@@ -58,6 +59,7 @@ pub extern "C" fn petlumas_open(
         install,
         base,
         section,
+        operator,
     };
     let mut t = [0i64; places::TABLE_LENGTH];
     let table = buffers::table_in(register, &mut t);

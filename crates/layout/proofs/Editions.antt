@@ -9,7 +9,7 @@ use Rattle.layout.specs.Layout.{Fits, editionOf, withBook}
 
 pub edition-fits : (t : List ℤ) → Fits (editionOf t)
 unfolding editionOf
-edition-fits t = record { some = lit≤ tt; few = lit≤ tt; inTable = lit≤ tt }
+edition-fits t = record { some = lit≤ tt; few = lit≤ tt; inTable = lit≤ tt; reserved = lit≤ tt }
 
 -- a book written over a table
 pub edition-left : (t : List ℤ) (B : Book) → editionOf (withBook (editionOf t) t B) ≡ editionOf t

@@ -14,7 +14,8 @@ use Rattle.daybook.specs.Calls.{Notice, noted}
 use Rattle.lists.specs.Lists.{Register, bookOf}
 use Rattle.lists.specs.InnerSteps.{noticeLists}
 use Rattle.lists.specs.InnerWell.{WellFormed}
-use Rattle.lists.proofs.Notices.{notice-step, notice-keeps, notice-sent-back}
+use Rattle.lists.proofs.Operators.{Kept}
+use Rattle.lists.proofs.Notices.{notice-step, notice-keeps, notice-kept, notice-sent-back}
 use Rattle.layout.specs.Layout.{tableLength, Fits, layout, registerOf, tableBook, withBook}
 use Rattle.layout.specs.Sound.{sound}
 use Rattle.layout.specs.Calls.{answerAndTable}
@@ -29,20 +30,21 @@ module _ (ed : Edition) (fits : Fits ed) where
     pub isSound : sound ed t ≡ true
     pub book : tableBook ed t ≡ B
 
-  -- a book of well-formed lists, written over any table, makes a sound one with that book
-  pub written-holds : {R : Register} → WellFormed ed R → (t : List ℤ) → Holds (withBook ed t (bookOf R)) (bookOf R)
-  written-holds {R} ok t =
-      subst (λ u. Holds u (bookOf R)) (sym (written-is ed ok t))
+  -- a book of well-formed lists, written over any table whose operators they keep, makes a sound one with that book
+  pub written-holds : {R : Register} → WellFormed ed R → (t : List ℤ) → Kept (registerOf ed t .points) (R .points)
+      → Holds (withBook ed t (bookOf R)) (bookOf R)
+  written-holds {R} ok t kept =
+      subst (λ u. Holds u (bookOf R)) (sym (written-is ed ok t kept))
       (record {
         isSound = lays-sound ed fits ok (drop tableLength t);
         book = book-of-layout ed ok (drop tableLength t);
       })
 
   -- and one of a register's length stays that long
-  pub written-length : {R : Register} → WellFormed ed R → (t : List ℤ) → length t ≡ tableLength
-      → length (withBook ed t (bookOf R)) ≡ tableLength
-  written-length {R} ok t h =
-      ap length (written-is ed ok t) ∙ length-append (layout ed R) (drop tableLength t)
+  pub written-length : {R : Register} → WellFormed ed R → (t : List ℤ) → Kept (registerOf ed t .points) (R .points)
+      → length t ≡ tableLength → length (withBook ed t (bookOf R)) ≡ tableLength
+  written-length {R} ok t kept h =
+      ap length (written-is ed ok t kept) ∙ length-append (layout ed R) (drop tableLength t)
       ∙ sum (length (layout ed R)) (length (drop tableLength t)) (length t) laid (length-drop tableLength t) h
     where
       laid : length (layout ed R) ≡ tableLength
@@ -69,7 +71,7 @@ module _ (ed : Edition) (fits : Fits ed) where
         go true e = record { isSound = s; book = sym (notice-sent-back c ed B e) }
         go false e =
             subst (λ B. Holds (withBook ed t B) B) (sym (ap (λ (w : Numbers × Book). w .1) after))
-            (written-holds (notice-keeps c ed ok) t)
+            (written-holds (notice-keeps c ed ok) t (notice-kept c ed (registerOf ed t)))
 
     pub notice-length : length t ≡ tableLength → length (answerAndTable ed t (noted c ed B) .1) ≡ tableLength
     notice-length h = go (refused (noted c ed B .0))
@@ -77,4 +79,5 @@ module _ (ed : Edition) (fits : Fits ed) where
         go : (b : Bool) → length (cond b t (withBook ed t (noted c ed B .1))) ≡ tableLength
         go true = h
         go false =
-            ap (λ (w : Numbers × Book). length (withBook ed t (w .1))) after ∙ written-length (notice-keeps c ed ok) t h
+            ap (λ (w : Numbers × Book). length (withBook ed t (w .1))) after
+            ∙ written-length (notice-keeps c ed ok) t (notice-kept c ed (registerOf ed t)) h

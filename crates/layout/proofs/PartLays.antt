@@ -119,7 +119,7 @@ module _ (p : List ℤ) (room : ℕ) (len : length p ≡ 48 + 4 * room) (f : Tes
 
   head-lay : headNumbers (pointFrom p) ≡ take 16 p
   unfolding headNumbers pointFrom cells pad
-  head-lay = block 16 11 0 _ (used ∙ cells-take 11 0 p (omega arith)) (omega arith) (omega arith) (f .headZeros)
+  head-lay = block 16 12 0 _ (used ∙ cells-take 12 0 p (omega arith)) (omega arith) (omega arith) (f .headZeros)
     where
       facts : FactsOk (pointFrom p .facts)
       facts = part-well .factsOk
@@ -135,15 +135,16 @@ module _ (p : List ℤ) (room : ℕ) (len : length p ≡ 48 + 4 * room) (f : Tes
 
       used : pos (numAt p 0) ∷ pos (numAt p 1) ∷ pos (numAt p 2) ∷ pos (numAt p 3)
           ∷ pos (length regs) ∷ pos (length offs) ∷ pos (length recs)
-          ∷ pos (pendingOrZeros request .user) ∷ pos (pendingOrZeros request .first) ∷ pos (pendingOrZeros request .last) ∷ pos (numAt p 10) ∷ []
-          ≡ cells p 0 11
+          ∷ pos (pendingOrZeros request .user) ∷ pos (pendingOrZeros request .first) ∷ pos (pendingOrZeros request .last)
+          ∷ pos (numAt p 10) ∷ pos (numAt p 11) ∷ []
+          ≡ cells p 0 12
       used =
           two (own 0 (omega (arith, facts .mirnHigh))) (own 1 (omega (arith, facts .kindOk)))
           (two (own 2 (omega (arith, facts .installOk))) (own 3 (omega (arith, facts .baseOk)))
           (two (ap pos many-regs ∙ own 4 (omega (arith, f .fewRegs))) (ap pos many-offs ∙ own 5 (omega (arith, f .fewOffs)))
           (two (ap pos many-recs ∙ own 6 (omega (arith, few-recs))) (ap pos (three .userBack) ∙ own 7 (three .userLow))
           (two (ap pos (three .firstBack) ∙ own 8 (three .firstLow)) (ap pos (three .lastBack) ∙ own 9 (three .lastLow))
-          (λ i. own 10 (omega (arith, facts .sectionOk)) i ∷ [])))))
+          (two (own 10 (omega (arith, facts .sectionOk))) (own 11 (omega (arith, facts .operatorOk))) (λ i. []))))))
 
   regs-block : pad 16 (regNumbers regs) ≡ take 16 (drop 16 p)
   unfolding pointFrom

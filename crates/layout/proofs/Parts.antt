@@ -6,7 +6,7 @@ use Prim.Native.Nat.{ℕ, suc, _+_, _-_, _*_, _≤_, _<_}
 use native.Mathlib.Omega.{arith}
 use native.Mathlib.Nat.{mul-suc, mul-le-mul-left}
 use lib.ListN.{length, take, drop, length-append, length-drop, take-append-drop}
-use lib.Seq.{length-take-le, take-append-le, take-take, drop-append-add, drop-drop}
+use lib.Seq.{length-take-le, take-append-le, take-take, take-at, drop-at, drop-append-add, drop-drop}
 use lib.IntN.{ℤ}
 use Rattle.daybook.specs.declared.Edition.{Edition}
 use Rattle.layout.specs.Layout.{tableLength, stride, placeOf, Fits, partOf}
@@ -70,6 +70,12 @@ module _ (ed : Edition) (t : List ℤ) (i : ℕ) (p : List ℤ) (e : length p �
   pub with-part-past : (n : ℕ) → placeOf ed i + stride ed ≤ n → drop n (withPart ed t i p) ≡ drop n t
   unfolding withPart
   with-part-past = patched-past (placeOf ed i) (stride ed) t p e h
+
+  pub with-part-itself : partOf ed (withPart ed t i p) i ≡ p
+  unfolding withPart partOf
+  with-part-itself =
+      ap (take (stride ed)) (drop-at (take (placeOf ed i) t) (p ++ drop (placeOf ed i + stride ed) t) (placeOf ed i) (front-length (placeOf ed i) (stride ed) t p e h))
+      ∙ take-at p (drop (placeOf ed i + stride ed) t) (stride ed) e
 
 -- a part put back as it was
 pub with-part-own : (ed : Edition) (t : List ℤ) (i : ℕ) → withPart ed t i (partOf ed t i) ≡ t

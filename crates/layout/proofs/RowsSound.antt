@@ -24,14 +24,15 @@ pub facts-sound : {f : Facts} → FactsOk f → factsSound f ≡ true
 unfolding factsSound
 facts-sound {f} o =
     let mirn = join (le-leb 1 (f .mirn) (o .mirnLow)) (le-leb (f .mirn) 9999999999 (o .mirnHigh)) in
-    join
-    (join (join (join mirn (le-leb (f .kind) 1 (o .kindOk))) (le-leb (f .install) 39999 (o .installOk))) (le-leb (f .base) 10000 (o .baseOk)))
-    (le-leb (f .section) 1 (o .sectionOk))
+    let four = join (join mirn (le-leb (f .kind) 1 (o .kindOk))) (le-leb (f .install) 39999 (o .installOk)) in
+    join (join (join four (le-leb (f .base) 10000 (o .baseOk))) (le-leb (f .section) 1 (o .sectionOk)))
+    (le-leb (f .operator) 4 (o .operatorOk))
 
 pub facts-ok : (f : Facts) → factsSound f ≡ true → FactsOk f
 unfolding factsSound
 facts-ok f e =
-    let s = both _ _ e in
+    let o = both _ _ e in
+    let s = both _ _ (o .0) in
     let a = both _ _ (s .0) in
     let b = both _ _ (a .0) in
     let c = both _ _ (b .0) in
@@ -43,6 +44,7 @@ facts-ok f e =
       installOk = leb-true (f .install) 39999 (b .1);
       baseOk = leb-true (f .base) 10000 (a .1);
       sectionOk = leb-true (f .section) 1 (s .1);
+      operatorOk = leb-true (f .operator) 4 (o .1);
     }
 
 -- ---- registrations

@@ -25,7 +25,7 @@ use Rattle.layout.proofs.Numbers.{pad-take, few}
 use Rattle.layout.proofs.RowsLaid.{clean}
 use Rattle.layout.proofs.PartSound.{zeros-at}
 use Rattle.layout.proofs.PartLays.{part-lays}
-use Rattle.layout.proofs.Tables.{one-layout}
+use Rattle.layout.proofs.Tables.{namedRegister, one-register}
 use Rattle.layout.proofs.Mirns.{next as next-part}
 
 -- ---- MIRNs that differ
@@ -169,10 +169,12 @@ sound-lays ed fits t e = (well, whole)
         ∙ ap (pad tableLength) (sym (take-add 8 (stride ed * n) t))
         ∙ pad-take tableLength (placeOf ed n) t ends (s .long) (λ i a b. zeros-at t (placeOf ed n) tableLength (s .rest) i a b)
 
--- one book, one table: sound tables of one edition with equal books hold the same numbers
-pub one-table : (ed : Edition) → Fits ed → (t u : List ℤ) → sound ed t ≡ true → sound ed u ≡ true → tableBook ed t ≡ tableBook ed u → take tableLength t ≡ take tableLength u
+-- one book, one table: sound tables of one edition with equal books hold the same numbers, where the operators of both
+-- are named
+pub one-table : (ed : Edition) → Fits ed → (t u : List ℤ) → sound ed t ≡ true → sound ed u ≡ true → tableBook ed t ≡ tableBook ed u
+    → namedRegister (registerOf ed t) ≡ registerOf ed t → namedRegister (registerOf ed u) ≡ registerOf ed u → take tableLength t ≡ take tableLength u
 unfolding tableBook
-one-table ed f t u a b e =
+one-table ed f t u a b e m n =
     let x = sound-lays ed f t a in
     let y = sound-lays ed f u b in
-    sym (x .1) ∙ one-layout ed (x .0) (y .0) e ∙ y .1
+    sym (x .1) ∙ ap (layout ed) (sym m ∙ one-register (x .0) (y .0) e ∙ n) ∙ y .1

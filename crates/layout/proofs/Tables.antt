@@ -6,8 +6,9 @@ use lib.ListN.{length, take, drop}
 use lib.Seq.{take-at, drop-at}
 use lib.IntN.{ℤ}
 use Rattle.daybook.specs.declared.Edition.{Edition}
-use Rattle.lists.specs.Lists.{Lists, Register, pointOf, bookOf}
+use Rattle.lists.specs.Lists.{Lists, Register, bookFacts, pointOf, bookOf, withFacts, asFound}
 use Rattle.lists.specs.InnerWell.{Well, Points, nopoint, point, WellFormed}
+use Rattle.lists.proofs.Operators.{namedLists, Kept}
 use Rattle.lists.proofs.Records.{records-is}
 use Rattle.lists.proofs.Registrations.{registrations-is}
 use Rattle.lists.proofs.Spans.{point-spans}
@@ -37,35 +38,42 @@ register-back ed {R} w rest = λ i. record { nondaily = R .nondaily; daily = R .
 
 -- ---- from the days
 
-lists-back : {room : ℕ} {q : Lists} → Well room q → listsOf (pointOf q) ≡ q
-unfolding listsOf pointOf
+lists-back : {room : ℕ} {q : Lists} → Well room q → listsOf (pointOf q) ≡ namedLists q
+unfolding listsOf pointOf withFacts
 lists-back {q = q} w = λ i. record {
-  facts = q .facts;
+  facts = bookFacts (q .facts);
   regs = registrations-is w i;
   offs = point-spans w i;
   recs = records-is w i;
   pending = q .pending;
 }
 
-all-back : {room : ℕ} {qs : List Lists} → Points room qs → map listsOf (map pointOf qs) ≡ qs
+all-back : {room : ℕ} {qs : List Lists} → Points room qs → map listsOf (map pointOf qs) ≡ map namedLists qs
 all-back nopoint = refl
 all-back (point w n r) = ap₂ _∷_ (lists-back w) (all-back r)
 
--- a book gives back the well-formed lists that it stands for
-pub book-back : {ed : Edition} {R : Register} → WellFormed ed R → bookRegister (bookOf R) ≡ R
+-- The register with the operators that the book names.
+abbrev pub namedRegister : Register → Register
+namedRegister R = record { nondaily = R .nondaily; daily = R .daily; points = map namedLists (R .points) }
+
+-- a book gives back the well-formed lists that it stands for, their operators named
+pub book-back : {ed : Edition} {R : Register} → WellFormed ed R → bookRegister (bookOf R) ≡ namedRegister R
 unfolding bookRegister bookOf
 book-back {R = R} w = λ i. record { nondaily = R .nondaily; daily = R .daily; points = all-back (w .pointsOk) i }
 
--- so a book is written as the layout of its lists
-pub written-is : (ed : Edition) {R : Register} → WellFormed ed R → (t : List ℤ) → withBook ed t (bookOf R) ≡ layout ed R ++ drop tableLength t
-unfolding withBook
-written-is ed w t = ap (λ S. layout ed S ++ drop tableLength t) (book-back w)
+-- so a book is written as the layout of its lists, where these keep the operators of the table
+pub written-is : (ed : Edition) {R : Register} → WellFormed ed R → (t : List ℤ) → Kept (registerOf ed t .points) (R .points)
+    → withBook ed t (bookOf R) ≡ layout ed R ++ drop tableLength t
+unfolding withBook asFound
+written-is ed {R} w t kept =
+    ap (λ S. layout ed (asFound (registerOf ed t) S) ++ drop tableLength t) (book-back w)
+    ∙ ap (λ qs. layout ed (record { nondaily = R .nondaily; daily = R .daily; points = qs }) ++ drop tableLength t) kept
 
 -- and its book is read back
 pub book-of-layout : (ed : Edition) {R : Register} → WellFormed ed R → (rest : List ℤ) → tableBook ed (layout ed R ++ rest) ≡ bookOf R
 unfolding tableBook
 book-of-layout ed w rest = ap bookOf (register-back ed w rest)
 
--- one book, one layout
-pub one-layout : (ed : Edition) {R S : Register} → WellFormed ed R → WellFormed ed S → bookOf R ≡ bookOf S → layout ed R ≡ layout ed S
-one-layout ed w v e = ap (layout ed) (sym (book-back w) ∙ ap bookRegister e ∙ book-back v)
+-- one book, one register, but for operators that are not named
+pub one-register : {ed : Edition} {R S : Register} → WellFormed ed R → WellFormed ed S → bookOf R ≡ bookOf S → namedRegister R ≡ namedRegister S
+one-register w v e = sym (book-back w) ∙ ap bookRegister e ∙ book-back v

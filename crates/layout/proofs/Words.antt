@@ -99,7 +99,8 @@ module _ (room : ℕ) (h : room ≤ 9999999999) where
           natural (q .facts .mirn) (omega arith) (natural (q .facts .kind) (omega arith) (natural (q .facts .install) (omega arith)
           (natural (q .facts .base) (omega arith) (natural (length (q .regs)) (omega (arith, w .regsFew))
           (natural (length (q .offs)) (omega (arith, w .offsFew)) (natural (length (q .recs)) (omega (arith, w .recsFew))
-          (fit-pending (w .pendingOk) (natural (q .facts .section) (omega arith) (fit-zeros 5)))))))))
+          (fit-pending (w .pendingOk) (natural (q .facts .section) (omega arith)
+          (natural (q .facts .operator) (omega arith) (fit-zeros 4))))))))))
 
   fit-points : {qs : List Lists} → Points room qs → AllFit (pointsNumbers room qs)
   unfolding pointsNumbers

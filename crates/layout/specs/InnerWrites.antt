@@ -6,7 +6,7 @@ use lib.ListN.{set, take, drop}
 use Rattle.daybook.specs.declared.Edition.{Edition}
 use Rattle.daybook.specs.declared.Facts.{Facts}
 use Rattle.daybook.specs.Book.{Entry}
-use Rattle.layout.specs.Places.{pointsPlace, mirnPlace, kindPlace, installPlace, basePlace, regCount, offCount, recCount, pendingUser, pendingFirst, pendingLast, sectionPlace, recLength, regPlace, offPlace, recPlace}
+use Rattle.layout.specs.Places.{pointsPlace, mirnPlace, kindPlace, installPlace, basePlace, regCount, offCount, recCount, pendingUser, pendingFirst, pendingLast, sectionPlace, operatorPlace, recLength, regPlace, offPlace, recPlace}
 use Rattle.layout.specs.Layout.{stride, placeOf, partOf}
 
 -- The table with p for the numbers of point i.
@@ -54,8 +54,8 @@ clearPending p = setPending p 0 0 0
 unfoldable pub openPoint : List ℤ → Facts → ℕ → List ℤ
 openPoint p f u =
     appendRegistration
-    (set (set (set (set (set p mirnPlace (pos (f .mirn))) kindPlace (pos (f .kind))) installPlace (pos (f .install)))
-    basePlace (pos (f .base))) sectionPlace (pos (f .section))) 0 (f .install) u
+    (set (set (set (set (set (set p mirnPlace (pos (f .mirn))) kindPlace (pos (f .kind))) installPlace (pos (f .install)))
+    basePlace (pos (f .base))) sectionPlace (pos (f .section))) operatorPlace (pos (f .operator))) 0 (f .install) u
 
 -- Point n, and n + 1 points.
 unfoldable pub appendPoint : Edition → List ℤ → ℕ → Facts → ℕ → List ℤ

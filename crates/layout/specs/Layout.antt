@@ -9,8 +9,8 @@ use Rattle.daybook.specs.declared.Edition.{Edition}
 use Rattle.daybook.specs.declared.Facts.{Facts}
 use Rattle.daybook.specs.Book.{Entry, Pending, Point, Book, records, registrations, spans}
 use Rattle.daybook.specs.Queries.{shareCount}
-use Rattle.lists.specs.Lists.{Lists, Register, bookOf}
-use Rattle.layout.specs.Places.{pointsPlace, nondailyPlace, dailyPlace, headerLength, mirnPlace, kindPlace, installPlace, basePlace, regCount, offCount, recCount, pendingUser, pendingFirst, pendingLast, sectionPlace, sparePlace, regsPlace, offsPlace, recsPlace, regLength, offLength, recLength, recPlace}
+use Rattle.lists.specs.Lists.{Lists, Register, bookOf, asFound}
+use Rattle.layout.specs.Places.{pointsPlace, nondailyPlace, dailyPlace, headerLength, mirnPlace, kindPlace, installPlace, basePlace, regCount, offCount, recCount, pendingUser, pendingFirst, pendingLast, sectionPlace, operatorPlace, sparePlace, regsPlace, offsPlace, recsPlace, regLength, offLength, recLength, recPlace}
 
 -- ---- editions and places
 
@@ -26,15 +26,16 @@ stride ed = recPlace (ed .records)
 abbrev pub placeOf : Edition → ℕ → ℕ
 placeOf ed i = headerLength + stride ed * i
 
--- An edition whose points fit the table, and their shares an allocation's answer table.
+-- An edition whose points fit the table, their shares an allocation's answer table, and four reserves its points.
 pub record Fits (ed : Edition) : Type 0 where
   pub some : 1 ≤ ed .points
   pub few : ed .points ≤ shareCount
   pub inTable : placeOf ed (ed .points) ≤ tableLength
+  pub reserved : 4 * ed .reserve ≤ ed .points
 
--- Document 01's edition.
+-- Document 01's edition, with document 02's reserve (g).
 abbrev pub standard : Edition
-standard = record { points = 32; records = 48 }
+standard = record { points = 32; records = 48; reserve = 4 }
 
 -- The edition of a table, whatever its numbers.
 unfoldable pub editionOf : List ℤ → Edition
@@ -73,13 +74,13 @@ pendingOrZeros none = record { user = 0; first = 0; last = 0 }
 pendingOrZeros (some q) = q
 
 -- The first sixteen places of a point: MIRN, kind, install, base load, how many registrations, off spans and records,
--- pending User, first, last, section, zeros.
+-- pending User, first, last, section, operator, zeros.
 unfoldable pub headNumbers : Lists → List ℤ
 headNumbers q =
     pos (q .facts .mirn) ∷ pos (q .facts .kind) ∷ pos (q .facts .install) ∷ pos (q .facts .base)
     ∷ pos (length (q .regs)) ∷ pos (length (q .offs)) ∷ pos (length (q .recs))
     ∷ pos (pendingOrZeros (q .pending) .user) ∷ pos (pendingOrZeros (q .pending) .first)
-    ∷ pos (pendingOrZeros (q .pending) .last) ∷ pos (q .facts .section)
+    ∷ pos (pendingOrZeros (q .pending) .last) ∷ pos (q .facts .section) ∷ pos (q .facts .operator)
     ∷ replicate (regsPlace - sparePlace) (pos 0)
 
 -- Then registrations, off spans and records.
@@ -138,6 +139,7 @@ factsAt p =
       install = numAt p installPlace;
       base = numAt p basePlace;
       section = numAt p sectionPlace;
+      operator = numAt p operatorPlace;
     }
 
 unfoldable pub pointFrom : List ℤ → Lists
@@ -176,6 +178,7 @@ listsOf p =
 unfoldable pub bookRegister : Book → Register
 bookRegister B = record { nondaily = B .nondaily; daily = B .daily; points = map listsOf (B .points) }
 
--- The table t with the book B laid out over its register; the numbers past that are kept.
+-- The table t with the book B laid out over its register; the numbers past that are kept, and so is a 0 for the operator
+-- of a point that was there.
 unfoldable pub withBook : Edition → List ℤ → Book → List ℤ
-withBook ed t B = layout ed (bookRegister B) ++ drop tableLength t
+withBook ed t B = layout ed (asFound (registerOf ed t) (bookRegister B)) ++ drop tableLength t

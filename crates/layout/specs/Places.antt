@@ -18,8 +18,8 @@ headerSpare = 3
 abbrev pub headerLength : ℕ
 headerLength = 8
 
--- ---- a point's part: its facts, how many rows it has of each kind, a pending request, its section (document 02, a); the
--- places from sparePlace on are 0
+-- ---- a point's part: its facts, how many rows it has of each kind, a pending request, its section and its operator
+-- (document 02, a and g); the places from sparePlace on are 0
 
 abbrev pub mirnPlace : ℕ
 mirnPlace = 0
@@ -58,8 +58,11 @@ pendingEnd = 10
 abbrev pub sectionPlace : ℕ
 sectionPlace = 10
 
+abbrev pub operatorPlace : ℕ
+operatorPlace = 11
+
 abbrev pub sparePlace : ℕ
-sparePlace = 11
+sparePlace = 12
 
 -- ---- then its rows: registrations (start, User), off spans (off day, on day), records (start, end, energy, type)
 

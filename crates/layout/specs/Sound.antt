@@ -30,7 +30,7 @@ neighbours test (x ∷ y ∷ l) = test x y && neighbours test (y ∷ l)
 unfoldable pub factsSound : Facts → Bool
 factsSound f =
     leb 1 (f .mirn) && leb (f .mirn) 9999999999 && leb (f .kind) 1 && leb (f .install) 39999 && leb (f .base) 10000
-    && leb (f .section) 1
+    && leb (f .section) 1 && leb (f .operator) 4
 
 abbrev pub startsOn : ℕ → List (ℕ × ℕ) → Bool
 startsOn install [] = true

@@ -190,7 +190,7 @@ fn lengths(f: Form) -> usize
 
 // Whether it has the numbers of its form, and lengths within their bounds.
 fn lendable(f: Form, nums: &[i64]) -> bool
-    requires { ⌜ f .takes ≤ 6 ⌝ }
+    requires { ⌜ f .takes ≤ 7 ⌝ }
     ensures { λ r. ⌜ r ≡ Lines·lendable f (now (nums .entry)) ⌝ }
 {
     let counted = nums.len() == lengths(f) + f.takes;

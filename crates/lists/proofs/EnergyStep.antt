@@ -18,7 +18,7 @@ use Rattle.daybook.specs.declared.EnergyNotice.{EnergyNotice}
 use Rattle.daybook.specs.declared.Edition.{Edition}
 use Rattle.daybook.specs.Book.{Entry, Pending, days, fill, withEntries, withFro, withPending, records, latest, appendDay}
 use Rattle.daybook.specs.Notices.{least, isMirn, isFlag, Which, append, replacement, recut, whichNumber, which, entryOf, energyEarly, energyRows, energyRowsAt, fitsKind, kept, removed, Outcome, registers, lapses, stays, typeRegisters, appendRegisters, outcomeOf, outcomeNumbers, settled, entered, enter, energy}
-use Rattle.lists.specs.Lists.{Lists, Register, offOn, entryOn, userOn, pointOf, bookOf}
+use Rattle.lists.specs.Lists.{Lists, Register, offOn, entryOn, userOn, bookFacts, pointOf, bookOf}
 use Rattle.lists.specs.InnerSteps.{latestOf, whichIn, appendDayOf, recsAfter, userFrom, regsAfter, pendingAfter, enteredLists, enterLists, energyListsRows, energyLists}
 use Rattle.lists.specs.InnerWell.{Regs, StartsOn, PendingOk, nopending, pending, Well, WellFormed, MayEnter}
 use Rattle.lists.proofs.Bounds.{within-bounds}
@@ -100,14 +100,14 @@ module _ {room : ℕ} {q : Lists} (ok : Well room q) where
     where
       go : (o : Outcome) → settled o (x .end) (withEntries (fill x (kept w (x .start) (entryOn (q .recs)))) (pointOf q)) ≡ pointOf (enteredLists x w o q .1)
       go (registers u) = λ i. record {
-        facts = q .facts;
+        facts = bookFacts (q .facts);
         entry = e i;
         off = offOn (q .offs);
         fro = sym (user-from (ok .regsOk) (suc (x .end)) u) i;
         pending = none;
       }
-      go lapses = λ i. record { facts = q .facts; entry = e i; off = offOn (q .offs); fro = userOn 0 (q .regs); pending = none }
-      go stays = λ i. record { facts = q .facts; entry = e i; off = offOn (q .offs); fro = userOn 0 (q .regs); pending = q .pending }
+      go lapses = λ i. record { facts = bookFacts (q .facts); entry = e i; off = offOn (q .offs); fro = userOn 0 (q .regs); pending = none }
+      go stays = λ i. record { facts = bookFacts (q .facts); entry = e i; off = offOn (q .offs); fro = userOn 0 (q .regs); pending = q .pending }
 
   -- which it is and what becomes of the request are read off the lists as off the days
   enter-is : (x : Entry) → MayEnter room x q → enter x (pointOf q) ≡ (enterLists x q .0, pointOf (enterLists x q .1))

@@ -13,6 +13,7 @@ pub mod Spans
 pub mod SpanSteps
 pub mod Switch
 pub mod Points
+pub mod Operators
 pub mod Bounds
 pub mod OpenStep
 pub mod EnergyStep

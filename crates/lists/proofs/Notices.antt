@@ -9,9 +9,10 @@ use Rattle.daybook.specs.Book.{Book}
 use Rattle.daybook.specs.Notices.{Numbers, decide, onPoint, fresh, opening, energy, status, request, withdraw}
 use Rattle.daybook.specs.Calls.{Notice, fresh!, open!, energy!, status!, request!, withdraw!, noted}
 use Rattle.lists.specs.Lists.{Register, bookOf}
-use Rattle.lists.specs.InnerSteps.{noticeLists}
+use Rattle.lists.specs.InnerSteps.{withOffs, withPendingLists, enteredLists, enterLists, energyLists, statusLists, requestLists, withdrawLists, noticeLists}
 use Rattle.lists.specs.InnerWell.{WellFormed}
-use Rattle.lists.proofs.OpenStep.{fresh-step, fresh-keeps, open-step, open-keeps}
+use Rattle.lists.proofs.Operators.{Kept, on-lists-kept}
+use Rattle.lists.proofs.OpenStep.{fresh-step, fresh-keeps, fresh-kept, open-step, open-keeps, open-kept}
 use Rattle.lists.proofs.EnergyStep.{energy-step, energy-keeps}
 use Rattle.lists.proofs.StatusStep.{status-step, status-keeps}
 use Rattle.lists.proofs.TransferStep.{request-step, request-keeps, withdraw-step, withdraw-keeps}
@@ -34,6 +35,16 @@ notice-keeps (energy! n) ed ok = energy-keeps ed n ok
 notice-keeps (status! n) ed ok = status-keeps n ok
 notice-keeps (request! n holidays) ed ok = request-keeps n holidays ok
 notice-keeps (withdraw! n) ed ok = withdraw-keeps n ok
+
+-- It leaves the operators of the points that were there as they stood, 0 too (document 02, g).
+pub notice-kept : (c : Notice) (ed : Edition) (R : Register) → Kept (R .points) (noticeLists c ed R .1 .points)
+unfolding noticeLists energyLists enterLists enteredLists statusLists requestLists withdrawLists withOffs withPendingLists
+notice-kept (fresh! n) ed R = fresh-kept n R
+notice-kept (open! n) ed R = open-kept ed n R
+notice-kept (energy! n) ed R = on-lists-kept 4 (n .mirn) _ _ _ (λ q. refl) R
+notice-kept (status! n) ed R = on-lists-kept 0 (n .mirn) _ _ _ (λ q. refl) R
+notice-kept (request! n holidays) ed R = on-lists-kept 2 (n .mirn) _ _ _ (λ q. refl) R
+notice-kept (withdraw! n) ed R = on-lists-kept 0 (n .mirn) _ _ _ (λ q. refl) R
 
 back : (r k : ℕ) (B : Book) (w : Numbers × Book) → refused (decide r k B w .0) ≡ true → decide r k B w .1 ≡ B
 unfolding decide

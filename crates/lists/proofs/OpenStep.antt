@@ -3,13 +3,13 @@ use mathlib.Core.Path.{_≡_, refl, sym, _∙_, ap, ap₂}
 use mathlib.Core.Bool.{Bool, true, false, cond, true≢false}
 use mathlib.Core.Option.{Option, none, some, Option·none-ne-some}
 use mathlib.Core.List.{List, [], _∷_, _++_, map, map-append}
-use Prim.Native.Nat.{ℕ, _≤_, _<_}
+use Prim.Native.Nat.{ℕ, suc, _-_, _≤_, _<_}
 use native.Mathlib.Omega.{arith}
 use lib.Dec.{eqb}
 use lib.ListN.{length, length-append, length-map}
 use lib.IntN.{ℤ, pos, negsuc}
 use lib.Signed.{leZ}
-use borrow.Author.Tests.{leb-true, leb-false, le-leb, eqb-false, ne-eqb}
+use borrow.Author.Tests.{leb-true, leb-false, ltb-false, le-leb, eqb-false, ne-eqb}
 use Rattle.numbers.specs.Naturals.{natOf}
 use Rattle.numbers.specs.Search.{maybe, isSome}
 use Rattle.numbers.proofs.Bools.{both}
@@ -17,13 +17,15 @@ use Rattle.calendar.specs.Calendar.{within}
 use Rattle.daybook.specs.declared.Ranges.{Ranges}
 use Rattle.daybook.specs.declared.Opening.{Opening}
 use Rattle.daybook.specs.declared.Edition.{Edition}
+use Rattle.daybook.specs.declared.Facts.{Facts}
 use Rattle.daybook.specs.Book.{Point, Book, fromOn}
-use Rattle.daybook.specs.Notices.{least, Numbers, decide, isRange, find, freshRows, fresh, factsOf, opened, openingRows, opening}
-use Rattle.lists.specs.Lists.{Lists, Register, userOn, offOn, entryOn, pointOf, bookOf}
-use Rattle.lists.specs.InnerSteps.{findLists, freshLists, openedLists, openingLists}
+use Rattle.daybook.specs.Notices.{least, Numbers, decide, isRange, find, freshRows, fresh, factsOf, opened, operatorsIn, othersUnfilled, openingRows, opening}
+use Rattle.lists.specs.Lists.{Lists, Register, userOn, offOn, entryOn, withOperator, pointOf, bookOf}
+use Rattle.lists.specs.InnerSteps.{findLists, freshLists, openedLists, operatorsOf, openingLists}
 use Rattle.lists.specs.InnerWell.{Regs, noreg, reg, starts, nospan, norec, nopending, FactsOk, Well, Points, nopoint, point, WellFormed}
 use Rattle.lists.proofs.Rows.{least-none, decide-map, decide-map-where, decide-keeps}
 use Rattle.lists.proofs.Points.{find-is}
+use Rattle.lists.proofs.Operators.{operator, named, operators-are, Kept, kept-none, kept-same, kept-more}
 use Rattle.lists.proofs.Bounds.{within-bounds, both-hold}
 
 -- ---- fresh
@@ -61,11 +63,17 @@ pub fresh-makes : (ed : Edition) (n : Ranges) (R : Register) → least (freshRow
 unfolding freshLists decide
 fresh-makes ed n R z = rw z (no-points ed n z)
 
+-- Of its points, none, no operator is changed.
+pub fresh-kept : (n : Ranges) (R : Register) → Kept (R .points) (freshLists n R .1 .points)
+unfolding freshLists
+fresh-kept n R =
+    decide-keeps 0 R _ (λ (S : Register). Kept (R .points) (S .points)) _ (kept-same (R .points)) (λ z. kept-none (R .points))
+
 -- ---- open
 
--- What holds of an opening that isn't sent back, where `known` says whether its MIRN is among the points and `count` is
--- how many points there are.
-pub record OpenClear (ed : Edition) (n : Opening) (known : Bool) (count : ℕ) : Type 0 where
+-- What holds of an opening that isn't sent back, where `known` says whether its MIRN is among the points and `operators`
+-- are the points' operators.
+pub record OpenClear (ed : Edition) (n : Opening) (known : Bool) (operators : List ℕ) : Type 0 where
   pub mirnLow : 1 ≤ natOf (n .mirn)
   pub mirnHigh : natOf (n .mirn) ≤ 9999999999
   pub kindOk : natOf (n .kind) ≤ 1
@@ -74,23 +82,29 @@ pub record OpenClear (ed : Edition) (n : Opening) (known : Bool) (count : ℕ) :
   pub installOk : natOf (n .install) ≤ 39999
   pub baseOk : within (negsuc 0) (pos 10000) (n .base) ≡ true
   pub sectionOk : natOf (n .section) ≤ 1
+  pub operatorLow : 1 ≤ natOf (n .operator)
+  pub operatorHigh : natOf (n .operator) ≤ 4
   pub new : known ≡ false
-  pub room : count < ed .points
+  pub room : length operators < ed .points
+  pub covers : othersUnfilled ed operators (natOf (n .operator)) ≤ ed .points - suc (length operators)
 
-pub open-clear : (ed : Edition) (n : Opening) (known : Bool) (count : ℕ) → least (openingRows ed n known count) ≡ 0
-    → OpenClear ed n known count
+pub open-clear : (ed : Edition) (n : Opening) (known : Bool) (operators : List ℕ)
+    → least (openingRows ed n known operators) ≡ 0 → OpenClear ed n known operators
 unfolding openingRows
-open-clear ed n known count z =
+open-clear ed n known operators z =
     let two = least-none 1 _ _ z in
     let five = least-none 4 known _ (two .1) in
-    let sixteen = least-none 15 _ [] (five .1) in
-    let section = both-hold _ _ (two .0) in
+    let sixteen = least-none 15 _ _ (five .1) in
+    let nineteen = least-none 18 _ [] (sixteen .1) in
+    let operator = both-hold _ _ (two .0) in
+    let section = both _ _ (operator .0) in
     let base = both _ _ (section .0) in
     let install = both _ _ (base .0) in
     let user = both _ _ (install .0) in
     let kind = both _ _ (user .0) in
     let m = within-bounds 1 9999999999 (n .mirn) (kind .0) in
     let u = within-bounds 1 16 (n .user) (user .1) in
+    let o = within-bounds 1 4 (n .operator) (operator .1) in
     record {
       mirnLow = m .0;
       mirnHigh = m .1;
@@ -100,8 +114,11 @@ open-clear ed n known count z =
       installOk = within-bounds 0 39999 (n .install) (install .1) .1;
       baseOk = base .1;
       sectionOk = within-bounds 0 1 (n .section) (section .1) .1;
+      operatorLow = o .0;
+      operatorHigh = o .1;
       new = five .0;
-      room = leb-false (ed .points) count (sixteen .0);
+      room = leb-false (ed .points) (length operators) (sixteen .0);
+      covers = ltb-false _ _ (nineteen .0);
     }
 
 -- A base load that isn't sent back, -1 read as 1,000, is at most 10,000.
@@ -110,7 +127,8 @@ base-bound (pos b) e = rw (le-leb 0 b (omega arith)) (leb-true b 10000 e)
 base-bound (negsuc b) e = omega arith
 
 -- Its facts are in range.
-pub facts-ok : {ed : Edition} {n : Opening} {known : Bool} {count : ℕ} → OpenClear ed n known count → FactsOk (factsOf n)
+pub facts-ok : {ed : Edition} {n : Opening} {known : Bool} {operators : List ℕ} → OpenClear ed n known operators
+    → FactsOk (factsOf n)
 unfolding factsOf
 facts-ok {n = n} clear =
     record {
@@ -120,12 +138,16 @@ facts-ok {n = n} clear =
       installOk = clear .installOk;
       baseOk = base-bound (n .base) (clear .baseOk);
       sectionOk = clear .sectionOk;
+      operatorOk = clear .operatorHigh;
     }
 
 -- The point of the new lists is the book's new point.
-pub opened-is : (n : Opening) → pointOf (openedLists n) ≡ opened n
-unfolding pointOf openedLists opened userOn offOn entryOn fromOn
-opened-is n = refl
+pub opened-is : (n : Opening) → 1 ≤ natOf (n .operator) → pointOf (openedLists n) ≡ opened n
+unfolding pointOf openedLists opened factsOf userOn offOn entryOn fromOn
+opened-is n h = ap (λ o. withFactsOf (withOperator o (factsOf n))) (named (natOf (n .operator)) h)
+  where
+    withFactsOf : Facts → Point
+    withFactsOf f = record { facts = f; entry = opened n .entry; off = opened n .off; fro = opened n .fro; pending = none }
 
 -- open on the days is open on the lists.
 pub open-step : (ed : Edition) (n : Opening) (R : Register)
@@ -133,7 +155,7 @@ pub open-step : (ed : Edition) (n : Opening) (R : Register)
 unfolding opening openingLists bookOf
 open-step ed n R =
     ap (λ rows. decide (least rows) 0 (bookOf R) ([], withPoints (map pointOf (R .points) ++ (opened n ∷ [])))) rows-is
-    ∙ decide-map-where bookOf _ 0 R _ _ (λ z. ap {B = Numbers × Book} (λ ps. ([], withPoints ps)) points-is)
+    ∙ decide-map-where bookOf _ 0 R _ _ (λ z. ap {B = Numbers × Book} (λ ps. ([], withPoints ps)) (points-is (open-clear ed n _ _ z .operatorLow)))
   where
     withPoints : List Point → Book
     withPoints ps = record { nondaily = R .nondaily; daily = R .daily; points = ps }
@@ -145,17 +167,17 @@ open-step ed n R =
     known-is : isSome (find (natOf (n .mirn)) (map pointOf (R .points))) ≡ isSome (findLists (natOf (n .mirn)) (R .points))
     known-is = ap isSome (find-is (natOf (n .mirn)) (R .points)) ∙ found (findLists (natOf (n .mirn)) (R .points))
 
-    rows-is : openingRows ed n (isSome (find (natOf (n .mirn)) (map pointOf (R .points)))) (length (map pointOf (R .points)))
-        ≡ openingRows ed n (isSome (findLists (natOf (n .mirn)) (R .points))) (length (R .points))
-    rows-is = ap₂ (openingRows ed n) known-is (length-map (R .points) pointOf)
+    rows-is : openingRows ed n (isSome (find (natOf (n .mirn)) (map pointOf (R .points)))) (operatorsIn (map pointOf (R .points)))
+        ≡ openingRows ed n (isSome (findLists (natOf (n .mirn)) (R .points))) (operatorsOf (R .points))
+    rows-is = ap₂ (openingRows ed n) known-is (operators-are (R .points))
 
-    points-is : map pointOf (R .points) ++ (opened n ∷ []) ≡ map pointOf (R .points ++ (openedLists n ∷ []))
-    points-is =
-        ap (λ p. map pointOf (R .points) ++ (p ∷ [])) (sym (opened-is n))
+    points-is : 1 ≤ natOf (n .operator) → map pointOf (R .points) ++ (opened n ∷ []) ≡ map pointOf (R .points ++ (openedLists n ∷ []))
+    points-is h =
+        ap (λ p. map pointOf (R .points) ++ (p ∷ [])) (sym (opened-is n h))
         ∙ sym (map-append pointOf (R .points) (openedLists n ∷ []))
 
 -- A new point is well-formed: one registration from the install day on, and nothing else.
-pub opened-well : {ed : Edition} {n : Opening} {known : Bool} {count : ℕ} (room : ℕ) → OpenClear ed n known count
+pub opened-well : {ed : Edition} {n : Opening} {known : Bool} {operators : List ℕ} (room : ℕ) → OpenClear ed n known operators
     → Well room (openedLists n)
 unfolding openedLists factsOf
 opened-well {n = n} room clear =
@@ -212,12 +234,19 @@ open-keeps ed n {R} ok = decide-keeps 0 R _ (WellFormed ed) _ ok (λ z. after (o
     missing none e = refl
     missing (some q) e = absurd (true≢false e)
 
-    after : OpenClear ed n (isSome (findLists (natOf (n .mirn)) (R .points))) (length (R .points))
+    after : OpenClear ed n (isSome (findLists (natOf (n .mirn)) (R .points))) (operatorsOf (R .points))
         → WellFormed ed (record { nondaily = R .nondaily; daily = R .daily; points = R .points ++ (openedLists n ∷ []) })
     after clear =
         record {
           nondailyOk = ok .nondailyOk;
           dailyOk = ok .dailyOk;
-          pointsFew = simp length-append (omega arith);
+          pointsFew = simp length-append (omega (arith, clear .room, length-map (R .points) operator));
           pointsOk = points-append (ok .pointsOk) (opened-well (ed .records) clear) (missing _ (clear .new));
         }
+
+-- It leaves the operators of the points that were there as they stood.
+pub open-kept : (ed : Edition) (n : Opening) (R : Register) → Kept (R .points) (openingLists ed n R .1 .points)
+unfolding openingLists openedLists factsOf
+open-kept ed n R =
+    decide-keeps 0 R _ (λ (S : Register). Kept (R .points) (S .points)) _ (kept-same (R .points)) (λ z.
+    kept-more (openedLists n) (open-clear ed n _ _ z .operatorLow) (R .points))

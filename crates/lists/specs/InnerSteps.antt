@@ -20,7 +20,7 @@ use Rattle.daybook.specs.declared.Edition.{Edition}
 use Rattle.daybook.specs.Book.{Entry, Pending, lastOf}
 use Rattle.daybook.specs.Notices.{Row, least, Numbers, decide, freshRows, factsOf, openingRows, Which, append, replacement, recut, whichNumber, whichOf, entryOf, energyEarly, energyRows, beyond, removed, Outcome, registers, lapses, stays, outcomeOf, outcomeNumbers, statusEarly, statusRows, requestEarly, requestRows, periodNumbers, pendingOf, withdrawEarly, withdrawRows}
 use Rattle.daybook.specs.Calls.{Notice, fresh!, open!, energy!, status!, request!, withdraw! }
-use Rattle.lists.specs.Lists.{Lists, Register}
+use Rattle.lists.specs.Lists.{Lists, Register, operatorOf}
 
 -- ---- what is read off the lists
 
@@ -134,9 +134,13 @@ unfoldable pub openedLists : Opening → Lists
 openedLists n =
     record { facts = factsOf n; regs = (natOf (n .install), natOf (n .user)) ∷ []; offs = []; recs = []; pending = none }
 
+-- The book's operators of the points.
+abbrev pub operatorsOf : List Lists → List ℕ
+operatorsOf qs = map (λ (q : Lists). operatorOf (q .facts .operator)) qs
+
 unfoldable pub openingLists : Edition → Opening → Register → Numbers × Register
 openingLists ed n R =
-    decide (least (openingRows ed n (isSome (findLists (natOf (n .mirn)) (R .points))) (length (R .points)))) 0 R
+    decide (least (openingRows ed n (isSome (findLists (natOf (n .mirn)) (R .points))) (operatorsOf (R .points)))) 0 R
     ([], record { nondaily = R .nondaily; daily = R .daily; points = R .points ++ (openedLists n ∷ []) })
 
 unfoldable pub enteredLists : Entry → Which → Outcome → Lists → Numbers × Lists

@@ -60,6 +60,7 @@ pub record FactsOk (f : Facts) : Type 0 where
   pub installOk : f .install ≤ 39999
   pub baseOk : f .base ≤ 10000
   pub sectionOk : f .section ≤ 1
+  pub operatorOk : f .operator ≤ 4
 
 -- A point of at most `room` records.
 pub record Well (room : ℕ) (q : Lists) : Type 0 where

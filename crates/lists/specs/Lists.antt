@@ -2,13 +2,14 @@
 use mathlib.Core.Bool.{Bool, true, false, _&&_, _||_, cond}
 use mathlib.Core.Option.{Option, none, some}
 use mathlib.Core.List.{List, [], _∷_, map}
-use Prim.Native.Nat.{ℕ}
-use lib.Dec.{leb, ltb}
+use Prim.Native.Nat.{ℕ, zero, suc}
+use lib.Dec.{leb, ltb, eqb}
 use lib.IntN.{ℤ}
 use Rattle.daybook.specs.declared.Facts.{Facts}
 use Rattle.daybook.specs.Book.{Entry, Pending, Point, Book, fill}
 
--- A registration is (start, User), an off span (off day, on day) with none while it is still off.
+-- A registration is (start, User), an off span (off day, on day) with none while it is still off. The facts' operator is
+-- the number as it stands in a table, 0 to 4.
 pub record Lists : Type 0 where
   pub facts : Facts
   pub regs : List (ℕ × ℕ)
@@ -39,10 +40,29 @@ unfoldable pub entryOn : List Entry → ℕ → Option Entry
 entryOn [] = λ d. none
 entryOn (x ∷ l) = fill x (entryOn l)
 
+-- In the book an operator is 1 to 4: 0, which stands in an older register, is read as 1 (document 02, g).
+abbrev pub operatorOf : ℕ → ℕ
+operatorOf zero = 1
+operatorOf (suc o) = suc o
+
+abbrev pub withOperator : ℕ → Facts → Facts
+withOperator o f =
+    record {
+      mirn = f .mirn;
+      kind = f .kind;
+      install = f .install;
+      base = f .base;
+      section = f .section;
+      operator = o;
+    }
+
+abbrev pub bookFacts : Facts → Facts
+bookFacts f = withOperator (operatorOf (f .operator)) f
+
 unfoldable pub pointOf : Lists → Point
 pointOf q =
     record {
-      facts = q .facts;
+      facts = bookFacts (q .facts);
       entry = entryOn (q .recs);
       off = offOn (q .offs);
       fro = userOn 0 (q .regs);
@@ -51,6 +71,23 @@ pointOf q =
 
 unfoldable pub bookOf : Register → Book
 bookOf R = record { nondaily = R .nondaily; daily = R .daily; points = map pointOf (R .points) }
+
+-- ---- operators that a table leaves unnamed
+
+unfoldable pub withFacts : Facts → Lists → Lists
+withFacts f q = record { facts = f; regs = q .regs; offs = q .offs; recs = q .recs; pending = q .pending }
+
+-- The lists qs with 0 for an operator again where the point of that index had 0 before (document 02, g).
+unfoldable pub unnamedAgain : List Lists → List Lists → List Lists
+unnamedAgain [] qs = qs
+unnamedAgain (old ∷ olds) [] = []
+unnamedAgain (old ∷ olds) (q ∷ qs) =
+    cond (eqb (old .facts .operator) 0) (withFacts (withOperator 0 (q .facts)) q) q ∷ unnamedAgain olds qs
+
+-- The register R, with the unnamed operators of the register before.
+unfoldable pub asFound : Register → Register → Register
+asFound before R =
+    record { nondaily = R .nondaily; daily = R .daily; points = unnamedAgain (before .points) (R .points) }
 
 -- ---- which registration covers a day
 

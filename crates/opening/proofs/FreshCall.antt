@@ -14,7 +14,7 @@ use Rattle.daybook.specs.Notices.{least, Numbers, decide, isRange, freshRows, f
 use Rattle.lists.specs.Lists.{Register, bookOf}
 use Rattle.lists.specs.InnerSteps.{freshLists}
 use Rattle.lists.proofs.Rows.{above, least-first, least-skip, decide-taken, decide-refused}
-use Rattle.lists.proofs.OpenStep.{fresh-step, fresh-makes}
+use Rattle.lists.proofs.OpenStep.{fresh-step, fresh-makes, fresh-kept}
 use Rattle.layout.specs.Layout.{tableLength, editionOf, pad, pointsNumbers, layout, registerOf, tableBook}
 use Rattle.layout.specs.InnerWrites.{cleared}
 use Rattle.layout.specs.Calls.{answerAndTable}
@@ -68,6 +68,6 @@ module _ (t : List ℤ) (n : Ranges) where
     pub fresh-entered : (isRange (n .nondaily) && isRange (n .daily)) ≡ true → freshCall t n ≡ (pos 0 ∷ [], set (set (cleared t 0 tableLength) 1 (n .nondaily)) 2 (n .daily))
     fresh-entered e =
         taken ∙ ap (answerAndTable (editionOf t) t) (fresh-step n R)
-        ∙ leaves-is (editionOf t) t (freshLists n R) (fresh-makes (editionOf t) n R (passed e))
+        ∙ leaves-is (editionOf t) t (freshLists n R) (fresh-makes (editionOf t) n R (passed e)) (fresh-kept n R)
         ∙ ap (laidOver (editionOf t) t) (emptied (passed e))
         ∙ ap (λ u. (pos 0 ∷ [], u)) (sym (laid (editionOf t) t (n .nondaily) (n .daily) h))

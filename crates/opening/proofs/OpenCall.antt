@@ -2,23 +2,24 @@
 use mathlib.Core.Path.{_≡_, refl, sym, _∙_, ap, ap₂}
 use mathlib.Core.Bool.{Bool, true, false, not, _&&_}
 use mathlib.Core.List.{List, [], _∷_, _++_}
-use Prim.Native.Nat.{ℕ, suc, _≤_, _<_}
+use Prim.Native.Nat.{ℕ, suc, _+_, _-_, _≤_, _<_}
 use native.Mathlib.Omega.{arith}
-use lib.Dec.{leb}
-use lib.ListN.{length, drop}
+use lib.Dec.{leb, ltb}
+use lib.ListN.{length, drop, length-map}
 use lib.IntN.{ℤ, pos, negsuc}
-use borrow.Author.Tests.{le-leb, lt-leb}
+use borrow.Author.Tests.{le-leb, lt-leb, lt-ltb, le-ltb}
 use Rattle.numbers.specs.Naturals.{natOf}
 use Rattle.numbers.specs.Search.{maybe, isSome}
 use Rattle.calendar.specs.Calendar.{within, isDay}
 use Rattle.daybook.specs.declared.Edition.{Edition}
 use Rattle.daybook.specs.declared.Opening.{Opening}
-use Rattle.daybook.specs.Notices.{least, Numbers, decide, isMirn, isFlag, isUser, factsOf, openingRows, opening}
-use Rattle.lists.specs.Lists.{Register}
-use Rattle.lists.specs.InnerSteps.{findLists, openedLists, openingLists}
+use Rattle.daybook.specs.Notices.{least, Numbers, decide, isMirn, isFlag, isUser, factsOf, operatorsIn, othersUnfilled, openingRows, opening}
+use Rattle.lists.specs.Lists.{Register, bookOf}
+use Rattle.lists.specs.InnerSteps.{findLists, openedLists, operatorsOf, openingLists}
 use Rattle.lists.specs.InnerWell.{WellFormed}
 use Rattle.lists.proofs.Rows.{above, least-first, least-skip, decide-taken, decide-refused}
-use Rattle.lists.proofs.OpenStep.{OpenClear, open-clear, open-step, open-keeps}
+use Rattle.lists.proofs.Operators.{operator, operators-are}
+use Rattle.lists.proofs.OpenStep.{OpenClear, open-clear, open-step, open-keeps, open-kept}
 use Rattle.layout.specs.Layout.{tableLength, Fits, editionOf, layout, numAt, registerOf, tableBook}
 use Rattle.layout.specs.Sound.{sound}
 use Rattle.layout.specs.InnerWrites.{appendPoint}
@@ -34,7 +35,7 @@ use Rattle.opening.specs.Opening.{openCall}
 
 -- are all numbers of an opening in range?
 abbrev pub ranged : Opening → Bool
-ranged n = isMirn (n .mirn) && isFlag (n .kind) && isUser (n .user) && isDay (n .install) && within (negsuc 0) (pos 10000) (n .base) && within (pos 0) (pos 1) (n .section)
+ranged n = isMirn (n .mirn) && isFlag (n .kind) && isUser (n .user) && isDay (n .install) && within (negsuc 0) (pos 10000) (n .base) && within (pos 0) (pos 1) (n .section) && within (pos 1) (pos 4) (n .operator)
 
 module _ (ed : Edition) (t : List ℤ) (g : ed ≡ editionOf t) (n : Opening) where
   here : openCall t n ≡ onEdition 0 (opening ed n) ed t
@@ -51,8 +52,11 @@ module _ (ed : Edition) (fits : Fits ed) (t : List ℤ) (g : ed ≡ editionOf t)
   abbrev known : Bool
   known = isSome (findLists (natOf (n .mirn)) (R .points))
 
+  abbrev holders : List ℕ
+  holders = operatorsOf (R .points)
+
   abbrev row : ℕ
-  row = least (openingRows ed n known (length (R .points)))
+  row = least (openingRows ed n known holders)
 
   well : WellFormed ed R
   well = sound-lays ed fits t s .0
@@ -67,7 +71,7 @@ module _ (ed : Edition) (fits : Fits ed) (t : List ℤ) (g : ed ≡ editionOf t)
   whole =
       here ed t g n ∙ rw s
       (ap (answerAndTable ed t) (open-step ed n R)
-      ∙ leaves-is ed t (openingLists ed n R) (open-keeps ed n well))
+      ∙ leaves-is ed t (openingLists ed n R) (open-keeps ed n well) (open-kept ed n R))
 
   sent-back : (r : ℕ) → row ≡ suc r → openCall t n ≡ (pos (suc r) ∷ [], t)
   sent-back r e = whole ∙ ap (λ k. laidOver ed t (after k)) e ∙ ap (laidOver ed t) (decide-refused 0 R _ r) ∙ left-alone ed t r [] R
@@ -97,6 +101,12 @@ module _ (ed : Edition) (fits : Fits ed) (t : List ℤ) (g : ed ≡ editionOf t)
 
   -- ---- the rows in order
 
+  abbrev reserved : ℕ
+  reserved = othersUnfilled ed holders (natOf (n .operator))
+
+  count-is : length holders ≡ numAt t 0
+  count-is = length-map (R .points) operator ∙ points-count ed t
+
   pub open-out : ranged n ≡ false → openCall t n ≡ (pos 2 ∷ [], t)
   unfolding openingRows above
   open-out e = sent-back 1 (least-first 2 (not (ranged n)) _ refl (ap not e))
@@ -108,22 +118,38 @@ module _ (ed : Edition) (fits : Fits ed) (t : List ℤ) (g : ed ≡ editionOf t)
     open-known d =
         sent-back 4 (least-skip 2 (not (ranged n)) _ (ap not r) ∙ least-first 5 known _ refl (index-known i is d))
 
-    after-two : i ≡ ed .points → row ≡ least ((16, leb (ed .points) (length (R .points))) ∷ [])
-    unfolding openingRows
-    after-two d = least-skip 2 (not (ranged n)) _ (ap not r) ∙ least-skip 5 known _ (index-new i is d)
+    module _ (d : i ≡ ed .points) where
+      after-five : row ≡ least ((16, leb (ed .points) (length holders)) ∷ (19, ltb (ed .points - suc (length holders)) reserved) ∷ [])
+      unfolding openingRows
+      after-five = least-skip 2 (not (ranged n)) _ (ap not r) ∙ least-skip 5 known _ (index-new i is d)
 
-    pub open-full : i ≡ ed .points → ed .points ≤ numAt t 0 → openCall t n ≡ (pos 16 ∷ [], t)
-    unfolding above
-    open-full d h =
-        sent-back 15 (after-two d ∙ least-first 16 _ [] refl (le-leb (ed .points) (length (R .points)) (omega (arith, points-count ed t))))
+      pub open-full : ed .points ≤ numAt t 0 → openCall t n ≡ (pos 16 ∷ [], t)
+      unfolding above
+      open-full h =
+          sent-back 15 (after-five ∙ least-first 16 _ _ refl (le-leb (ed .points) (length holders) (omega (arith, count-is))))
 
-    nothing : i ≡ ed .points → numAt t 0 < ed .points → row ≡ 0
-    unfolding least
-    nothing d h = after-two d ∙ least-skip 16 _ [] (lt-leb (ed .points) (length (R .points)) (omega (arith, points-count ed t)))
+      -- past row 16, with x the other operators' unfilled reserves
+      module _ (h : numAt t 0 < ed .points) (x : ℕ) (e : x ≡ othersUnfilled ed (operatorsIn (tableBook ed t .points)) (natOf (n .operator))) where
+        after-sixteen : row ≡ least ((19, ltb (ed .points - suc (length holders)) reserved) ∷ [])
+        after-sixteen = after-five ∙ least-skip 16 _ _ (lt-leb (ed .points) (length holders) (omega (arith, count-is)))
 
-    pub open-entered : i ≡ ed .points → numAt t 0 < ed .points → openCall t n ≡ (pos 0 ∷ [], appendPoint ed t (numAt t 0) (factsOf n) (natOf (n .user)))
-    open-entered d h = taken (nothing d h) (omega (arith, points-count ed t))
+        x-is : x ≡ reserved
+        unfolding tableBook bookOf
+        x-is = e ∙ ap (λ l. othersUnfilled ed l (natOf (n .operator))) (operators-are (R .points))
 
-    -- what the writing needs
-    pub clear : i ≡ ed .points → numAt t 0 < ed .points → OpenClear ed n known (length (R .points))
-    clear d h = open-clear ed n known (length (R .points)) (nothing d h)
+        pub open-eats : ed .points - (numAt t 0 + 1) < x → openCall t n ≡ (pos 19 ∷ [], t)
+        unfolding above
+        open-eats k =
+            sent-back 18 (after-sixteen ∙ least-first 19 _ [] refl (lt-ltb (ed .points - suc (length holders)) reserved (omega (arith, count-is, x-is))))
+
+        module _ (k : x ≤ ed .points - (numAt t 0 + 1)) where
+          nothing : row ≡ 0
+          unfolding least
+          nothing = after-sixteen ∙ least-skip 19 _ [] (le-ltb (ed .points - suc (length holders)) reserved (omega (arith, count-is, x-is)))
+
+          pub open-entered : openCall t n ≡ (pos 0 ∷ [], appendPoint ed t (numAt t 0) (factsOf n) (natOf (n .user)))
+          open-entered = taken nothing (omega (arith, points-count ed t))
+
+          -- what the writing needs
+          pub clear : OpenClear ed n known holders
+          clear = open-clear ed n known holders nothing

@@ -39,7 +39,7 @@ pub fn fresh(t: &mut [i64], n: Ranges) -> NoticeAnswer
 
 // Row 2 of an opening: are all its numbers in range?
 fn in_range(n: Opening) -> bool
-    ensures { λ r. ⌜ r ≡ (isMirn (n .mirn) && isFlag (n .kind) && isUser (n .user) && isDay (n .install) && within (negsuc 0) (pos 10000) (n .base) && within (pos 0) (pos 1) (n .section)) ⌝ }
+    ensures { λ r. ⌜ r ≡ (isMirn (n .mirn) && isFlag (n .kind) && isUser (n .user) && isDay (n .install) && within (negsuc 0) (pos 10000) (n .base) && within (pos 0) (pos 1) (n .section) && within (pos 1) (pos 4) (n .operator)) ⌝ }
 {
     daybook::is_mirn(n.mirn)
         & daybook::is_flag(n.kind)
@@ -47,6 +47,7 @@ fn in_range(n: Opening) -> bool
         & calendar::is_day(n.install)
         & ((-1 <= n.base) & (n.base <= 10000))
         & ((0 <= n.section) & (n.section <= 1))
+        & ((1 <= n.operator) & (n.operator <= 4))
 }
 
 // -1 stands for 1,000 (8.11.5).
@@ -67,12 +68,14 @@ fn facts_of(n: Opening) -> Facts
     let kind = n.kind;
     let install = n.install;
     let section = n.section;
+    let operator = n.operator;
     Facts {
         mirn: numbers::natural(mirn),
         kind: numbers::natural(kind),
         install: numbers::natural(install),
         base: base_load(n),
         section: numbers::natural(section),
+        operator: numbers::natural(operator),
     }
 }
 
@@ -90,7 +93,8 @@ fn append_point(t: &mut [i64], ed: Edition, i: usize, n: Opening)
     numbers::put(t, places::POINTS, i as u64 + 1);
 }
 
-// A new point: 5 for a MIRN that the register has, 16 where all points are taken.
+// A new point: 5 for a MIRN that the register has, 16 where all points are taken, 19 where those left after it would be
+// fewer than the other operators' unfilled reserves.
 pub fn open(t: &mut [i64], n: Opening) -> NoticeAnswer
     ensures { λ r. ⌜ (noticeNumbers r ≡ openCall (now (t .entry)) n .0) × (now (t .exit) ≡ openCall (now (t .entry)) n .1) × (noticeRefused r ≡ refused (noticeNumbers r)) ⌝ }
 {
@@ -109,6 +113,11 @@ pub fn open(t: &mut [i64], n: Opening) -> NoticeAnswer
     let count = places::points(t);
     if ed.points <= count {
         return NoticeAnswer::Refused(16);
+    }
+    let o = n.operator;
+    let operator = numbers::natural(o);
+    if ed.points - (count + 1) < reserves::others_unfilled(t, ed, operator) {
+        return NoticeAnswer::Refused(19);
     }
     append_point(t, ed, count, n);
     NoticeAnswer::Entered

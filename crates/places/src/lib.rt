@@ -21,7 +21,8 @@ pub const HEADER_SPARE: usize = 3;
 
 pub const HEADER_LENGTH: usize = 8;
 
-// A point's part: its facts, how many rows it has, a pending request, its section; the places from SPARE on are 0.
+// A point's part: its facts, how many rows it has, a pending request, its section and operator; the places from SPARE on
+// are 0.
 pub const MIRN: usize = 0;
 
 pub const KIND: usize = 1;
@@ -46,7 +47,9 @@ pub const PENDING_END: usize = 10;
 
 pub const SECTION: usize = 10;
 
-pub const SPARE: usize = 11;
+pub const OPERATOR: usize = 11;
+
+pub const SPARE: usize = 12;
 
 // Then its registrations (start, User), off spans (off day, on day) and records (start, end, energy, type).
 pub const REGS: usize = 16;

@@ -130,6 +130,6 @@ pub fn open_point(p: &mut [i64], f: Facts, user: u64)
 {
     put_pair(p, places::MIRN, f.mirn, f.kind);
     put_pair(p, places::INSTALL, f.install, f.base);
-    numbers::put(p, places::SECTION, f.section);
+    put_pair(p, places::SECTION, f.section, f.operator);
     append_registration(p, 0, f.install, user);
 }

@@ -31,6 +31,7 @@ fn facts_sound(p: &[i64]) -> bool
         & (places::install(p) <= 39999)
         & (places::base(p) <= 10000)
         & (places::section(p) <= 1)
+        & (numbers::get(p, places::OPERATOR) <= 4)
 }
 
 // Spare places, unused rows and, without a pending User, the pending request.

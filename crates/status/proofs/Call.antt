@@ -14,7 +14,7 @@ use Rattle.calendar.specs.Calendar.{isDay}
 use Rattle.daybook.specs.declared.Edition.{Edition}
 use Rattle.daybook.specs.declared.StatusNotice.{StatusNotice}
 use Rattle.daybook.specs.Notices.{least, Numbers, isMirn, isFlag, statusEarly, statusRows, status}
-use Rattle.lists.specs.InnerSteps.{lastEnd, statusLists}
+use Rattle.lists.specs.InnerSteps.{lastEnd, withOffs, statusLists}
 use Rattle.lists.proofs.Rows.{above, upTo, least-first, least-skip, least-none}
 use Rattle.lists.proofs.Bounds.{within-bounds}
 use Rattle.lists.proofs.StatusStep.{status-clear, status-step, status-keeps}
@@ -86,7 +86,7 @@ module _ (ed : Edition) (fits : Fits ed) (t : List ℤ) (g : ed ≡ editionOf t)
   on = natOf (n .on)
 
   call : sound ed t ≡ true → CallOn ed (registerOf ed t) 0 (n .mirn) (statusEarly n) (statusRowsOf day on) (λ q. ([], switchedLists day on q)) (status n)
-  unfolding statusLists statusEarly statusRows above upTo
+  unfolding statusLists withOffs statusEarly statusRows above upTo
   call s =
       let ok = sound-lays ed fits t s .0 in
       record {
@@ -95,6 +95,7 @@ module _ (ed : Edition) (fits : Fits ed) (t : List ℤ) (g : ed ≡ editionOf t)
         high = λ q. refl;
         is = status-step n (registerOf ed t) ok;
         keeps = status-keeps n ok;
+        operator = λ q. refl;
         room = λ q w e. few-offs (few w) _ (offs-after-few day on 8 (q .offs) (w .offsFew) (status-clear n (q .facts .install) (lastEnd (q .recs)) (q .offs) e .room));
       }
 

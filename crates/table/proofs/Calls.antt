@@ -18,6 +18,7 @@ use Rattle.lists.specs.Lists.{Lists, Register, bookOf}
 use Rattle.lists.specs.InnerSteps.{findLists, withLists, onLists}
 use Rattle.lists.specs.InnerWell.{WellFormed}
 use Rattle.lists.proofs.Rows.{decide-taken, decide-refused}
+use Rattle.lists.proofs.Operators.{Kept, on-lists-kept}
 use Rattle.layout.specs.Layout.{tableLength, partOf, pointNumbers, layout, pointFrom, registerOf, tableBook}
 use Rattle.layout.specs.InnerWrites.{withPart}
 use Rattle.layout.specs.Sound.{sound}
@@ -55,8 +56,9 @@ abbrev pub laidOver : Edition → List ℤ → Numbers × Register → Numbers �
 laidOver ed t w = (w .0, cond (refused (w .0)) t (layout ed (w .1) ++ drop tableLength t))
 
 module _ (ed : Edition) (t : List ℤ) where
-  pub leaves-is : (w : Numbers × Register) → WellFormed ed (w .1) → answerAndTable ed t (w .0, bookOf (w .1)) ≡ laidOver ed t w
-  leaves-is w ok = ap (λ u. (w .0, cond (refused (w .0)) t u)) (written-is ed ok t)
+  pub leaves-is : (w : Numbers × Register) → WellFormed ed (w .1) → Kept (registerOf ed t .points) (w .1 .points)
+      → answerAndTable ed t (w .0, bookOf (w .1)) ≡ laidOver ed t w
+  leaves-is w ok kept = ap (λ u. (w .0, cond (refused (w .0)) t u)) (written-is ed ok t kept)
 
   -- a refusal leaves the table as found
   pub left-alone : (n : ℕ) (l : List ℤ) (R : Register) → laidOver ed t (pos (suc n) ∷ l, R) ≡ (pos (suc n) ∷ l, t)
@@ -87,13 +89,14 @@ module _ (k : ℕ) (m : ℤ) (early : List Row) (rows : Lists → List Row) (eff
 module _ (k : ℕ) (m : ℤ) (early : List Row) (rows : Lists → List Row) (effect : Lists → Numbers × Lists) (step : Book → Numbers × Book)
     (ed : Edition) (t : List ℤ) (s : sound ed t ≡ true)
     (is : step (bookOf (registerOf ed t)) ≡ (onLists k m early rows effect (registerOf ed t) .0, bookOf (onLists k m early rows effect (registerOf ed t) .1)))
-    (keeps : WellFormed ed (onLists k m early rows effect (registerOf ed t) .1)) where
+    (keeps : WellFormed ed (onLists k m early rows effect (registerOf ed t) .1))
+    (same : (q : Lists) → effect q .1 .facts .operator ≡ q .facts .operator) where
   abbrev after : Numbers × Register
   after = onLists k m early rows effect (registerOf ed t)
 
   whole : onEdition k step ed t ≡ laidOver ed t after
   unfolding onEdition tableBook
-  whole = rw s (ap (answerAndTable ed t) is ∙ leaves-is ed t after keeps)
+  whole = rw s (ap (answerAndTable ed t) is ∙ leaves-is ed t after keeps (on-lists-kept k m early rows effect same (registerOf ed t)))
 
   pub call-refused : (n : ℕ) → row k m early rows effect (registerOf ed t) ≡ suc n → onEdition k step ed t ≡ (pos (suc n) ∷ replicate k (pos 0), t)
   call-refused n e =

@@ -62,8 +62,8 @@ module _ (ed : Edition) (fits : Fits ed) (t : List ℤ) (s : sound ed t ≡ true
 -- ---- the call
 
 -- On the register R the book's step is a call with k fields on the point of MIRN m: on lists it has these rows, those of
--- its numbers before 4 and those of the point after it, and this effect; it keeps them well-formed, and what it leaves of
--- a point where no row applies fits the part.
+-- its numbers before 4 and those of the point after it, and this effect; it keeps them well-formed and the point's
+-- operator as it stands, and what it leaves of a point where no row applies fits the part.
 pub record CallOn (ed : Edition) (R : Register) (k : ℕ) (m : ℤ) (early : List Row) (rows : Lists → List Row)
     (effect : Lists → Numbers × Lists) (step : Book → Numbers × Book)
     : Type 0
@@ -73,6 +73,7 @@ pub record CallOn (ed : Edition) (R : Register) (k : ℕ) (m : ℤ) (early : Lis
     pub high : (q : Lists) → above 3 (rows q) ≡ true
     pub is : step (bookOf R) ≡ (onLists k m early rows effect R .0, bookOf (onLists k m early rows effect R .1))
     pub keeps : WellFormed ed (onLists k m early rows effect R .1)
+    pub operator : (q : Lists) → effect q .1 .facts .operator ≡ q .facts .operator
     pub room : (q : Lists) → Well (ed .records) q → least (early ++ rows q) ≡ 0 → Few (ed .records) (effect q .1)
 
 module _ {k : ℕ} {m : ℤ} {early : List Row} {rows : Lists → List Row} {effect : Lists → Numbers × Lists} {step : Book → Numbers × Book}
@@ -83,7 +84,7 @@ module _ {k : ℕ} {m : ℤ} {early : List Row} {rows : Lists → List Row} {eff
 
   refuses : (n : ℕ) → least (early ++ maybe ((4, true) ∷ []) rows (findLists (natOf m) (R .points))) ≡ suc n
       → onEdition k step ed t ≡ (pos (suc n) ∷ replicate k (pos 0), t)
-  refuses = call-refused k m early rows effect step ed t s (call .is) (call .keeps)
+  refuses = call-refused k m early rows effect step ed t s (call .is) (call .keeps) (call .operator)
 
   later : (o : Option Lists) → above 3 (maybe ((4, true) ∷ []) rows o) ≡ true
   unfolding above
@@ -127,7 +128,7 @@ module _ {k : ℕ} {m : ℤ} {early : List Row} {rows : Lists → List Row} {eff
 
         go : (r : ℕ) → least (rows q) ≡ r → onEdition k step ed t ≡ put (onPart k rows effect p)
         go zero h =
-            call-entered k m early rows effect step ed t s (call .is) (call .keeps) i f (passed ∙ h) (call .room q (f .well) (passed ∙ h))
+            call-entered k m early rows effect step ed t s (call .is) (call .keeps) (call .operator) i f (passed ∙ h) (call .room q (f .well) (passed ∙ h))
             ∙ ap (λ room. put (pos 0 ∷ effect q .0, pointNumbers room (effect q .1))) (sym (room-found ed fits t s (natOf m) i e))
             ∙ sym (ap put (part-entered k rows effect p h))
         go (suc r) h =

@@ -25,6 +25,7 @@ pub fn edition(t: &[i64]) -> Edition
     Edition {
         points: 32,
         records: 48,
+        reserve: 4,
     }
 }
 

@@ -14,7 +14,7 @@ use Rattle.calendar.specs.Calendar.{isDay, holidayList, allowablePeriod}
 use Rattle.daybook.specs.declared.Edition.{Edition}
 use Rattle.daybook.specs.declared.TransferRequest.{TransferRequest}
 use Rattle.daybook.specs.Notices.{isMirn, isUser, isFlag, least, Numbers, requestEarly, requestRows, request}
-use Rattle.lists.specs.InnerSteps.{requestLists}
+use Rattle.lists.specs.InnerSteps.{withPendingLists, requestLists}
 use Rattle.lists.proofs.Rows.{above, upTo, least-first, least-skip, least-none}
 use Rattle.lists.proofs.Bounds.{within-bounds}
 use Rattle.lists.proofs.TransferStep.{request-step, request-keeps}
@@ -79,7 +79,7 @@ module _ (ed : Edition) (fits : Fits ed) (t : List ℤ) (g : ed ≡ editionOf t)
   periodOf = allowablePeriod holidays (natOf (n .proposed)) (natOf (n .nochange))
 
   call : sound ed t ≡ true → CallOn ed (registerOf ed t) 2 (n .mirn) (requestEarly n holidays) (requestRowsOf user periodOf) (requestEffect user periodOf) (request n holidays)
-  unfolding requestLists requestEarly requestRows above upTo
+  unfolding requestLists withPendingLists requestEarly requestRows above upTo
   call s =
       let ok = sound-lays ed fits t s .0 in
       record {
@@ -88,6 +88,7 @@ module _ (ed : Edition) (fits : Fits ed) (t : List ℤ) (g : ed ≡ editionOf t)
         high = λ q. refl;
         is = request-step n holidays (registerOf ed t) ok;
         keeps = request-keeps n holidays ok;
+        operator = λ q. refl;
         room = λ q w e. pending-room _ q w;
       }
 

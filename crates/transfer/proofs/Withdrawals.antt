@@ -12,7 +12,7 @@ use Rattle.numbers.proofs.Bools.{both}
 use Rattle.daybook.specs.declared.Edition.{Edition}
 use Rattle.daybook.specs.declared.Withdrawal.{Withdrawal}
 use Rattle.daybook.specs.Notices.{isMirn, isUser, least, Numbers, withdrawEarly, withdrawRows, withdraw}
-use Rattle.lists.specs.InnerSteps.{withdrawLists}
+use Rattle.lists.specs.InnerSteps.{withPendingLists, withdrawLists}
 use Rattle.lists.proofs.Rows.{above, upTo, least-first, least-skip, least-none}
 use Rattle.lists.proofs.Bounds.{within-bounds}
 use Rattle.lists.proofs.TransferStep.{withdraw-step, withdraw-keeps}
@@ -55,7 +55,7 @@ module _ (ed : Edition) (fits : Fits ed) (t : List ℤ) (g : ed ≡ editionOf t)
   whole = ap (λ ed. onEdition 0 (withdraw n) ed t) (sym g)
 
   call : sound ed t ≡ true → CallOn ed (registerOf ed t) 0 (n .mirn) (withdrawEarly n) (withdrawRowsOf (natOf (n .user))) withdrawEffect (withdraw n)
-  unfolding withdrawLists withdrawEarly withdrawRows above upTo
+  unfolding withdrawLists withPendingLists withdrawEarly withdrawRows above upTo
   call s =
       let ok = sound-lays ed fits t s .0 in
       record {
@@ -64,6 +64,7 @@ module _ (ed : Edition) (fits : Fits ed) (t : List ℤ) (g : ed ≡ editionOf t)
         high = λ q. refl;
         is = withdraw-step n (registerOf ed t) ok;
         keeps = withdraw-keeps n ok;
+        operator = λ q. refl;
         room = λ q w e. pending-room none q w;
       }
 

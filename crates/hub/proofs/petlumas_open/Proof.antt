@@ -25,14 +25,14 @@ abbrev given : tie.Start → Numbers × List ℤ
 given s =
     let a = s .args in
     openCall (tableIn (a .register .now))
-    (record { mirn = a .mirn; kind = a .kind; user = a .user; install = a .install; base = a .base; section = a .section })
+    (record { mirn = a .mirn; kind = a .kind; user = a .user; install = a .install; base = a .base; section = a .section; operator = a .operator })
 
 -- the answer's numbers and the table, with each number of the notice read back from its bits
 gave : (c : tie.After-notice-numbers)
     → (c .notice-numbers .result ≡ bitsOf (given (start c) .0)) × (c .before .before .open .last .0 ≡ given (start c) .1)
 gave c =
     let f = start c .fits in
-    let e = rw (toZ-ofZ (f .mirn), toZ-ofZ (f .kind), toZ-ofZ (f .user), toZ-ofZ (f .install), toZ-ofZ (f .base), toZ-ofZ (f .section), c .before .before .before .before .table-in .ensures .0) at (c .before .before .open .ensures) in
+    let e = rw (toZ-ofZ (f .mirn), toZ-ofZ (f .kind), toZ-ofZ (f .user), toZ-ofZ (f .install), toZ-ofZ (f .base), toZ-ofZ (f .section), toZ-ofZ (f .operator), c .before .before .before .before .table-in .ensures .0) at (c .before .before .open .ensures) in
     (c .notice-numbers .ensures ∙ ap bitsOf (e .0), e .1)
 
 finish-requires : tie.Need-finish-requires

@@ -1,19 +1,21 @@
 use mathlib.Core.Path.{_≡_, refl, sym, _∙_, ap}
 use mathlib.Core.Bool.{true}
+use Prim.Native.Nat.{_<_}
 use native.Mathlib.Omega.{arith}
 use borrow.Author.Needs.{needs, sfits-of}
 use borrow.Author.Tests.{not-true, not-false}
 use Rattle.numbers.specs.Naturals.{natOf}
 use Rattle.numbers.specs.Search.{maybe}
 use Rattle.numbers.proofs.Naturals.{natural-read}
-use Rattle.daybook.specs.Notices.{factsOf}
+use Rattle.daybook.specs.Notices.{factsOf, operatorsIn, othersUnfilled}
 use Rattle.lists.proofs.OpenStep.{facts-ok}
+use Rattle.layout.specs.Layout.{tableBook}
 use Rattle.layout.specs.Sound.{sound}
 use Rattle.layout.specs.InnerWrites.{appendPoint}
 use Rattle.table.specs.Lookup.{indexOf}
 use Rattle.table.proofs.Laws.{sound-long}
 use Rattle.table.proofs.Calls.{gives, tells}
-use Rattle.opening.proofs.OpenCall.{ranged, open-unsound, open-out, open-known, open-full, open-entered, clear}
+use Rattle.opening.proofs.OpenCall.{ranged, open-unsound, open-out, open-known, open-full, open-eats, open-entered, clear}
 use Rattle.opening.proofs.open.Statement.{statement}
 use Rattle.opening.proofs.open.Tie as tie
 
@@ -30,6 +32,12 @@ tests c = c .before .before .before .before
 
 abbrev finds : tie.After-points → tie.After-index-of
 finds c = c .before .before .before .before
+
+abbrev counts : tie.After-natural2 → tie.After-points
+counts c = c .before .before .before .before
+
+abbrev named : tie.After-others-unfilled → tie.After-natural2
+named c = c .before .before .before
 
 -- ---- what is known after each test
 
@@ -96,26 +104,66 @@ returns-4 c =
     let s = entry e .args in
     tells (open-full _ (d .ensures .1) (s .t .now) (d .ensures .0) (s .n) (is-sound e) (is-ranged r) _ (index-is i) (g .before .before .if3 .left) (omega (arith, g .points .ensures .0))) refl
 
-append-point-requires : tie.Need-append-point-requires
-append-point-requires c κs =
-    let g = c .before .before .before in
-    let i = finds g in
-    let r = tests i in
-    let e = r .before .before in
-    let d = edition e .edition in
-    let s = entry e .args in
-    let k = clear _ (d .ensures .1) (s .t .now) (d .ensures .0) (s .n) (is-sound e) (is-ranged r) _ (index-is i) (g .before .before .if3 .left) (omega (arith, g .points .ensures .0)) in
-    (d .ensures .1, omega arith, sound-long _ (s .t .now) (is-sound e) .0, facts-ok k, omega (arith, k .userHigh))
+-- the operator, and with it the others' unfilled reserves
+operator-is : (c : tie.After-natural2)
+    → c .natural2 .result ≡ natOf (entry (tests (finds (counts c)) .before .before) .args .n .operator)
+operator-is c =
+    let s = entry (tests (finds (counts c)) .before .before) .args in
+    c .natural2 .ensures .0 ∙ natural-read (s .n .operator) (sfits-of (c .before .struct-told2 .given .1 .1 .1 .1 .1 .1 .0 .1))
+
+others-unfilled-requires : tie.Need-others-unfilled-requires
+others-unfilled-requires c κs =
+    let e = tests (finds (counts (c .before .before))) .before .before in (edition e .edition .ensures .1, is-sound e)
+
+others-are : (c : tie.After-others-unfilled)
+    → let e = tests (finds (counts (named c))) .before .before in
+    c .others-unfilled .result
+    ≡ othersUnfilled (edition e .edition .result) (operatorsIn (tableBook (edition e .edition .result) (entry e .args .t .now) .points)) (natOf (entry e .args .n .operator))
+others-are c =
+    let e = tests (finds (counts (named c))) .before .before in
+    c .others-unfilled .ensures
+    ∙ ap (othersUnfilled (edition e .edition .result) (operatorsIn (tableBook (edition e .edition .result) (entry e .args .t .now) .points))) (operator-is (named c))
+
+-- a row is free
+free : (c : tie.After-others-unfilled) → counts (named c) .points .result < edition (tests (finds (counts (named c))) .before .before) .edition .result .points
+free c = omega (arith, named c .before .before .if4 .left)
 
 returns-5 : tie.Need-returns-5
 returns-5 c =
-    let g = c .before .before .before .before .before in
+    let o = c .before in
+    let g = counts (named o) in
     let i = finds g in
     let r = tests i in
     let e = r .before .before in
     let d = edition e .edition in
     let s = entry e .args in
-    let w = gives (open-entered _ (d .ensures .1) (s .t .now) (d .ensures .0) (s .n) (is-sound e) (is-ranged r) _ (index-is i) (g .before .before .if3 .left) (omega (arith, g .points .ensures .0))) in
+    tells (open-eats _ (d .ensures .1) (s .t .now) (d .ensures .0) (s .n) (is-sound e) (is-ranged r) _ (index-is i) (g .before .before .if3 .left)
+    (omega (arith, g .points .ensures .0, free o)) _ (others-are o) (omega (arith, g .points .ensures .0))) refl
+
+append-point-requires : tie.Need-append-point-requires
+append-point-requires c κs =
+    let o = c .before .before in
+    let g = counts (named o) in
+    let i = finds g in
+    let r = tests i in
+    let e = r .before .before in
+    let d = edition e .edition in
+    let s = entry e .args in
+    let k = clear _ (d .ensures .1) (s .t .now) (d .ensures .0) (s .n) (is-sound e) (is-ranged r) _ (index-is i) (g .before .before .if3 .left)
+    (omega (arith, g .points .ensures .0, free o)) _ (others-are o) (omega (arith, g .points .ensures .0)) in
+    (d .ensures .1, free o, sound-long _ (s .t .now) (is-sound e) .0, facts-ok k, omega (arith, k .userHigh))
+
+returns-6 : tie.Need-returns-6
+returns-6 c =
+    let o = c .before .before .before .before in
+    let g = counts (named o) in
+    let i = finds g in
+    let r = tests i in
+    let e = r .before .before in
+    let d = edition e .edition in
+    let s = entry e .args in
+    let w = gives (open-entered _ (d .ensures .1) (s .t .now) (d .ensures .0) (s .n) (is-sound e) (is-ranged r) _ (index-is i) (g .before .before .if3 .left)
+    (omega (arith, g .points .ensures .0, free o)) _ (others-are o) (omega (arith, g .points .ensures .0))) in
     (w .0, c .before .append-point .ensures ∙ ap (λ k. appendPoint (d .result) (s .t .now) k (factsOf (s .n)) (natOf (s .n .user))) (g .points .ensures .0) ∙ w .1, refl)
 
 pub open-spec : {M : Type 1} → statement M
@@ -133,6 +181,10 @@ open-spec =
     points-requires
     (λ c. search needs)
     returns-4
+    (λ c κs. search needs) (λ c. search needs) (λ c. search needs)
+    others-unfilled-requires
+    (λ c. search needs)
+    returns-5
     append-point-requires
     (λ c. search needs)
-    returns-5)
+    returns-6)

@@ -6,12 +6,14 @@ use Rattle.soundness.proofs.facts_sound.Tie as tie
 returns : tie.Need-returns
 unfolding factsSound
 returns c =
-    let b = c .before in
-    rw (c .section .ensures .0, b .base .ensures .0, b .before .install .ensures .0, b .before .before .kind .ensures .0, b .before .before .before .mirn .ensures .0)
+    let s = c .before in
+    let b = s .before in
+    rw (c .get .ensures .0, s .section .ensures .0, b .base .ensures .0, b .before .install .ensures .0, b .before .before .kind .ensures .0, b .before .before .before .mirn .ensures .0)
 
 pub facts-sound-spec : {M : Type 1} → statement M
 facts-sound-spec =
     tie.close
     (tie.spec
     (λ c κs. search needs) (λ c κs. search needs) (λ c κs. search needs) (λ c κs. search needs) (λ c κs. search needs)
+    (λ c κs. search needs)
     returns)

@@ -1,0 +1,206 @@
+-- The points left cover the unfilled reserves of all four operators, after every list of calls. Assumes nothing.
+use mathlib.Core.Path.{_≡_, refl, sym, _∙_, ap, ap₂, subst}
+use mathlib.Core.Bool.{Bool, true, false, not, _&&_, cond, and-false}
+use mathlib.Core.List.{List, [], _∷_, _++_, map, map-append}
+use Prim.Native.Nat.{ℕ, zero, suc, _+_, _-_, _*_, _≤_, _<_}
+use native.Mathlib.Omega.{arith}
+use lib.Dec.{leb, ltb, eqb}
+use lib.IntN.{ℤ, pos, negsuc}
+use lib.ListN.{length, length-append}
+use borrow.Author.Tests.{lt-leb, le-ltb, eq-eqb, ne-eqb, eqb-false}
+use Rattle.numbers.specs.Naturals.{natOf}
+use Rattle.numbers.specs.Search.{isSome}
+use Rattle.calendar.specs.Calendar.{within, isDay}
+use Rattle.daybook.specs.declared.Edition.{Edition}
+use Rattle.daybook.specs.declared.Facts.{Facts}
+use Rattle.daybook.specs.declared.Opening.{Opening}
+use Rattle.daybook.specs.Book.{Point, Book}
+use Rattle.daybook.specs.Notices.{Row, least, decide, isMirn, isFlag, isUser, find, factsOf, operatorsIn, held, unfilled, overFour, othersUnfilled, openingRows, opening}
+use Rattle.daybook.specs.Calls.{open!, Call, notice!, query!, Answer, noted, State, step, run}
+use Rattle.lists.proofs.Rows.{above, least-first}
+use Rattle.lists.proofs.Bounds.{within-bounds}
+use Rattle.lists.proofs.OpenStep.{OpenClear, open-clear}
+use Rattle.opening.specs.Opening.{openCall}
+use Rattle.history.specs.Runs.{noticeCall, Lent, lentStep, freshState}
+use Rattle.history.specs.Agreement.{StandsFor}
+use Rattle.history.specs.Promise.{BelowReserve, refusalIn, Reserved, InEveryEdition}
+use Rattle.history.proofs.Steps.{call-agrees}
+use Rattle.history.proofs.Facts.{factsIn, facts-after}
+
+-- ---- one opening more
+
+-- The points left cover the unfilled reserves of all four.
+pub record Covered (ed : Edition) (operators : List ℕ) : Type 0 where
+  pub few : length operators ≤ ed .points
+  pub covers : overFour (unfilled ed operators) ≤ ed .points - length operators
+
+held-append : (l m : List ℕ) (o : ℕ) → held (l ++ m) o ≡ held l o + held m o
+unfolding held
+held-append [] m o = omega arith
+held-append (x ∷ l) m o = add (cond (eqb x o) 1 0) _ _ _ (held-append l m o)
+  where
+    add : (a x y z : ℕ) → x ≡ y + z → a + x ≡ a + y + z
+    add a x y z e = omega arith
+
+-- over four, one of them apart
+apart : (f : ℕ → ℕ) (o : ℕ) → 1 ≤ o → o ≤ 4 → overFour f ≡ overFour (λ x. cond (eqb x o) 0 (f x)) + f o
+apart f zero h k = absurd (omega arith)
+apart f (suc zero) h k = omega arith
+apart f (suc (suc zero)) h k = omega arith
+apart f (suc (suc (suc zero))) h k = omega arith
+apart f (suc (suc (suc (suc zero)))) h k = omega arith
+apart f (suc (suc (suc (suc (suc o))))) h k = absurd (omega arith)
+
+module _ (ed : Edition) (l : List ℕ) (o : ℕ) where
+  abbrev more : List ℕ
+  more = l ++ (o ∷ [])
+
+  own-more : held more o ≡ held l o + 1
+  unfolding held
+  own-more = held-append l (o ∷ []) o ∙ rw (eq-eqb o o refl)
+
+  others-same : othersUnfilled ed more o ≡ othersUnfilled ed l o
+  unfolding othersUnfilled held
+  others-same = λ i. term 1 i + term 2 i + term 3 i + term 4 i
+    where
+      term : (x : ℕ) → cond (eqb x o) 0 (unfilled ed more x) ≡ cond (eqb x o) 0 (unfilled ed l x)
+      term x = go (eqb x o) refl
+        where
+          go : (b : Bool) → eqb x o ≡ b → cond b 0 (unfilled ed more x) ≡ cond b 0 (unfilled ed l x)
+          go true e = refl
+          go false e =
+              let other : ¬ (x ≡ o) = eqb-false x o e in
+              ap (λ h. ed .reserve - h) (held-append l (o ∷ []) x ∙ rw (ne-eqb o x (λ z. other (sym z))) (omega arith))
+
+  module _ (low : 1 ≤ o) (high : o ≤ 4) (c : Covered ed l) where
+    all-four : othersUnfilled ed l o + (ed .reserve - held l o) ≤ ed .points - length l
+    unfolding othersUnfilled
+    all-four = omega (arith, c .covers, apart (unfilled ed l) o low high)
+
+    all-more : overFour (unfilled ed more) ≡ othersUnfilled ed l o + (ed .reserve - (held l o + 1))
+    unfolding othersUnfilled
+    all-more = apart (unfilled ed more) o low high ∙ ap₂ _+_ others-same (ap (λ h. ed .reserve - h) own-more)
+
+    covered-more : length l < ed .points → othersUnfilled ed l o ≤ ed .points - suc (length l) → Covered ed more
+    covered-more room left =
+        record {
+          few = omega (arith, longer);
+          covers = rw (all-more, longer) (one-less (ed .points) (length l) (othersUnfilled ed l o) (ed .reserve) (held l o) all-four left);
+        }
+      where
+        longer : length more ≡ length l + 1
+        longer = length-append l (o ∷ [])
+
+        one-less : (p n x r h : ℕ) → x + (r - h) ≤ p - n → x ≤ p - suc n → x + (r - (h + 1)) ≤ p - (n + 1)
+        one-less p n x r h a b = omega arith
+
+-- ---- after every list of calls
+
+-- Four reserves fit the points.
+abbrev pub Fit : Edition → Type 0
+Fit ed = 4 * ed .reserve ≤ ed .points
+
+pub none-covered : (ed : Edition) → Fit ed → Covered ed []
+unfolding held
+none-covered ed fit = record { few = omega arith; covers = omega arith }
+
+operators-facts : (ps : List Point) → map (λ (f : Facts). f .operator) (map (λ (p : Point). p .facts) ps) ≡ operatorsIn ps
+operators-facts [] = refl
+operators-facts (p ∷ ps) = ap (λ l. p .facts .operator ∷ l) (operators-facts ps)
+
+abbrev pub Kept : Edition → Book → Type 0
+Kept ed B = Covered ed (operatorsIn (B .points))
+
+pub covered-step : (c : Call) (S : State) → Fit (S .edition) → Kept (S .edition) (S .book) → Kept (step c S .1 .edition) (step c S .1 .book)
+unfolding step factsOf
+covered-step (query! q) S fit k = k
+covered-step (notice! c) S fit k =
+    let ed : Edition = S .edition in
+    let P : List Facts → Type 0 = λ fs. Covered ed (map (λ (f : Facts). f .operator) fs) in
+    subst (Covered ed) (operators-facts (noted c ed (S .book) .1 .points))
+    (facts-after P c ed (S .book) (none-covered ed fit) (subst (Covered ed) (sym (operators-facts (S .book .points))) k) (λ n e z.
+    subst (Covered ed) (sym (map-append (λ (f : Facts). f .operator) (factsIn (S .book)) (factsOf n ∷ [])))
+    (let clear : OpenClear ed n _ _ = open-clear ed n _ _ z in
+    rw (operators-facts (S .book .points)) (covered-more ed _ (natOf (n .operator)) (clear .operatorLow) (clear .operatorHigh) k (clear .room) (clear .covers)))))
+
+pub step-edition : (c : Call) (S : State) → step c S .1 .edition ≡ S .edition
+unfolding step
+step-edition (notice! c) S = refl
+step-edition (query! q) S = refl
+
+covered-run : (cs : List Call) (S : State) → Fit (S .edition) → Kept (S .edition) (S .book) → Kept (run cs S .edition) (run cs S .book)
+unfolding run
+covered-run [] S fit k = k
+covered-run (c ∷ cs) S fit k = covered-run cs (step c S .1) (rw (step-edition c S) fit) (covered-step c S fit k)
+
+-- ---- what is answered
+
+-- with rows 16 and 19 passed, 5 is the highest that can be answered
+low-rows : (a b : Bool) → least ((2, a) ∷ (5, b) ∷ (16, false) ∷ (19, false) ∷ []) ≤ 5
+unfolding least
+low-rows true true = omega arith
+low-rows true false = omega arith
+low-rows false true = omega arith
+low-rows false false = omega arith
+
+module _ (ed : Edition) (n : Opening) (known : Bool) (l : List ℕ) (c : Covered ed l) (below : held l (natOf (n .operator)) < ed .reserve) where
+  abbrev o : ℕ
+  o = natOf (n .operator)
+
+  row-low : least (openingRows ed n known l) ≤ 5
+  unfolding openingRows above
+  row-low = go (within (pos 1) (pos 4) (n .operator)) refl
+    where
+      rest : Bool
+      rest = isMirn (n .mirn) && isFlag (n .kind) && isUser (n .user) && isDay (n .install) && within (negsuc 0) (pos 10000) (n .base) && within (pos 0) (pos 1) (n .section)
+
+      rows : Bool → Bool → Bool → List Row
+      rows named full eats = (2, not (rest && named)) ∷ (5, known) ∷ (16, full) ∷ (19, eats) ∷ []
+
+      go : (b : Bool) → within (pos 1) (pos 4) (n .operator) ≡ b
+          → least (rows b (leb (ed .points) (length l)) (ltb (ed .points - suc (length l)) (othersUnfilled ed l o))) ≤ 5
+      go false e = rw (and-false rest, least-first 2 true ((5, known) ∷ (16, leb (ed .points) (length l)) ∷ (19, ltb (ed .points - suc (length l)) (othersUnfilled ed l o)) ∷ []) refl refl) (omega arith)
+      go true e =
+          let b = within-bounds 1 4 (n .operator) e in
+          let four = all-four ed l o (b .0) (b .1) c in
+          rw (lt-leb (ed .points) (length l) (omega (arith, four)), le-ltb (ed .points - suc (length l)) (othersUnfilled ed l o) (omega (arith, four)))
+          (low-rows (not (rest && true)) known)
+
+abbrev pub bookRefusal : State → Opening → ℤ
+bookRefusal S n = refusalIn (opening (S .edition) n (S .book) .0)
+
+answered : (r m : ℕ) (B C : Book) → refusalIn (decide r 0 B ([], C) .0) ≡ pos m → r ≡ m
+unfolding decide
+answered zero m B C e = ap natOf e
+answered (suc r) m B C e = ap natOf e
+
+pub reserved-covered : (S : State) → Kept (S .edition) (S .book) → Reserved S (bookRefusal S)
+unfolding opening
+reserved-covered S k =
+    record {
+      never16 = λ n b e. let z : row n ≡ 16 = answered (row n) 16 (S .book) _ e in absurd (omega (arith, low n b));
+      never19 = λ n b e. let z : row n ≡ 19 = answered (row n) 19 (S .book) _ e in absurd (omega (arith, low n b));
+    }
+  where
+    row : Opening → ℕ
+    row n = least (openingRows (S .edition) n (isSome (find (natOf (n .mirn)) (S .book .points))) (operatorsIn (S .book .points)))
+
+    low : (n : Opening) → BelowReserve S n → row n ≤ 5
+    low n b = row-low (S .edition) n (isSome (find (natOf (n .mirn)) (S .book .points))) (operatorsIn (S .book .points)) k b
+
+pub in-every-edition : InEveryEdition
+in-every-edition ed fit n₀ cs = reserved-covered _ (covered-run cs (freshState ed n₀) fit (none-covered ed fit))
+
+-- ---- on what is lent, which answers as the book does
+
+pub reserved-lent : (L : Lent) (S : State) → StandsFor L S → Reserved S (bookRefusal S)
+    → Reserved S (λ n. refusalIn (openCall (L .table) n .0))
+unfolding lentStep noticeCall step noted
+reserved-lent L S r kept =
+    record {
+      never16 = λ n b e. kept .never16 n b (sym (same n) ∙ e);
+      never19 = λ n b e. kept .never19 n b (sym (same n) ∙ e);
+    }
+  where
+    same : (n : Opening) → refusalIn (openCall (L .table) n .0) ≡ bookRefusal S n
+    same n = ap (λ (a : Answer). refusalIn (a .0)) (call-agrees L S r (notice! (open! n)) .answer)
