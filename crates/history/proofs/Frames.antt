@@ -30,7 +30,7 @@ use Rattle.layout.specs.InnerWrites.{withPart, appendRegistration, openPoint, a
 use Rattle.layout.specs.Sound.{sound}
 use Rattle.layout.specs.Calls.{answerAndTable, onEdition}
 use Rattle.layout.proofs.Numbers.{Few, few, length-point}
-use Rattle.layout.proofs.Parts.{part-ends, with-part-length, with-part-front, with-part-past, with-part-itself}
+use Rattle.layout.proofs.Parts.{part-number, part-ends, with-part-length, with-part-front, with-part-past, with-part-itself}
 use Rattle.layout.proofs.PartBlocks.{snoc-length}
 use Rattle.layout.proofs.PointParts.{all-few-of, withPoints, table-split}
 use Rattle.layout.proofs.NewPoint.{freshPoint, append-point}
@@ -74,10 +74,12 @@ module _ (ed : Edition) (t : List ℤ) (i : ℕ) (p : List ℤ) (e : length p �
       ∙ getD-drop past t (k - past) (pos 0))
   at k true l true r o = absurd (false≢true (sym o))
 
-  -- a part's own number at a place of the table
-  part-at : (u : List ℤ) (j : ℕ) → j < stride ed → getD (partOf ed u i) j (pos 0) ≡ getD u (placeOf ed i + j) (pos 0)
-  unfolding partOf
-  part-at u j l = getD-take (stride ed) (drop (placeOf ed i) u) j (pos 0) l ∙ getD-drop (placeOf ed i) u j (pos 0)
+  part-framed : Framed (inPart ed i) t (withPart ed t i p)
+  part-framed =
+      record {
+        sameLength = with-part-length ed t i p e h;
+        outside = λ k. at k (leb (placeOf ed i) k) refl (ltb k past) refl;
+      }
 
   -- where the operator's place holds what it held
   operator-framed : getD p 11 (pos 0) ≡ getD (partOf ed t i) 11 (pos 0)
@@ -93,18 +95,11 @@ module _ (ed : Edition) (t : List ℤ) (i : ℕ) (p : List ℤ) (e : length p �
       go k false o b x z = at k (leb (placeOf ed i) k) refl (ltb k past) refl o
       go k true o true x z =
           ap (λ k. getD (withPart ed t i p) k (pos 0)) (eqb-true k (placeOf ed i + 11) x)
-          ∙ sym (part-at (withPart ed t i p) 11 (omega arith))
+          ∙ sym (part-number ed (withPart ed t i p) i 11 (omega arith))
           ∙ ap (λ p. getD p 11 (pos 0)) (with-part-itself ed t i p e h)
-          ∙ same ∙ part-at t 11 (omega arith)
+          ∙ same ∙ part-number ed t i 11 (omega arith)
           ∙ ap (λ k. getD t k (pos 0)) (sym (eqb-true k (placeOf ed i + 11) x))
       go k true o false x z = absurd (false≢true (sym z))
-
-  part-framed : Framed (inPart ed i) t (withPart ed t i p)
-  part-framed =
-      record {
-        sameLength = with-part-length ed t i p e h;
-        outside = λ k. at k (leb (placeOf ed i) k) refl (ltb k past) refl;
-      }
 
 -- lists put in the place of a point's fit its part, where the points are well-formed with them
 put-few : {room : ℕ} (m : ℕ) (q q′ : Lists) (qs : List Lists)

@@ -1,26 +1,27 @@
 -- The points left cover the unfilled reserves of all four operators, after every list of calls. Assumes nothing.
 use mathlib.Core.Path.{_≡_, refl, sym, _∙_, ap, ap₂, subst}
-use mathlib.Core.Bool.{Bool, true, false, not, _&&_, cond, and-false}
+use mathlib.Core.Bool.{Bool, true, false, not, cond, and-false}
 use mathlib.Core.List.{List, [], _∷_, _++_, map, map-append}
 use Prim.Native.Nat.{ℕ, zero, suc, _+_, _-_, _*_, _≤_, _<_}
 use native.Mathlib.Omega.{arith}
-use lib.Dec.{leb, ltb, eqb}
-use lib.IntN.{ℤ, pos, negsuc}
+use lib.Dec.{eqb}
+use lib.IntN.{ℤ, pos}
 use lib.ListN.{length, length-append}
 use borrow.Author.Tests.{lt-leb, le-ltb, eq-eqb, ne-eqb, eqb-false}
 use Rattle.numbers.specs.Naturals.{natOf}
 use Rattle.numbers.specs.Search.{isSome}
-use Rattle.calendar.specs.Calendar.{within, isDay}
+use Rattle.calendar.specs.Calendar.{within}
 use Rattle.daybook.specs.declared.Edition.{Edition}
 use Rattle.daybook.specs.declared.Facts.{Facts}
 use Rattle.daybook.specs.declared.Opening.{Opening}
 use Rattle.daybook.specs.Book.{Point, Book}
-use Rattle.daybook.specs.Notices.{Row, least, decide, isMirn, isFlag, isUser, find, factsOf, operatorsIn, held, unfilled, overFour, othersUnfilled, openingRows, opening}
+use Rattle.daybook.specs.Notices.{least, decide, find, factsOf, operatorsIn, held, unfilled, overFour, othersUnfilled, openingRows, opening}
 use Rattle.daybook.specs.Calls.{open!, Call, notice!, query!, Answer, noted, State, step, run}
 use Rattle.lists.proofs.Rows.{above, least-first}
 use Rattle.lists.proofs.Bounds.{within-bounds}
 use Rattle.lists.proofs.OpenStep.{OpenClear, open-clear}
 use Rattle.opening.specs.Opening.{openCall}
+use Rattle.opening.proofs.OpenCall.{ranged}
 use Rattle.history.specs.Runs.{noticeCall, Lent, lentStep, freshState}
 use Rattle.history.specs.Agreement.{StandsFor}
 use Rattle.history.specs.Promise.{BelowReserve, refusalIn, Reserved, InEveryEdition}
@@ -136,7 +137,7 @@ covered-run (c ∷ cs) S fit k = covered-run cs (step c S .1) (rw (step-edition 
 -- ---- what is answered
 
 -- with rows 16 and 19 passed, 5 is the highest that can be answered
-low-rows : (a b : Bool) → least ((2, a) ∷ (5, b) ∷ (16, false) ∷ (19, false) ∷ []) ≤ 5
+low-rows : (out known : Bool) → least ((2, out) ∷ (5, known) ∷ (16, false) ∷ (19, false) ∷ []) ≤ 5
 unfolding least
 low-rows true true = omega arith
 low-rows true false = omega arith
@@ -147,24 +148,24 @@ module _ (ed : Edition) (n : Opening) (known : Bool) (l : List ℕ) (c : Covered
   abbrev o : ℕ
   o = natOf (n .operator)
 
+  -- no operator: row 2
+  nobody : within (pos 1) (pos 4) (n .operator) ≡ false → ranged n ≡ false
+  nobody e = rw e (simp and-false)
+
   row-low : least (openingRows ed n known l) ≤ 5
   unfolding openingRows above
   row-low = go (within (pos 1) (pos 4) (n .operator)) refl
     where
-      rest : Bool
-      rest = isMirn (n .mirn) && isFlag (n .kind) && isUser (n .user) && isDay (n .install) && within (negsuc 0) (pos 10000) (n .base) && within (pos 0) (pos 1) (n .section)
+      row : ℕ
+      row = least (openingRows ed n known l)
 
-      rows : Bool → Bool → Bool → List Row
-      rows named full eats = (2, not (rest && named)) ∷ (5, known) ∷ (16, full) ∷ (19, eats) ∷ []
-
-      go : (b : Bool) → within (pos 1) (pos 4) (n .operator) ≡ b
-          → least (rows b (leb (ed .points) (length l)) (ltb (ed .points - suc (length l)) (othersUnfilled ed l o))) ≤ 5
-      go false e = rw (and-false rest, least-first 2 true ((5, known) ∷ (16, leb (ed .points) (length l)) ∷ (19, ltb (ed .points - suc (length l)) (othersUnfilled ed l o)) ∷ []) refl refl) (omega arith)
+      go : (named : Bool) → within (pos 1) (pos 4) (n .operator) ≡ named → row ≤ 5
+      go false e = let two : row ≡ 2 = least-first 2 (not (ranged n)) _ refl (ap not (nobody e)) in omega arith
       go true e =
           let b = within-bounds 1 4 (n .operator) e in
           let four = all-four ed l o (b .0) (b .1) c in
-          rw (lt-leb (ed .points) (length l) (omega (arith, four)), le-ltb (ed .points - suc (length l)) (othersUnfilled ed l o) (omega (arith, four)))
-          (low-rows (not (rest && true)) known)
+          rw (lt-leb (ed .points) (length l) (omega (arith, four)))
+          (rw (le-ltb (ed .points - suc (length l)) (othersUnfilled ed l o) (omega (arith, four))) (low-rows (not (ranged n)) known))
 
 abbrev pub bookRefusal : State → Opening → ℤ
 bookRefusal S n = refusalIn (opening (S .edition) n (S .book) .0)

@@ -7,7 +7,7 @@ use native.Mathlib.Omega.{arith}
 use native.Mathlib.Nat.{mul-suc, mul-zero}
 use lib.Dec.{eqb}
 use lib.ListN.{getD, take, drop}
-use lib.Seq.{drop-drop, getD-drop, getD-take}
+use lib.Seq.{drop-drop}
 use lib.IntN.{ℤ, pos}
 use Rattle.numbers.specs.Naturals.{natOf}
 use Rattle.numbers.specs.Rows.{all}
@@ -17,13 +17,15 @@ use Rattle.lists.specs.Lists.{Lists}
 use Rattle.layout.specs.Layout.{stride, placeOf, partOf, numAt, pointFrom, pointsFrom, registerOf}
 use Rattle.layout.specs.Sound.{each, mirnsDiffer}
 use Rattle.layout.specs.InnerMirns.{laterDiffer}
+use Rattle.layout.proofs.Parts.{part-number}
 
 module _ (ed : Edition) (t : List ℤ) where
   -- the first number of a part
   pub first-number : (a : ℕ) → numAt (take (stride ed) (drop (placeOf ed a) t)) 0 ≡ numAt t (placeOf ed a)
+  unfolding partOf
   first-number a =
       let z : placeOf ed a + 0 ≡ placeOf ed a = omega arith in
-      ap natOf (getD-take (stride ed) (drop (placeOf ed a) t) 0 (pos 0) (omega arith) ∙ getD-drop (placeOf ed a) t 0 (pos 0) ∙ ap (λ i. getD t i (pos 0)) z)
+      ap natOf (part-number ed t a 0 (omega arith) ∙ ap (λ i. getD t i (pos 0)) z)
 
   pub next : (a : ℕ) → drop (stride ed) (drop (placeOf ed a) t) ≡ drop (placeOf ed (suc a)) t
   next a =

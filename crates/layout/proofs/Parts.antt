@@ -5,9 +5,9 @@ use mathlib.Core.List.{List, _++_, append-assoc}
 use Prim.Native.Nat.{ℕ, suc, _+_, _-_, _*_, _≤_, _<_}
 use native.Mathlib.Omega.{arith}
 use native.Mathlib.Nat.{mul-suc, mul-le-mul-left}
-use lib.ListN.{length, take, drop, length-append, length-drop, take-append-drop}
-use lib.Seq.{length-take-le, take-append-le, take-take, take-at, drop-at, drop-append-add, drop-drop}
-use lib.IntN.{ℤ}
+use lib.ListN.{length, getD, take, drop, length-append, length-drop, take-append-drop}
+use lib.Seq.{length-take-le, take-append-le, take-take, take-at, drop-at, drop-append-add, drop-drop, getD-take, getD-drop}
+use lib.IntN.{ℤ, pos}
 use Rattle.daybook.specs.declared.Edition.{Edition}
 use Rattle.layout.specs.Layout.{tableLength, stride, placeOf, Fits, partOf}
 use Rattle.layout.specs.InnerWrites.{withPart}
@@ -18,6 +18,11 @@ next-place ed i j h = step (stride ed) (mul-le-mul-left (stride ed) h) (mul-suc 
   where
     step : (s : ℕ) → s * suc i ≤ s * j → s * suc i ≡ s * i + s → 8 + s * i + s ≤ 8 + s * j
     step s k e = omega arith
+
+-- a number of a part is one of the table
+pub part-number : (ed : Edition) (t : List ℤ) (i j : ℕ) → j < stride ed → getD (partOf ed t i) j (pos 0) ≡ getD t (placeOf ed i + j) (pos 0)
+unfolding partOf
+part-number ed t i j h = getD-take (stride ed) (drop (placeOf ed i) t) j (pos 0) h ∙ getD-drop (placeOf ed i) t j (pos 0)
 
 -- a part of a table that fits ends in the table
 pub part-ends : (ed : Edition) (i : ℕ) → Fits ed → i < ed .points → placeOf ed i + stride ed ≤ tableLength

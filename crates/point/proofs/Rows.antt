@@ -1,14 +1,16 @@
 -- A part's rows by index: what is read from a part are lists of rows. Assumes nothing.
 use mathlib.Core.Path.{_≡_, refl, ap, ap₂, _∙_}
-use mathlib.Core.List.{List, [], _∷_, _++_}
+use mathlib.Core.List.{List, [], _∷_, _++_, map}
 use Prim.Native.Nat.{ℕ, zero, suc, _+_, _*_, _<_}
 use native.Mathlib.Omega.{arith}
 use lib.ListN.{length, getD, drop}
 use lib.Seq.{getD-drop, drop-drop}
 use lib.IntN.{ℤ, pos}
 use Rattle.numbers.specs.Naturals.{natOf}
+use Rattle.daybook.specs.declared.Edition.{Edition}
 use Rattle.daybook.specs.Book.{Entry}
-use Rattle.layout.specs.Layout.{onOf, regsFrom, offsFrom, recsFrom}
+use Rattle.layout.specs.Layout.{placeOf, partOf, numAt, onOf, regsFrom, offsFrom, recsFrom, pointFrom, pointsFrom, registerOf}
+use Rattle.layout.proofs.Mirns.{next}
 use Rattle.point.specs.InnerTests.{regRow, spanRow, recRow}
 
 -- f k, f (k + 1), .., n of them
@@ -37,6 +39,25 @@ getD-rows f zero k i d h = absurd (omega arith)
 getD-rows f (suc n) k zero d h = let e : k ≡ k + 0 = omega arith in ap f e
 getD-rows f (suc n) k (suc i) d h =
     let e : suc k + i ≡ k + suc i = omega arith in getD-rows f n (suc k) i d (omega arith) ∙ ap f e
+
+pub map-rows : {A B : Type 0} (g : A → B) (f : ℕ → A) (k n : ℕ) → map g (rowsAt f k n) ≡ rowsAt (λ i. g (f i)) k n
+unfolding rowsAt
+map-rows g f k zero = refl
+map-rows g f k (suc n) = ap (λ l. g (f k) ∷ l) (map-rows g f (suc k) n)
+
+-- the points of a table, by their parts
+module _ (ed : Edition) (t : List ℤ) where
+  points-from : (n i : ℕ) → pointsFrom ed n (drop (placeOf ed i) t) ≡ rowsAt (λ i. pointFrom (partOf ed t i)) i n
+  unfolding pointsFrom rowsAt partOf
+  points-from zero i = refl
+  points-from (suc n) i =
+      ap (λ l. pointFrom (partOf ed t i) ∷ l) (ap (pointsFrom ed n) (next ed t i) ∙ points-from n (suc i))
+
+  pub points-read : registerOf ed t .points ≡ rowsAt (λ i. pointFrom (partOf ed t i)) 0 (numAt t 0)
+  unfolding registerOf
+  points-read =
+      let z : 8 ≡ placeOf ed 0 = omega arith in
+      ap (λ a. pointsFrom ed (numAt t 0) (drop a t)) z ∙ points-from (numAt t 0) 0
 
 -- ---- what is read
 

@@ -1,36 +1,30 @@
 -- Who holds the points of a table, counted point by point. Assumes nothing.
-use mathlib.Core.Path.{_≡_, refl, sym, ap, _∙_}
+use mathlib.Core.Path.{_≡_, sym, ap, _∙_}
 use mathlib.Core.Bool.{cond}
-use mathlib.Core.List.{List, _∷_, map}
+use mathlib.Core.List.{List}
 use Prim.Native.Nat.{ℕ, zero, suc, _+_}
 use native.Mathlib.Omega.{arith}
 use native.Mathlib.Numerals.{add-one}
 use lib.Dec.{eqb}
-use lib.ListN.{drop}
 use lib.IntN.{ℤ}
 use Rattle.daybook.specs.declared.Edition.{Edition}
 use Rattle.daybook.specs.Notices.{operatorsIn, held}
-use Rattle.lists.specs.Lists.{operatorOf, pointOf, bookOf}
-use Rattle.layout.specs.Layout.{placeOf, partOf, numAt, pointFrom, pointsFrom, registerOf, tableBook}
-use Rattle.layout.proofs.Mirns.{next}
-use Rattle.point.proofs.Rows.{rowsAt}
+use Rattle.lists.specs.Lists.{operatorOf, bookOf}
+use Rattle.lists.specs.InnerSteps.{operatorsOf}
+use Rattle.lists.proofs.Operators.{operator, operators-are}
+use Rattle.layout.specs.Layout.{partOf, numAt, pointFrom, registerOf, tableBook}
+use Rattle.point.proofs.Rows.{rowsAt, map-rows, points-read}
 
 module _ (ed : Edition) (t : List ℤ) where
   -- The book's operator of point i.
   abbrev pub operatorAt : ℕ → ℕ
   operatorAt i = operatorOf (numAt (partOf ed t i) 11)
 
-  operators-from : (n i : ℕ) → operatorsIn (map pointOf (pointsFrom ed n (drop (placeOf ed i) t))) ≡ rowsAt operatorAt i n
-  unfolding pointsFrom pointFrom pointOf partOf rowsAt
-  operators-from zero i = refl
-  operators-from (suc n) i =
-      ap (λ l. operatorAt i ∷ l) (ap (λ l. operatorsIn (map pointOf (pointsFrom ed n l))) (next ed t i) ∙ operators-from n (suc i))
-
   pub operators-at : operatorsIn (tableBook ed t .points) ≡ rowsAt operatorAt 0 (numAt t 0)
-  unfolding tableBook bookOf registerOf
+  unfolding tableBook bookOf pointFrom
   operators-at =
-      let z : 8 ≡ placeOf ed 0 = omega arith in
-      ap (λ a. operatorsIn (map pointOf (pointsFrom ed (numAt t 0) (drop a t)))) z ∙ operators-from (numAt t 0) 0
+      operators-are (registerOf ed t .points) ∙ ap operatorsOf (points-read ed t)
+      ∙ map-rows operator (λ i. pointFrom (partOf ed t i)) 0 (numAt t 0)
 
 held-turn : (f : ℕ → ℕ) (o n k : ℕ) → held (rowsAt f k (suc n)) o ≡ held (rowsAt f k n) o + cond (eqb (f (k + n)) o) 1 0
 unfolding rowsAt held
