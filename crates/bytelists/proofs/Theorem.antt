@@ -17,7 +17,7 @@ use Rattle.layout.proofs.Editions.{edition-fits}
 use Rattle.buffers.specs.Buffers.{tableIn, withNumbers, replied, written}
 use Rattle.history.specs.Runs.{freshState}
 use Rattle.history.specs.Promise.{refusalIn, Reserved}
-use Rattle.history.proofs.Promise.{Fit, none-covered, Kept, covered-step, step-edition, bookRefusal, reserved-covered}
+use Rattle.history.proofs.Promise.{ReservesFit, none-covered, Covers, covered-step, step-edition, bookRefusal, reserved-covered}
 use Rattle.history.proofs.Theorem.{stands-agrees}
 use Rattle.bytelists.specs.ByteLists.{petlumas-open, hub-notice, LentCall, Reply, noticeIn, callIn, LentBytes, byteStep, byteRun, replies, bookStep, bookRun, bookReplies}
 use Rattle.bytelists.specs.Claim.{EveryHubList}
@@ -37,17 +37,17 @@ run-follows (h ∷ hs) L S r =
 -- ---- the reserves
 
 -- the points left cover the reserves, be a call's answer buffer too short or not
-covered-run : (hs : List LentCall) (S : State) → Fit (S .edition) → Kept (S .edition) (S .book) → Kept (bookRun hs S .edition) (bookRun hs S .book)
+covered-run : (hs : List LentCall) (S : State) → ReservesFit (S .edition) → Covers S → Covers (bookRun hs S)
 unfolding bookRun bookStep
 covered-run [] S fit k = k
 covered-run (h ∷ hs) S fit k =
-    let c : Call = callIn (h .call) (h .second) in
-    let a : Answer = step c S .0 in
-    go (leb (8 * length (a .0)) (length (h .answer))) (covered-run hs (step c S .1) (rw (step-edition c S) fit) (covered-step c S fit k)) (covered-run hs S fit k)
+    go (leb (8 * length (step c S .0 .0)) (length (h .answer)))
+    (covered-run hs (step c S .1) (rw (step-edition c S) fit) (covered-step c S fit k)) (covered-run hs S fit k)
   where
-    go : (b : Bool) → Kept (bookRun hs (step (callIn (h .call) (h .second)) S .1) .edition) (bookRun hs (step (callIn (h .call) (h .second)) S .1) .book)
-        → Kept (bookRun hs S .edition) (bookRun hs S .book)
-        → let S′ : State = cond b (step (callIn (h .call) (h .second)) S .1) S in Kept (bookRun hs S′ .edition) (bookRun hs S′ .book)
+    c : Call
+    c = callIn (h .call) (h .second)
+
+    go : (b : Bool) → Covers (bookRun hs (step c S .1)) → Covers (bookRun hs S) → Covers (bookRun hs (cond b (step c S .1) S))
     go true x y = x
     go false x y = y
 
@@ -78,6 +78,6 @@ pub every-hub-list : EveryHubList
 every-hub-list b₀ second answer n returned hs =
     let (held, same) = run-follows hs _ _ (fresh-holds b₀ second answer n returned) in
     let ed : Edition = editionOf (tableIn b₀) in
-    let fit : Fit ed = edition-fits (tableIn b₀) .reserved in
+    let fit : ReservesFit ed = edition-fits (tableIn b₀) .reserved in
     let covered = covered-run hs (freshState ed n) fit (none-covered ed fit) in
     (stands-agrees _ _ (held .standsFor), same, reserved-bytes _ _ held (reserved-covered _ covered))

@@ -188,8 +188,8 @@ by o m zero = []
 by o m (suc n) = OpenBy (pos o) m ∷ by o (suc m) n
 
 -- operator 2 opens twenty points, and its 21st would eat a reserve; a MIRN that is known is said first. Then the others
--- take their twelve, each 5th but the last one being refused, and the table is full. There is no operator 0, 5 or -1
--- (document 02, g).
+-- take their twelve; a fifth point would eat a reserve or, the last one, finds the table full. There is no operator 0, 5
+-- or -1 (document 02, g).
 reserves : List Call
 reserves =
     Fresh (negsuc 0) (negsuc 0) ∷ OpenBy (pos 0) 1 ∷ OpenBy (pos 5) 1 ∷ OpenBy (negsuc 0) 1

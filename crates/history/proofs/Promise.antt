@@ -1,7 +1,7 @@
 -- The points left cover the unfilled reserves of all four operators, after every list of calls. Assumes nothing.
 use mathlib.Core.Path.{_≡_, refl, sym, _∙_, ap, ap₂, subst}
 use mathlib.Core.Bool.{Bool, true, false, not, cond, and-false}
-use mathlib.Core.List.{List, [], _∷_, _++_, map, map-append}
+use mathlib.Core.List.{List, [], _∷_, _++_, map, map-map, map-append}
 use Prim.Native.Nat.{ℕ, zero, suc, _+_, _-_, _*_, _≤_, _<_}
 use native.Mathlib.Omega.{arith}
 use lib.Dec.{eqb}
@@ -18,6 +18,7 @@ use Rattle.daybook.specs.Book.{Point, Book}
 use Rattle.daybook.specs.Notices.{least, decide, find, factsOf, operatorsIn, held, unfilled, overFour, othersUnfilled, openingRows, opening}
 use Rattle.daybook.specs.Calls.{open!, Call, notice!, query!, Answer, noted, State, step, run}
 use Rattle.lists.proofs.Rows.{above, least-first}
+use Rattle.lists.proofs.Operators.{held-append}
 use Rattle.lists.proofs.Bounds.{within-bounds}
 use Rattle.lists.proofs.OpenStep.{OpenClear, open-clear}
 use Rattle.opening.specs.Opening.{openCall}
@@ -34,14 +35,6 @@ use Rattle.history.proofs.Facts.{factsIn, facts-after}
 pub record Covered (ed : Edition) (operators : List ℕ) : Type 0 where
   pub few : length operators ≤ ed .points
   pub covers : overFour (unfilled ed operators) ≤ ed .points - length operators
-
-held-append : (l m : List ℕ) (o : ℕ) → held (l ++ m) o ≡ held l o + held m o
-unfolding held
-held-append [] m o = omega arith
-held-append (x ∷ l) m o = add (cond (eqb x o) 1 0) _ _ _ (held-append l m o)
-  where
-    add : (a x y z : ℕ) → x ≡ y + z → a + x ≡ a + y + z
-    add a x y z e = omega arith
 
 -- over four, one of them apart
 apart : (f : ℕ → ℕ) (o : ℕ) → 1 ≤ o → o ≤ 4 → overFour f ≡ overFour (λ x. cond (eqb x o) 0 (f x)) + f o
@@ -98,21 +91,21 @@ module _ (ed : Edition) (l : List ℕ) (o : ℕ) where
 -- ---- after every list of calls
 
 -- Four reserves fit the points.
-abbrev pub Fit : Edition → Type 0
-Fit ed = 4 * ed .reserve ≤ ed .points
+abbrev pub ReservesFit : Edition → Type 0
+ReservesFit ed = 4 * ed .reserve ≤ ed .points
 
-pub none-covered : (ed : Edition) → Fit ed → Covered ed []
+pub none-covered : (ed : Edition) → ReservesFit ed → Covered ed []
 unfolding held
 none-covered ed fit = record { few = omega arith; covers = omega arith }
 
 operators-facts : (ps : List Point) → map (λ (f : Facts). f .operator) (map (λ (p : Point). p .facts) ps) ≡ operatorsIn ps
-operators-facts [] = refl
-operators-facts (p ∷ ps) = ap (λ l. p .facts .operator ∷ l) (operators-facts ps)
+operators-facts ps = map-map (λ (f : Facts). f .operator) (λ (p : Point). p .facts) ps
 
-abbrev pub Kept : Edition → Book → Type 0
-Kept ed B = Covered ed (operatorsIn (B .points))
+-- In a state the points left cover the reserves.
+abbrev pub Covers : State → Type 0
+Covers S = Covered (S .edition) (operatorsIn (S .book .points))
 
-pub covered-step : (c : Call) (S : State) → Fit (S .edition) → Kept (S .edition) (S .book) → Kept (step c S .1 .edition) (step c S .1 .book)
+pub covered-step : (c : Call) (S : State) → ReservesFit (S .edition) → Covers S → Covers (step c S .1)
 unfolding step factsOf
 covered-step (query! q) S fit k = k
 covered-step (notice! c) S fit k =
@@ -129,7 +122,7 @@ unfolding step
 step-edition (notice! c) S = refl
 step-edition (query! q) S = refl
 
-covered-run : (cs : List Call) (S : State) → Fit (S .edition) → Kept (S .edition) (S .book) → Kept (run cs S .edition) (run cs S .book)
+covered-run : (cs : List Call) (S : State) → ReservesFit (S .edition) → Covers S → Covers (run cs S)
 unfolding run
 covered-run [] S fit k = k
 covered-run (c ∷ cs) S fit k = covered-run cs (step c S .1) (rw (step-edition c S) fit) (covered-step c S fit k)
@@ -175,7 +168,7 @@ unfolding decide
 answered zero m B C e = ap natOf e
 answered (suc r) m B C e = ap natOf e
 
-pub reserved-covered : (S : State) → Kept (S .edition) (S .book) → Reserved S (bookRefusal S)
+pub reserved-covered : (S : State) → Covers S → Reserved S (bookRefusal S)
 unfolding opening
 reserved-covered S k =
     record {

@@ -21,7 +21,7 @@ use Rattle.daybook.specs.declared.Withdrawal.{Withdrawal}
 use Rattle.daybook.specs.declared.AccountQuery.{AccountQuery}
 use Rattle.daybook.specs.declared.AllocationQuery.{AllocationQuery}
 use Rattle.daybook.specs.Book.{Book, Point}
-use Rattle.daybook.specs.Notices.{Row, highestRefusal, least, Numbers, decide, find, onPoint, freshRows, fresh, operatorsIn, openingRows, opening, energyEarly, energyRows, energyRowsAt, energy, statusEarly, statusRows, status, requestEarly, requestRows, request, withdrawEarly, withdrawRows, withdraw}
+use Rattle.daybook.specs.Notices.{Row, highestRefusal, Numbers, decide, find, onPoint, freshRows, fresh, operatorsIn, openingRows, opening, energyEarly, energyRows, energyRowsAt, energy, statusEarly, statusRows, status, requestEarly, requestRows, request, withdrawEarly, withdrawRows, withdraw}
 use Rattle.daybook.specs.Queries.{accountRows, account, allocateRows, allocate}
 use Rattle.lists.proofs.Rows.{upTo, up-to-append, up-to-least}
 use Rattle.layout.specs.Layout.{tableLength, editionOf, tableBook}

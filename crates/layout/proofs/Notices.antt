@@ -14,7 +14,7 @@ use Rattle.daybook.specs.Calls.{Notice, noted}
 use Rattle.lists.specs.Lists.{Register, bookOf}
 use Rattle.lists.specs.InnerSteps.{noticeLists}
 use Rattle.lists.specs.InnerWell.{WellFormed}
-use Rattle.lists.proofs.Operators.{Kept}
+use Rattle.lists.proofs.Operators.{OperatorsKept}
 use Rattle.lists.proofs.Notices.{notice-step, notice-keeps, notice-kept, notice-sent-back}
 use Rattle.layout.specs.Layout.{tableLength, Fits, layout, registerOf, tableBook, withBook}
 use Rattle.layout.specs.Sound.{sound}
@@ -31,7 +31,7 @@ module _ (ed : Edition) (fits : Fits ed) where
     pub book : tableBook ed t ≡ B
 
   -- a book of well-formed lists, written over any table whose operators they keep, makes a sound one with that book
-  pub written-holds : {R : Register} → WellFormed ed R → (t : List ℤ) → Kept (registerOf ed t .points) (R .points)
+  pub written-holds : {R : Register} → WellFormed ed R → (t : List ℤ) → OperatorsKept (registerOf ed t .points) (R .points)
       → Holds (withBook ed t (bookOf R)) (bookOf R)
   written-holds {R} ok t kept =
       subst (λ u. Holds u (bookOf R)) (sym (written-is ed ok t kept))
@@ -41,7 +41,7 @@ module _ (ed : Edition) (fits : Fits ed) where
       })
 
   -- and one of a register's length stays that long
-  pub written-length : {R : Register} → WellFormed ed R → (t : List ℤ) → Kept (registerOf ed t .points) (R .points)
+  pub written-length : {R : Register} → WellFormed ed R → (t : List ℤ) → OperatorsKept (registerOf ed t .points) (R .points)
       → length t ≡ tableLength → length (withBook ed t (bookOf R)) ≡ tableLength
   written-length {R} ok t kept h =
       ap length (written-is ed ok t kept) ∙ length-append (layout ed R) (drop tableLength t)

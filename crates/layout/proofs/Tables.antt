@@ -8,7 +8,7 @@ use lib.IntN.{ℤ}
 use Rattle.daybook.specs.declared.Edition.{Edition}
 use Rattle.lists.specs.Lists.{Lists, Register, bookFacts, pointOf, bookOf, withFacts, asFound}
 use Rattle.lists.specs.InnerWell.{Well, Points, nopoint, point, WellFormed}
-use Rattle.lists.proofs.Operators.{namedLists, Kept}
+use Rattle.lists.proofs.Operators.{namedLists, OperatorsKept}
 use Rattle.lists.proofs.Records.{records-is}
 use Rattle.lists.proofs.Registrations.{registrations-is}
 use Rattle.lists.proofs.Spans.{point-spans}
@@ -62,7 +62,7 @@ unfolding bookRegister bookOf
 book-back {R = R} w = λ i. record { nondaily = R .nondaily; daily = R .daily; points = all-back (w .pointsOk) i }
 
 -- so a book is written as the layout of its lists, where these keep the operators of the table
-pub written-is : (ed : Edition) {R : Register} → WellFormed ed R → (t : List ℤ) → Kept (registerOf ed t .points) (R .points)
+pub written-is : (ed : Edition) {R : Register} → WellFormed ed R → (t : List ℤ) → OperatorsKept (registerOf ed t .points) (R .points)
     → withBook ed t (bookOf R) ≡ layout ed R ++ drop tableLength t
 unfolding withBook asFound
 written-is ed {R} w t kept =

@@ -11,7 +11,7 @@ use Rattle.daybook.specs.Calls.{Notice, fresh!, open!, energy!, status!, reques
 use Rattle.lists.specs.Lists.{Register, bookOf}
 use Rattle.lists.specs.InnerSteps.{withOffs, withPendingLists, enteredLists, enterLists, energyLists, statusLists, requestLists, withdrawLists, noticeLists}
 use Rattle.lists.specs.InnerWell.{WellFormed}
-use Rattle.lists.proofs.Operators.{Kept, on-lists-kept}
+use Rattle.lists.proofs.Operators.{OperatorsKept, on-lists-kept}
 use Rattle.lists.proofs.OpenStep.{fresh-step, fresh-keeps, fresh-kept, open-step, open-keeps, open-kept}
 use Rattle.lists.proofs.EnergyStep.{energy-step, energy-keeps}
 use Rattle.lists.proofs.StatusStep.{status-step, status-keeps}
@@ -37,7 +37,7 @@ notice-keeps (request! n holidays) ed ok = request-keeps n holidays ok
 notice-keeps (withdraw! n) ed ok = withdraw-keeps n ok
 
 -- It leaves the operators of the points that were there as they stood, 0 too (document 02, g).
-pub notice-kept : (c : Notice) (ed : Edition) (R : Register) → Kept (R .points) (noticeLists c ed R .1 .points)
+pub notice-kept : (c : Notice) (ed : Edition) (R : Register) → OperatorsKept (R .points) (noticeLists c ed R .1 .points)
 unfolding noticeLists energyLists enterLists enteredLists statusLists requestLists withdrawLists withOffs withPendingLists
 notice-kept (fresh! n) ed R = fresh-kept n R
 notice-kept (open! n) ed R = open-kept ed n R

@@ -25,7 +25,7 @@ use Rattle.lists.specs.InnerSteps.{findLists, freshLists, openedLists, o
 use Rattle.lists.specs.InnerWell.{Regs, noreg, reg, starts, nospan, norec, nopending, FactsOk, Well, Points, nopoint, point, WellFormed}
 use Rattle.lists.proofs.Rows.{least-none, decide-map, decide-map-where, decide-keeps}
 use Rattle.lists.proofs.Points.{find-is}
-use Rattle.lists.proofs.Operators.{operator, named, operators-are, Kept, kept-none, kept-same, kept-more}
+use Rattle.lists.proofs.Operators.{operator, named, operators-are, OperatorsKept, kept-none, kept-same, kept-more}
 use Rattle.lists.proofs.Bounds.{within-bounds, both-hold}
 
 -- ---- fresh
@@ -64,10 +64,10 @@ unfolding freshLists decide
 fresh-makes ed n R z = rw z (no-points ed n z)
 
 -- Of its points, none, no operator is changed.
-pub fresh-kept : (n : Ranges) (R : Register) → Kept (R .points) (freshLists n R .1 .points)
+pub fresh-kept : (n : Ranges) (R : Register) → OperatorsKept (R .points) (freshLists n R .1 .points)
 unfolding freshLists
 fresh-kept n R =
-    decide-keeps 0 R _ (λ (S : Register). Kept (R .points) (S .points)) _ (kept-same (R .points)) (λ z. kept-none (R .points))
+    decide-keeps 0 R _ (λ (S : Register). OperatorsKept (R .points) (S .points)) _ (kept-same (R .points)) (λ z. kept-none (R .points))
 
 -- ---- open
 
@@ -245,8 +245,8 @@ open-keeps ed n {R} ok = decide-keeps 0 R _ (WellFormed ed) _ ok (λ z. after (o
         }
 
 -- It leaves the operators of the points that were there as they stood.
-pub open-kept : (ed : Edition) (n : Opening) (R : Register) → Kept (R .points) (openingLists ed n R .1 .points)
+pub open-kept : (ed : Edition) (n : Opening) (R : Register) → OperatorsKept (R .points) (openingLists ed n R .1 .points)
 unfolding openingLists openedLists factsOf
 open-kept ed n R =
-    decide-keeps 0 R _ (λ (S : Register). Kept (R .points) (S .points)) _ (kept-same (R .points)) (λ z.
+    decide-keeps 0 R _ (λ (S : Register). OperatorsKept (R .points) (S .points)) _ (kept-same (R .points)) (λ z.
     kept-more (openedLists n) (open-clear ed n _ _ z .operatorLow) (R .points))

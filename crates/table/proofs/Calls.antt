@@ -18,7 +18,7 @@ use Rattle.lists.specs.Lists.{Lists, Register, bookOf}
 use Rattle.lists.specs.InnerSteps.{findLists, withLists, onLists}
 use Rattle.lists.specs.InnerWell.{WellFormed}
 use Rattle.lists.proofs.Rows.{decide-taken, decide-refused}
-use Rattle.lists.proofs.Operators.{Kept, on-lists-kept}
+use Rattle.lists.proofs.Operators.{OperatorsKept, on-lists-kept}
 use Rattle.layout.specs.Layout.{tableLength, partOf, pointNumbers, layout, pointFrom, registerOf, tableBook}
 use Rattle.layout.specs.InnerWrites.{withPart}
 use Rattle.layout.specs.Sound.{sound}
@@ -56,7 +56,7 @@ abbrev pub laidOver : Edition → List ℤ → Numbers × Register → Numbers �
 laidOver ed t w = (w .0, cond (refused (w .0)) t (layout ed (w .1) ++ drop tableLength t))
 
 module _ (ed : Edition) (t : List ℤ) where
-  pub leaves-is : (w : Numbers × Register) → WellFormed ed (w .1) → Kept (registerOf ed t .points) (w .1 .points)
+  pub leaves-is : (w : Numbers × Register) → WellFormed ed (w .1) → OperatorsKept (registerOf ed t .points) (w .1 .points)
       → answerAndTable ed t (w .0, bookOf (w .1)) ≡ laidOver ed t w
   leaves-is w ok kept = ap (λ u. (w .0, cond (refused (w .0)) t u)) (written-is ed ok t kept)
 
