@@ -1,6 +1,6 @@
 -- Document 01's numbers for each answer of the code, and lists of calls, from state to state.
 use mathlib.Core.Bool.{Bool, true, false}
-use mathlib.Core.List.{List, [], _∷_}
+use mathlib.Core.List.{List, [], _∷_, map}
 use Prim.Native.Nat.{ℕ}
 use lib.IntN.{ℤ, pos}
 use lib.ListN.{replicate}
@@ -10,6 +10,7 @@ use Rattle.daybook.specs.declared.EnergyNotice.{EnergyNotice}
 use Rattle.daybook.specs.declared.StatusNotice.{StatusNotice}
 use Rattle.daybook.specs.declared.TransferRequest.{TransferRequest}
 use Rattle.daybook.specs.declared.Withdrawal.{Withdrawal}
+use Rattle.daybook.specs.declared.Correction.{Correction}
 use Rattle.daybook.specs.declared.AccountQuery.{AccountQuery}
 use Rattle.daybook.specs.declared.AllocationQuery.{AllocationQuery}
 use Rattle.daybook.specs.declared.NoticeAnswer.{NoticeAnswer}
@@ -18,12 +19,14 @@ use Rattle.daybook.specs.declared.EnergyAnswer.{EnergyAnswer}
 use Rattle.daybook.specs.declared.EnergyAnswer.the-variants as Energy
 use Rattle.daybook.specs.declared.RequestAnswer.{RequestAnswer}
 use Rattle.daybook.specs.declared.RequestAnswer.the-variants as Request
+use Rattle.daybook.specs.declared.CorrectionAnswer.{CorrectionAnswer}
 use Rattle.daybook.specs.declared.AccountAnswer.{AccountAnswer}
 use Rattle.daybook.specs.declared.AccountAnswer.the-variants as Account
 use Rattle.daybook.specs.declared.AllocationAnswer.{AllocationAnswer}
 use Rattle.daybook.specs.declared.Edition.{Edition}
 use Rattle.daybook.specs.Book.{Book}
 use Rattle.daybook.specs.Notices.{Numbers, fresh, opening, energy, status, request, withdraw}
+use Rattle.daybook.specs.Corrections.{correct}
 use Rattle.daybook.specs.Queries.{account, allocate}
 
 -- ---- the numbers of an answer: the refusal first, then the fields, every one 0 on a refusal
@@ -39,6 +42,9 @@ energyNumbers (Energy.Refused r) = pos r ∷ replicate 4 (pos 0)
 abbrev pub requestNumbers : RequestAnswer → Numbers
 requestNumbers (Request.Entered first last) = pos 0 ∷ pos (first .0) ∷ pos (last .0) ∷ []
 requestNumbers (Request.Refused r) = pos r ∷ replicate 2 (pos 0)
+
+abbrev pub correctionNumbers : CorrectionAnswer → Numbers
+correctionNumbers a = pos (a .refusal) ∷ map pos (a .flags)
 
 abbrev pub accountNumbers : AccountAnswer → Numbers
 accountNumbers (Account.Given sum) = pos 0 ∷ sum ∷ []
@@ -76,6 +82,7 @@ pub data Notice : Type 0 where
   status! : StatusNotice → Notice
   request! : TransferRequest → List ℤ → Notice
   withdraw! : Withdrawal → Notice
+  correct! : Correction → Notice
 
 -- A call that only reads: its numbers, and the length of the answer table that an allocation lends.
 pub data Query : Type 0 where
@@ -98,6 +105,7 @@ noted (energy! n) ed B = energy ed n B
 noted (status! n) ed B = status n B
 noted (request! n holidays) ed B = request n holidays B
 noted (withdraw! n) ed B = withdraw n B
+noted (correct! n) ed B = correct n B
 
 -- What the book answers to a query.
 unfoldable pub given : Query → Book → Answer

@@ -9,6 +9,7 @@ use Rattle.daybook.specs.declared.EnergyNotice.{EnergyNotice}
 use Rattle.daybook.specs.declared.StatusNotice.{StatusNotice}
 use Rattle.daybook.specs.declared.TransferRequest.{TransferRequest}
 use Rattle.daybook.specs.declared.Withdrawal.{Withdrawal}
+use Rattle.daybook.specs.declared.Correction.{Correction}
 use Rattle.daybook.specs.declared.AccountQuery.{AccountQuery}
 use Rattle.daybook.specs.declared.AllocationQuery.{AllocationQuery}
 
@@ -51,6 +52,9 @@ requestOf xs = record { mirn = num xs 0; user = num xs 1; proposed = num xs 2; n
 
 abbrev pub withdrawalOf : List ℤ → Withdrawal
 withdrawalOf xs = record { mirn = num xs 0; user = num xs 1 }
+
+abbrev pub correctionOf : List ℤ → Correction
+correctionOf xs = record { mirn = num xs 0; user = num xs 1; day = num xs 2; notice = num xs 3 }
 
 abbrev pub accountQueryOf : List ℤ → AccountQuery
 accountQueryOf xs = record { user = num xs 0; from = num xs 1; to = num xs 2 }

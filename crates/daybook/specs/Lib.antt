@@ -2,6 +2,7 @@
 -- that document 01 marks as its own is marked *ours*.
 pub mod Book
 pub mod Notices
+pub mod Corrections
 pub mod Queries
 pub mod Calls
 pub mod Conversions

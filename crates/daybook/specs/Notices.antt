@@ -1,4 +1,4 @@
--- The six calls that change the book, each with its rows of "Notices sent back". Row 1 is the table's, not the book's.
+-- Six calls that change the book, each with its rows of "Notices sent back". Row 1 is the table's, not the book's.
 use mathlib.Core.Bool.{Bool, true, false, not, _&&_, _||_, cond}
 use mathlib.Core.Option.{Option, none, some}
 use mathlib.Core.List.{List, [], _∷_, _++_, map}
@@ -26,7 +26,7 @@ Row = ℕ × Bool
 
 -- The highest number of a row.
 abbrev pub highestRefusal : ℕ
-highestRefusal = 19
+highestRefusal = 21
 
 -- The lowest number of a row that applies; 0 if none does.
 abbrev pub smaller : ℕ → ℕ → ℕ
@@ -52,6 +52,9 @@ isMirn z = within (pos 1) (pos 9999999999) z
 
 abbrev pub isUser : ℤ → Bool
 isUser z = within (pos 1) (pos 16) z
+
+abbrev pub users : List ℕ
+users = 1 ∷ 2 ∷ 3 ∷ 4 ∷ 5 ∷ 6 ∷ 7 ∷ 8 ∷ 9 ∷ 10 ∷ 11 ∷ 12 ∷ 13 ∷ 14 ∷ 15 ∷ 16 ∷ []
 
 abbrev pub isFlag : ℤ → Bool
 isFlag z = within (pos 0) (pos 1) z

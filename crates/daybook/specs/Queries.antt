@@ -14,7 +14,7 @@ use Rattle.calendar.specs.Calendar.{within, isDay}
 use Rattle.daybook.specs.declared.AccountQuery.{AccountQuery}
 use Rattle.daybook.specs.declared.AllocationQuery.{AllocationQuery}
 use Rattle.daybook.specs.Book.{Point, Book, filled, dayShare}
-use Rattle.daybook.specs.Notices.{Row, least, Numbers, decide, isUser}
+use Rattle.daybook.specs.Notices.{Row, least, Numbers, decide, isUser, users}
 
 -- The sum of f over a list.
 unfoldable pub sumOf : {X : Type 0} → (X → ℤ) → List X → ℤ
@@ -106,9 +106,6 @@ unfoldable pub totalOf : ℕ → ℕ → List Point → List ℤ → ℤ
 totalOf g u [] xs = pos 0
 totalOf g u (p ∷ ps) [] = pos 0
 totalOf g u (p ∷ ps) (x ∷ xs) = cond (eqb (p .fro g) u) x (pos 0) +ℤ totalOf g u ps xs
-
-abbrev pub users : List ℕ
-users = 1 ∷ 2 ∷ 3 ∷ 4 ∷ 5 ∷ 6 ∷ 7 ∷ 8 ∷ 9 ∷ 10 ∷ 11 ∷ 12 ∷ 13 ∷ 14 ∷ 15 ∷ 16 ∷ []
 
 -- How many shares an allocation gives the answer table.
 abbrev pub shareCount : ℕ

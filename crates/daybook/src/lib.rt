@@ -1,5 +1,5 @@
 // The numbers of each call, in document 01's order, and its answer. Numbers come in by value, as any i64; an answer is
-// an enum, so that a refusal carries no field. Allocate's answer holds an array and so is a struct.
+// an enum, so that a refusal carries no field. Those of allocate and correct hold an array and so are structs.
 // And the tests of these numbers (that of a day is calendar's), and each answer as document 01's numbers.
 use calendar::DateAnswer;
 use calendar::Day;
@@ -7,7 +7,7 @@ ghost use mathlib.Core.Path.{_≡_};
 ghost use Rattle.words.specs.Words.{bitsOf};
 ghost use Rattle.calendar.specs.Calendar.{dateNumbers};
 ghost use Rattle.daybook.specs.Notices.{isMirn, isUser, isFlag, isRange};
-ghost use Rattle.daybook.specs.Calls.{noticeNumbers, energyNumbers, requestNumbers, accountNumbers, allocationNumbers};
+ghost use Rattle.daybook.specs.Calls.{noticeNumbers, energyNumbers, requestNumbers, correctionNumbers, accountNumbers, allocationNumbers};
 
 // Beside the book stands the edition of the table: how many points it holds, how many records of each, and how many
 // points it reserves for each operator (document 02, g).
@@ -72,6 +72,14 @@ pub struct Withdrawal {
     pub user: i64,
 }
 
+// The correction of a transfer error: the User is FRO from the day on (document 02, j).
+pub struct Correction {
+    pub mirn: i64,
+    pub user: i64,
+    pub day: i64,
+    pub notice: i64,
+}
+
 pub struct AccountQuery {
     pub user: i64,
     pub from: i64,
@@ -107,6 +115,12 @@ pub enum EnergyAnswer {
 pub enum RequestAnswer {
     Entered { first: Day, last: Day },
     Refused(u64),
+}
+
+// With a refusal of 0 the flags of the sixteen Users, 1 for one who is affected; else zeros.
+pub struct CorrectionAnswer {
+    pub refusal: u64,
+    pub flags: [u64; 16],
 }
 
 pub enum AccountAnswer {
@@ -177,6 +191,20 @@ pub fn request_numbers(a: RequestAnswer) -> [u64; 3]
         RequestAnswer::Entered { first, last } => [0, first.0, last.0],
         RequestAnswer::Refused(r) => [r, 0, 0],
     }
+}
+
+pub fn correction_numbers(a: CorrectionAnswer) -> [u64; 17]
+    ensures { λ r. ⌜ r ≡ bitsOf (correctionNumbers a) ⌝ }
+{
+    let flags = a.flags;
+    let mut numbers = [0u64; 17];
+    numbers[0] = a.refusal;
+    let mut k = 0;
+    while k < 16 {
+        numbers[1 + k] = flags[k];
+        k += 1;
+    }
+    numbers
 }
 
 pub fn date_numbers(a: DateAnswer) -> [u64; 2]

@@ -162,7 +162,7 @@ settled-keeps {install} {regs} {o} ok append section x h = go o (ok .pendingOk)
         let i : install ≤ latestOf regs .0 = latest-after (ok .regsOk) (ok .regsStart) in
         record {
           regsOk = regs-from (ok .regsOk) (suc (x .end)) u (omega arith) (omega arith) a b;
-          regsStart = starts-from (ok .regsStart) (suc (x .end)) u (omega arith);
+          regsStart = starts-from (ok .regsStart) (suc (x .end)) u (omega arith) a;
           regsFew = omega (arith, user-from-length (ok .regsOk) (suc (x .end)) u g c);
           pendingOk = nopending;
         }

@@ -19,4 +19,6 @@ pub mod OpenStep
 pub mod EnergyStep
 pub mod StatusStep
 pub mod TransferStep
+pub mod FroChanges
+pub mod CorrectStep
 pub mod Notices

@@ -7,13 +7,14 @@ use mathlib.Core.List.{List, [], _∷_, _++_}
 use Prim.Native.Nat.{ℕ, zero, suc, _≤_, _<_}
 use native.Mathlib.Omega.{arith}
 use lib.Dec.{leb, ltb, eqb}
-use lib.ListN.{length, length-append}
+use lib.ListN.{length, getD, length-append}
 use borrow.Author.Tests.{leb-true, leb-false, ltb-true, ltb-false, eqb-true, eqb-false, le-leb, lt-leb, lt-ltb, eq-eqb, ne-eqb}
 use Rattle.numbers.specs.Search.{maybe}
 use Rattle.daybook.specs.Book.{days, fromOn, lastOf, gather, dayBefore, begins, registrationAt, registrations, latest}
 use Rattle.lists.specs.Lists.{Lists, userOn, pointOf}
 use Rattle.lists.specs.InnerSteps.{latestOf, earlier, userFrom}
 use Rattle.lists.specs.InnerWell.{Regs, noreg, reg, StartsOn, starts, Well}
+use Rattle.lists.proofs.Last.{last-at}
 use Rattle.lists.proofs.Scan.{at, Asc, nil, cons, asc-widen, at-none, scan}
 
 abbrev start : ℕ × ℕ → ℕ
@@ -214,20 +215,25 @@ regs-from {lo} {l} r d u h k i j = go (eqb (lastFrom (0, 0) (earlier start d l) 
     go true e = earlier-regs r d
     go false e = earlier-snoc r 0 d u h k i j e
 
--- A first registration before day d stays the first.
-pub starts-from : {install : ℕ} {l : List (ℕ × ℕ)} → StartsOn install l → (d u : ℕ) → install < d → StartsOn install (userFrom d u l)
-unfolding userFrom earlier
-starts-from {install} (starts {x = x} {l = l} s) d u h =
-    rw (lt-ltb (x .0) d (omega (arith, s))) (go (eqb (latestOf (x ∷ earlier start d l) .1) u))
+-- The first registration stays the first, or the User's takes its place on the install day.
+pub starts-from : {install : ℕ} {l : List (ℕ × ℕ)} → StartsOn install l → (d u : ℕ) → install ≤ d → 1 ≤ u → StartsOn install (userFrom d u l)
+unfolding userFrom earlier latestOf lastOf
+starts-from {install} (starts {x = x} {l = l} s) d u h k = by (ltb (x .0) d) refl
   where
-    go : (t : Bool) → StartsOn install (cond t (x ∷ earlier start d l) (x ∷ earlier start d l ++ ((d, u) ∷ [])))
-    go true = starts s
-    go false = starts s
+    kept : (t : Bool) → StartsOn install (cond t (x ∷ earlier start d l) (x ∷ earlier start d l ++ ((d, u) ∷ [])))
+    kept true = starts s
+    kept false = starts s
+
+    by : (b : Bool) → ltb (x .0) d ≡ b
+        → StartsOn install (let before : List (ℕ × ℕ) = cond b (x ∷ earlier start d l) [] in
+        cond (eqb (latestOf before .1) u) before (before ++ ((d, u) ∷ [])))
+    by true e = kept (eqb (latestOf (x ∷ earlier start d l) .1) u)
+    by false e = rw (ne-eqb 0 u (λ (z : 0 ≡ u). omega arith)) (starts {x = (d, u)} (omega (arith, s, ltb-false (x .0) d e)))
 
 -- ---- a registration after the latest
 
 -- Starts ascend, so the last is at or after each.
-last-after : {v : ℕ} {l : List (ℕ × ℕ)} (x : ℕ × ℕ) → Regs v (suc (x .0)) l → x .0 ≤ lastFrom x l .0
+pub last-after : {v : ℕ} {l : List (ℕ × ℕ)} (x : ℕ × ℕ) → Regs v (suc (x .0)) l → x .0 ≤ lastFrom x l .0
 unfolding lastOf
 last-after x noreg = omega arith
 last-after x (reg {x = y} {l = l} a b c e n r) = let h : y .0 ≤ lastFrom y l .0 = last-after y r in omega arith
@@ -267,10 +273,25 @@ pub user-from-length : {lo : ℕ} {l : List (ℕ × ℕ)} → Regs 0 lo l → (d
     → length (userFrom d u l) ≡ suc (length l)
 user-from-length {l = l} r d u h e = rw (user-from-append r d u h e, length-append l ((d, u) ∷ [])) (omega arith)
 
+-- The latest, by its index.
+pub latest-at : (l : List (ℕ × ℕ)) (k : ℕ) → length l ≡ suc k → latestOf l ≡ getD l k (0, 0)
+unfolding latestOf
+latest-at l k e = ap (maybe (0, 0) (λ x. x)) (last-at (0, 0) l k e)
+
 -- The row at the end is the latest.
 pub latest-append : (l : List (ℕ × ℕ)) (x : ℕ × ℕ) → latestOf (l ++ (x ∷ [])) ≡ x
 unfolding latestOf
 latest-append l x = last-snoc (0, 0) l x
+
+-- The latest User after it is the User.
+pub latest-from : (d u : ℕ) (l : List (ℕ × ℕ)) → latestOf (userFrom d u l) .1 ≡ u
+unfolding userFrom
+latest-from d u l = go (eqb (latestOf (earlier start d l) .1) u) refl
+  where
+    go : (t : Bool) → eqb (latestOf (earlier start d l) .1) u ≡ t
+        → latestOf (cond t (earlier start d l) (earlier start d l ++ ((d, u) ∷ []))) .1 ≡ u
+    go true e = eqb-true (latestOf (earlier start d l) .1) u e
+    go false e = ap (λ (x : ℕ × ℕ). x .1) (latest-append (earlier start d l) (d, u))
 
 -- A first registration is one.
 pub some-reg : {install : ℕ} {l : List (ℕ × ℕ)} → StartsOn install l → 1 ≤ length l

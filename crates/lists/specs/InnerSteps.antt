@@ -16,11 +16,13 @@ use Rattle.daybook.specs.declared.EnergyNotice.{EnergyNotice}
 use Rattle.daybook.specs.declared.StatusNotice.{StatusNotice}
 use Rattle.daybook.specs.declared.TransferRequest.{TransferRequest}
 use Rattle.daybook.specs.declared.Withdrawal.{Withdrawal}
+use Rattle.daybook.specs.declared.Correction.{Correction}
 use Rattle.daybook.specs.declared.Edition.{Edition}
 use Rattle.daybook.specs.Book.{Entry, Pending, lastOf}
 use Rattle.daybook.specs.Notices.{Row, least, Numbers, decide, freshRows, factsOf, openingRows, Which, append, replacement, recut, whichNumber, whichOf, entryOf, energyEarly, energyRows, beyond, removed, Outcome, registers, lapses, stays, outcomeOf, outcomeNumbers, statusEarly, statusRows, requestEarly, requestRows, periodNumbers, pendingOf, withdrawEarly, withdrawRows}
-use Rattle.daybook.specs.Calls.{Notice, fresh!, open!, energy!, status!, request!, withdraw! }
-use Rattle.lists.specs.Lists.{Lists, Register, operatorOf}
+use Rattle.daybook.specs.Corrections.{othersRequest, correctEarly, correctRowsAt, correctAt}
+use Rattle.daybook.specs.Calls.{Notice, fresh!, open!, energy!, status!, request!, withdraw!, correct! }
+use Rattle.lists.specs.Lists.{Lists, Register, operatorOf, pointOf, nextAfter}
 
 -- ---- what is read off the lists
 
@@ -53,6 +55,11 @@ overlaps a b x = leb (x .0) b && maybe true (ltb a) (x .1)
 unfoldable pub someOverlap : ℕ → ℕ → List (ℕ × Option ℕ) → Bool
 someOverlap a b [] = false
 someOverlap a b (x ∷ l) = overlaps a b x || someOverlap a b l
+
+-- Does the test hold of the User of some day from d on? A registration has such a day if the next starts after d.
+unfoldable pub someUser : (ℕ → Bool) → ℕ → List (ℕ × ℕ) → Bool
+someUser test d [] = false
+someUser test d (x ∷ l) = (nextAfter d l && test (x .1)) || someUser test d l
 
 -- ---- lists that change
 
@@ -101,6 +108,9 @@ offsAfter day on l = cond (eqb on 0) (l ++ ((day, none) ∷ [])) (closed day l)
 unfoldable pub withOffs : List (ℕ × Option ℕ) → Lists → Lists
 withOffs l q = record { facts = q .facts; regs = q .regs; offs = l; recs = q .recs; pending = q .pending }
 
+unfoldable pub withRegs : List (ℕ × ℕ) → Lists → Lists
+withRegs l q = record { facts = q .facts; regs = l; offs = q .offs; recs = q .recs; pending = q .pending }
+
 unfoldable pub withPendingLists : Option Pending → Lists → Lists
 withPendingLists o q = record { facts = q .facts; regs = q .regs; offs = q .offs; recs = q .recs; pending = o }
 
@@ -124,7 +134,7 @@ onLists k m early rows effect R =
     let after : Numbers × Register = maybe ([], R) (λ q. (effect q .0, withLists (natOf m) (effect q .1) R)) found in
     decide (least (early ++ maybe ((4, true) ∷ []) rows found)) k R after
 
--- ---- the six notices
+-- ---- the notices
 
 unfoldable pub freshLists : Ranges → Register → Numbers × Register
 freshLists n R =
@@ -188,6 +198,20 @@ withdrawLists n R =
     onLists 0 (n .mirn) (withdrawEarly n) (λ q. withdrawRows (natOf (n .user)) (q .pending))
     (λ q. ([], withPendingLists none q)) R
 
+-- The rows and the flags are those of the days.
+unfoldable pub correctedLists : ℕ → ℕ → Lists → Lists
+correctedLists user day q =
+    withRegs (userFrom day user (q .regs)) (withPendingLists (othersRequest user (q .pending)) q)
+
+unfoldable pub correctListsAt : ℕ → ℕ → Lists → Numbers × Lists
+correctListsAt user day q = (correctAt user day (pointOf q) .0, correctedLists user day q)
+
+unfoldable pub correctLists : Correction → Register → Numbers × Register
+correctLists n R =
+    onLists 16 (n .mirn) (correctEarly n)
+    (λ q. correctRowsAt (natOf (n .user)) (natOf (n .day)) (natOf (n .notice)) (pointOf q))
+    (correctListsAt (natOf (n .user)) (natOf (n .day))) R
+
 -- Each notice on the lists.
 unfoldable pub noticeLists : Notice → Edition → Register → Numbers × Register
 noticeLists (fresh! n) ed R = freshLists n R
@@ -196,3 +220,4 @@ noticeLists (energy! n) ed R = energyLists ed n R
 noticeLists (status! n) ed R = statusLists n R
 noticeLists (request! n holidays) ed R = requestLists n holidays R
 noticeLists (withdraw! n) ed R = withdrawLists n R
+noticeLists (correct! n) ed R = correctLists n R
