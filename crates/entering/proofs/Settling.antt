@@ -7,35 +7,27 @@ use Prim.Native.Nat.{ℕ, suc, _+_, _-_, _*_, _≤_, _<_}
 use native.Mathlib.Omega.{arith}
 use native.Mathlib.Numerals.{add-one}
 use lib.Dec.{leb, ltb, eqb}
-use lib.ListN.{length, getD}
+use lib.ListN.{length}
 use lib.IntN.{ℤ}
 use borrow.Author.Tests.{ne-eqb, ltb-true, leb-true, leb-false, le-ltb, lt-ltb}
-use Rattle.numbers.specs.Search.{maybe}
 use Rattle.numbers.proofs.Bools.{both}
 use Rattle.daybook.specs.Book.{Entry, Pending}
 use Rattle.daybook.specs.Notices.{append, Outcome, registers, lapses, stays, typeRegisters, appendRegisters, outcomeOf, outcomeNumbers}
 use Rattle.lists.specs.Lists.{Lists}
-use Rattle.lists.specs.InnerSteps.{latestOf, userFrom, withPendingLists}
+use Rattle.lists.specs.InnerSteps.{latestOf, userFrom, withRegs, withPendingLists}
 use Rattle.lists.specs.InnerWell.{PendingOk, nopending, pending}
-use Rattle.lists.proofs.Last.{last-at}
-use Rattle.lists.proofs.Registrations.{user-from-append}
+use Rattle.lists.proofs.Registrations.{user-from-append, latest-at}
 use Rattle.layout.specs.Places.{regCount, pendingUser, pendingFirst, pendingLast, sectionPlace, regPlace}
 use Rattle.layout.specs.Layout.{pendingOrZeros, numAt, pointNumbers, pointFrom}
 use Rattle.layout.specs.InnerWrites.{appendRegistration, clearPending}
 use Rattle.layout.specs.InnerParts.{roomOf, SoundPart}
 use Rattle.layout.proofs.Numbers.{Few, few}
-use Rattle.layout.proofs.Cells.{noReg, cell-reg-start, place-regs, place-user, place-first, place-last, place-section}
-use Rattle.layout.proofs.PartBlocks.{withRegs, few-regs, snoc-length}
+use Rattle.layout.proofs.Cells.{cell-reg-start, place-regs, place-user, place-first, place-last, place-section}
+use Rattle.layout.proofs.PartBlocks.{few-regs, snoc-length}
 use Rattle.layout.proofs.RowWrites.{append-registration, clear-pending}
 use Rattle.layout.proofs.SoundParts.{part-well, part-laid}
 use Rattle.entering.specs.declared.RaisedNotice.{RaisedNotice}
 use Rattle.entering.specs.InnerEntering.{entryFrom, outcomeAt, settledLists, SettledTo}
-
--- ---- the latest registration, by its index
-
-latest-at : (l : List (ℕ × ℕ)) (k : ℕ) → length l ≡ suc k → latestOf l ≡ getD l k noReg
-unfolding latestOf
-latest-at l k e = ap (maybe (0, 0) (λ x. x)) (last-at noReg l k e)
 
 -- ---- what the code tests
 

@@ -8,13 +8,10 @@ use lib.ListN.{length, length-append}
 use lib.IntN.{ℤ, pos}
 use Rattle.daybook.specs.Book.{Entry, Pending}
 use Rattle.lists.specs.Lists.{Lists}
-use Rattle.lists.specs.InnerSteps.{withOffs, withPendingLists}
+use Rattle.lists.specs.InnerSteps.{withRegs, withOffs, withPendingLists}
 use Rattle.layout.specs.Layout.{pad, regNumbers, onNumber, offNumbers, recNumbers}
 use Rattle.layout.specs.Sound.{withRecs}
 use Rattle.layout.proofs.Numbers.{length-pad, length-regNumbers, length-offNumbers, length-recNumbers, Few}
-
-unfoldable pub withRegs : List (ℕ × ℕ) → Lists → Lists
-withRegs l q = record { facts = q .facts; regs = l; offs = q .offs; recs = q .recs; pending = q .pending }
 
 -- ---- changed lists that still fit
 

@@ -11,13 +11,13 @@ use lib.Seq.{sets, append-snoc}
 use lib.IntN.{ℤ, pos, negsuc}
 use Rattle.daybook.specs.Book.{Entry, Pending}
 use Rattle.lists.specs.Lists.{Lists}
-use Rattle.lists.specs.InnerSteps.{withOffs, withPendingLists}
+use Rattle.lists.specs.InnerSteps.{withRegs, withOffs, withPendingLists}
 use Rattle.layout.specs.Layout.{pad, regNumbers, onNumber, offNumbers, recNumbers, headNumbers, pointNumbers}
 use Rattle.layout.specs.Sound.{withRecs}
-use Rattle.layout.specs.InnerWrites.{cleared, putRecord, appendRecord, cutRecords, appendRegistration, openSpan, closeSpan, setPending, clearPending}
+use Rattle.layout.specs.InnerWrites.{cleared, putRecord, appendRecord, cutRecords, appendRegistration, cutRegistrations, openSpan, closeSpan, setPending, clearPending}
 use Rattle.layout.proofs.Numbers.{length-regNumbers, length-offNumbers, length-recNumbers, Few}
 use Rattle.layout.proofs.Blocks.{block-append, block-replace, block-cut}
-use Rattle.layout.proofs.PartBlocks.{withRegs, recordRow, recs-append, regs-append, offs-append, snoc-length, regsBlock, offsBlock, recsBlock, before-offs, before-recs, cut-recs}
+use Rattle.layout.proofs.PartBlocks.{recordRow, recs-append, regs-append, offs-append, snoc-length, regsBlock, offsBlock, recsBlock, before-offs, before-recs, cut-recs}
 
 -- ---- the code counts places up, `sets` by successors
 
@@ -107,6 +107,20 @@ module _ (room : ℕ) (q : Lists) (f : Few room q) where
       ∙ ap (λ t. headNumbers q ++ (pad 16 t ++ rest)) (sym (regs-append (q .regs) ((d, u) ∷ []))))
       (sym (snoc-length (q .regs) (d, u)))
     where
+      rest : List ℤ
+      rest = offsBlock room q f ++ recsBlock room q f
+
+  pub cut-registrations : (a b : List (ℕ × ℕ)) → q .regs ≡ a ++ b
+      → cutRegistrations (pointNumbers room q) (length a) (length (q .regs)) ≡ pointNumbers room (withRegs a q)
+  unfolding pointNumbers headNumbers withRegs cutRegistrations
+  cut-registrations a b e =
+      ap (λ t. set t 4 (pos (length a)))
+      (ap (λ l. cleared (headNumbers q ++ (pad 16 l ++ rest)) (16 + 2 * length a) (2 * (length (q .regs) - length a))) (ap regNumbers e ∙ regs-append a b)
+      ∙ block-cut (headNumbers q) rest 16 (16 + 2 * length a) (regNumbers a) (regNumbers b) (2 * (length (q .regs) - length a)) (omega (arith, length-regNumbers a, length-regNumbers b, f .regs, count)) (omega (arith, length-regNumbers a)) (omega (arith, length-regNumbers b, count)))
+    where
+      count : length (q .regs) ≡ length a + length b
+      count = ap length e ∙ length-append a b
+
       rest : List ℤ
       rest = offsBlock room q f ++ recsBlock room q f
 

@@ -6,7 +6,7 @@ use lib.ListN.{set, take, drop}
 use Rattle.daybook.specs.declared.Edition.{Edition}
 use Rattle.daybook.specs.declared.Facts.{Facts}
 use Rattle.daybook.specs.Book.{Entry}
-use Rattle.layout.specs.Places.{pointsPlace, mirnPlace, kindPlace, installPlace, basePlace, regCount, offCount, recCount, pendingUser, pendingFirst, pendingLast, sectionPlace, operatorPlace, recLength, regPlace, offPlace, recPlace}
+use Rattle.layout.specs.Places.{pointsPlace, mirnPlace, kindPlace, installPlace, basePlace, regCount, offCount, recCount, pendingUser, pendingFirst, pendingLast, sectionPlace, operatorPlace, regLength, recLength, regPlace, offPlace, recPlace}
 use Rattle.layout.specs.Layout.{stride, placeOf, partOf}
 
 -- The table with p for the numbers of point i.
@@ -35,6 +35,10 @@ cutRecords p j n = set (cleared p (recPlace j) (recLength * (n - j))) recCount (
 -- Registration n, of User u from day d on, and n + 1 registrations.
 unfoldable pub appendRegistration : List ℤ → ℕ → ℕ → ℕ → List ℤ
 appendRegistration p n d u = set (set (set p (regPlace n) (pos d)) (regPlace n + 1) (pos u)) regCount (pos (n + 1))
+
+-- The registrations j to n - 1 are 0, and j registrations are left.
+unfoldable pub cutRegistrations : List ℤ → ℕ → ℕ → List ℤ
+cutRegistrations p j n = set (cleared p (regPlace j) (regLength * (n - j))) regCount (pos j)
 
 -- Off span n from day d on, still off, and n + 1 spans.
 unfoldable pub openSpan : List ℤ → ℕ → ℕ → List ℤ

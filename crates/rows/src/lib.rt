@@ -8,7 +8,7 @@ ghost use lib.ListN.{length, set};
 ghost use Rattle.numbers.specs.InnerEnergies.{energyOf};
 ghost use Rattle.lists.specs.InnerWell.{FactsOk};
 ghost use Rattle.layout.specs.Places.{recsPlace, recPlace};
-ghost use Rattle.layout.specs.InnerWrites.{cleared, putRecord, appendRecord, cutRecords, appendRegistration, openSpan, closeSpan, setPending, clearPending, openPoint};
+ghost use Rattle.layout.specs.InnerWrites.{cleared, putRecord, appendRecord, cutRecords, appendRegistration, cutRegistrations, openSpan, closeSpan, setPending, clearPending, openPoint};
 ghost use Rattle.rows.specs.InnerRows.{recordOf};
 
 // An energy, raised by 1,000,000.
@@ -88,6 +88,19 @@ pub fn append_registration(p: &mut [i64], n: usize, day: u64, user: u64)
 {
     put_pair(p, places::REGS + places::REG_LENGTH * n, day, user);
     numbers::put(p, places::REG_COUNT, n as u64 + 1);
+}
+
+// Of n registrations the first j are left.
+pub fn cut_registrations(p: &mut [i64], j: usize, n: usize)
+    requires { ⌜ (j ≤ n) × (n ≤ 8) × (recsPlace ≤ length (now p)) ⌝ }
+    ensures { λ _. ⌜ now (p .exit) ≡ cutRegistrations (now (p .entry)) j n ⌝ }
+{
+    clear(
+        p,
+        places::REGS + places::REG_LENGTH * j,
+        places::REG_LENGTH * (n - j),
+    );
+    numbers::put(p, places::REG_COUNT, j as u64);
 }
 
 // One more off span, after n; its on day is -1 until it has one.
