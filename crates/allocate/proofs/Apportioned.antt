@@ -16,7 +16,8 @@ use Rattle.calendar.proofs.Dates.{days-order}
 use Rattle.daybook.specs.declared.AllocationQuery.{AllocationQuery}
 use Rattle.daybook.specs.declared.Edition.{Edition}
 use Rattle.daybook.specs.Book.{Point, Book}
-use Rattle.daybook.specs.Queries.{allocationInRange, atLeast0, tdmOf, nslOf, weight, weights, total, split, pointShares, totalOf, users}
+use Rattle.daybook.specs.Notices.{users}
+use Rattle.daybook.specs.Queries.{allocationInRange, atLeast0, tdmOf, nslOf, weight, weights, total, split, pointShares, totalOf}
 use Rattle.lists.proofs.Bounds.{within-bounds}
 use Rattle.lists.proofs.Splits.{split-length}
 use Rattle.layout.specs.Layout.{numAt, tableBook}

@@ -1,18 +1,12 @@
 -- The Users' totals, turn by turn. Assumes nothing.
-use mathlib.Core.Path.{_≡_, refl, sym, _∙_, ap}
-use mathlib.Core.Bool.{true, cond}
-use mathlib.Core.List.{List, _++_, map, append-assoc, map-append}
-use Prim.Native.Nat.{ℕ, suc, _+_, _<_}
-use native.Mathlib.Omega.{arith}
+use mathlib.Core.Path.{_≡_, refl}
+use mathlib.Core.Bool.{cond}
+use mathlib.Core.List.{List}
+use Prim.Native.Nat.{ℕ, _+_}
 use native.Mathlib.Numerals.{add-one}
 use lib.Dec.{eqb}
-use lib.ListN.{length, getD, take, drop, set, length-map}
-use lib.Seq.{take-suc, drop-cons, set-at, length-take-le}
-use lib.IntN.{ℤ, pos}
-use borrow.Author.Tests.{eqb-true}
-use Rattle.numbers.specs.Rows.{all}
-use Rattle.numbers.proofs.Rows.{all-at}
-use Rattle.daybook.specs.Queries.{users}
+use lib.ListN.{getD}
+use lib.IntN.{ℤ}
 use Rattle.layout.specs.Layout.{numAt}
 use Rattle.allocate.specs.InnerParts.{totalTo}
 
@@ -23,23 +17,3 @@ total-none us xs u = refl
 pub total-step : (us : List ℕ) (xs : List ℤ) (u k : ℕ) → totalTo us xs u (k + 1) ≡ totalTo us xs u k + cond (eqb (getD us k 0) u) (numAt xs k) 0
 unfolding totalTo
 total-step us xs u k = rw (add-one k) refl
-
--- ---- the array of sixteen
-
--- User k + 1 stands at k: one test of all sixteen
-sixteen : all (λ k. eqb (getD users k 0) (k + 1)) 16 ≡ true
-unfolding all
-sixteen = refl
-
-user-at : (k : ℕ) → k < 16 → getD users k 0 ≡ k + 1
-user-at k h = eqb-true (getD users k 0) (k + 1) (all-at (λ k. eqb (getD users k 0) (k + 1)) 16 sixteen k h)
-
-one-more : (h : ℕ → ℤ) (us : List ℕ) (zs l : List ℤ) (k : ℕ) → k < length us → k < length zs → l ≡ map h (take k us) ++ drop k zs
-    → set l k (h (getD us k 0)) ≡ map h (take (k + 1) us) ++ drop (k + 1) zs
-one-more h us zs l k u z e =
-    rw (e, drop-cons zs k (pos 0) z, add-one k, take-suc us k 0 u, map-append, append-assoc)
-    (set-at (map h (take k us)) (getD zs k (pos 0)) (drop (suc k) zs) (h (getD us k 0)) k (length-map (take k us) h ∙ length-take-le k us (omega arith)))
-
-pub row-step : (h : ℕ → ℤ) (zs l : List ℤ) (k : ℕ) → k < 16 → length zs ≡ 16 → l ≡ map h (take k users) ++ drop k zs
-    → set l k (h (k + 1)) ≡ map h (take (k + 1) users) ++ drop (k + 1) zs
-row-step h zs l k b n e = ap (λ u. set l k (h u)) (sym (user-at k b)) ∙ one-more h users zs l k (omega arith) (omega arith) e

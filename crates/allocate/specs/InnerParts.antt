@@ -10,8 +10,8 @@ use Rattle.numbers.specs.Naturals.{natOf}
 use Rattle.daybook.specs.declared.AllocationQuery.{AllocationQuery}
 use Rattle.daybook.specs.declared.Edition.{Edition}
 use Rattle.daybook.specs.Book.{Point, Book}
-use Rattle.daybook.specs.Notices.{Numbers}
-use Rattle.daybook.specs.Queries.{shareCount, allocationInRange, nslOf, weights, total, pointShares, totalOf, users}
+use Rattle.daybook.specs.Notices.{Numbers, users}
+use Rattle.daybook.specs.Queries.{shareCount, allocationInRange, nslOf, weights, total, pointShares, totalOf}
 use Rattle.layout.specs.Layout.{Fits, numAt, tableBook}
 use Rattle.layout.specs.Sound.{sound}
 

@@ -9,7 +9,8 @@ use mir.Syntax.{w64}
 use borrow.Author.Needs.{needs, sfits-of}
 use Rattle.numbers.specs.Naturals.{natOf}
 use Rattle.numbers.proofs.Naturals.{natural-read}
-use Rattle.daybook.specs.Queries.{atLeast0, tdmOf, nslOf, split, users}
+use Rattle.daybook.specs.Notices.{users}
+use Rattle.daybook.specs.Queries.{atLeast0, tdmOf, nslOf, split}
 use Rattle.layout.specs.Layout.{tableBook}
 use Rattle.table.proofs.Laws.{sound-long}
 use Rattle.allocate.specs.Allocate.{placed}

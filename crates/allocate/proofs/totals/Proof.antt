@@ -7,9 +7,9 @@ use mir.Syntax.{w64}
 use borrow.Author.Needs.{sfits-of}
 use lib.ListN.{take, drop, set, replicate}
 use lib.IntN.{pos}
-use Rattle.daybook.specs.Queries.{users}
+use Rattle.daybook.specs.Notices.{users}
 use Rattle.allocate.specs.InnerParts.{totalTo}
-use Rattle.allocate.proofs.UserTotals.{row-step}
+use Rattle.daybook.proofs.Users.{users-step}
 use borrow.Author.Needs.{needs}
 use Rattle.allocate.proofs.totals.Statement.{statement}
 use Rattle.allocate.proofs.totals.Tie as tie
@@ -29,7 +29,7 @@ loop-again c =
     let k = c .before .before .before .loop in (
       omega arith,
       ap (set (k .all) (k .k)) (toZ-ofZ w64 (c .integer .result) (sfits-of (c .integer .ok)) ∙ c .integer .ensures ∙ ap pos (c .before .total-of .ensures .0))
-          ∙ row-step (λ u. pos (totalTo (s .args .us .now) (s .args .xs .now) u 32)) (replicate 16 (pos 0)) (k .all) (k .k) (omega arith) refl (k .inv .1),
+          ∙ users-step (pos 0) (λ u. pos (totalTo (s .args .us .now) (s .args .xs .now) u 32)) (replicate 16 (pos 0)) (k .all) (k .k) (omega arith) refl (k .inv .1),
     )
 
 returns : tie.Need-returns Inv-loop μ-loop

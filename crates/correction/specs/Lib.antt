@@ -1,0 +1,3 @@
+-- The call correct.
+pub mod Correction
+pub mod InnerParts
