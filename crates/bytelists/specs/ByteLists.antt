@@ -11,9 +11,10 @@ use Rattle.daybook.specs.declared.EnergyNotice.{EnergyNotice}
 use Rattle.daybook.specs.declared.StatusNotice.{StatusNotice}
 use Rattle.daybook.specs.declared.TransferRequest.{TransferRequest}
 use Rattle.daybook.specs.declared.Withdrawal.{Withdrawal}
+use Rattle.daybook.specs.declared.Correction.{Correction}
 use Rattle.daybook.specs.declared.AccountQuery.{AccountQuery}
 use Rattle.daybook.specs.declared.AllocationQuery.{AllocationQuery}
-use Rattle.daybook.specs.Calls.{Notice, fresh!, open!, energy!, status!, request!, withdraw!, Query, account!, allocate!, Call, notice!, query!, State, Answer, step}
+use Rattle.daybook.specs.Calls.{Notice, fresh!, open!, energy!, status!, request!, withdraw!, correct!, Query, account!, allocate!, Call, notice!, query!, State, Answer, step}
 use Rattle.history.specs.Runs.{Lent, noticeCall, queryCall}
 use Rattle.buffers.specs.Buffers.{tableIn, holidaysIn, written}
 
@@ -25,6 +26,7 @@ pub data HubNotice : Type 0 where
   petlumas-status : StatusNotice → HubNotice
   petlumas-request : TransferRequest → HubNotice
   petlumas-withdraw : Withdrawal → HubNotice
+  petlumas-correct : Correction → HubNotice
 
 pub data HubQuery : Type 0 where
   petlumas-account : AccountQuery → HubQuery
@@ -55,6 +57,7 @@ noticeIn (petlumas-energy n) second = energy! n
 noticeIn (petlumas-status n) second = status! n
 noticeIn (petlumas-request n) second = request! n (holidaysIn second)
 noticeIn (petlumas-withdraw n) second = withdraw! n
+noticeIn (petlumas-correct n) second = correct! n
 
 -- An answer table has 8 bytes a number.
 unfoldable pub queryIn : HubQuery → List ℕ → Query

@@ -23,8 +23,8 @@ use Rattle.bytelists.specs.ByteLists.{petlumas-fresh, petlumas-open, hub
 --
 -- The calls here are definitions. The contracts of the hub's exported functions equate what each returns and leaves
 -- with them, for every register, all numbers and buffers: petlumas_fresh, petlumas_open, petlumas_energy, petlumas_status,
--- petlumas_request, petlumas_withdraw and petlumas_allocate with `written`, petlumas_account with `replied`. A request
--- borrows its holidays, an account and an allocation the register, without changing them.
+-- petlumas_request, petlumas_withdraw, petlumas_correct and petlumas_allocate with `written`, petlumas_account with
+-- `replied`. A request borrows its holidays, an account and an allocation the register, without changing them.
 abbrev pub EveryHubList : Type 0
 EveryHubList =
     (b₀ second answer : List ℕ) (n : Ranges)

@@ -19,8 +19,8 @@ use Rattle.numbers.proofs.Floor.{floor-all, floor-none}
 use Rattle.daybook.specs.declared.AllocationQuery.{AllocationQuery}
 use Rattle.daybook.specs.declared.Edition.{Edition}
 use Rattle.daybook.specs.Book.{Point, Book}
-use Rattle.daybook.specs.Notices.{Numbers, least, decide}
-use Rattle.daybook.specs.Queries.{sumOf, active, nslOf, weight, weights, total, split, pointShares, totalOf, users, allocateRows, allocate}
+use Rattle.daybook.specs.Notices.{Numbers, least, decide, users}
+use Rattle.daybook.specs.Queries.{sumOf, active, nslOf, weight, weights, total, split, pointShares, totalOf, allocateRows, allocate}
 use Rattle.lists.specs.Lists.{Lists, Register, pointOf, bookOf}
 use Rattle.lists.specs.InnerWell.{Well, Points, nopoint, point, WellFormed}
 use Rattle.lists.proofs.Splits.{split-length}

@@ -14,7 +14,8 @@ use Rattle.daybook.specs.declared.Facts.{Facts}
 use Rattle.daybook.specs.declared.Opening.{Opening}
 use Rattle.daybook.specs.Book.{Entry, Point, Book, withEntries, withOff, withFro, withPending}
 use Rattle.daybook.specs.Notices.{Row, least, Numbers, decide, find, put, withPoint, onPoint, fresh, factsOf, opened, operatorsIn, openingRows, opening, Which, Outcome, registers, lapses, stays, entered, enter, energy, switched, status, request, withdraw}
-use Rattle.daybook.specs.Calls.{Notice, fresh!, open!, energy!, status!, request!, withdraw!, noted}
+use Rattle.daybook.specs.Corrections.{corrected, correctAt, correct}
+use Rattle.daybook.specs.Calls.{Notice, fresh!, open!, energy!, status!, request!, withdraw!, correct!, noted}
 use Rattle.lists.proofs.Rows.{decide-keeps}
 
 abbrev pointFacts : Point → Facts
@@ -59,7 +60,7 @@ pub facts-after : (P : List Facts → Type 0) (c : Notice) (ed : Edition) (B : B
     → least (openingRows ed n (isSome (find (natOf (n .mirn)) (B .points))) (operatorsIn (B .points))) ≡ 0
     → P (factsIn B ++ (factsOf n ∷ [])))
     → P (factsIn (noted c ed B .1))
-unfolding noted fresh opening energy enter status switched withOff request withdraw withPending opened
+unfolding noted fresh opening energy enter status switched withOff request withdraw withPending opened correct correctAt corrected withFro
 facts-after P (fresh! n) ed B empty now more = decide-keeps 0 B _ (λ C. P (factsIn C)) _ now (λ z. empty)
 facts-after P (open! n) ed B empty now more =
     decide-keeps 0 B _ (λ C. P (factsIn C)) _ now (λ z. subst P (sym (map-append pointFacts (B .points) (opened n ∷ []))) (more n refl z))
@@ -67,3 +68,4 @@ facts-after P (energy! n) ed B empty now more = subst P (sym (on-point-facts _ _
 facts-after P (status! n) ed B empty now more = subst P (sym (on-point-facts _ _ _ _ _ (λ p. refl) B)) now
 facts-after P (request! n holidays) ed B empty now more = subst P (sym (on-point-facts _ _ _ _ _ (λ p. refl) B)) now
 facts-after P (withdraw! n) ed B empty now more = subst P (sym (on-point-facts _ _ _ _ _ (λ p. refl) B)) now
+facts-after P (correct! n) ed B empty now more = subst P (sym (on-point-facts _ _ _ _ _ (λ p. refl) B)) now

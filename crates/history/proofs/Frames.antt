@@ -19,9 +19,9 @@ use Rattle.daybook.specs.declared.Edition.{Edition}
 use Rattle.daybook.specs.declared.Opening.{Opening}
 use Rattle.daybook.specs.declared.Facts.{Facts}
 use Rattle.daybook.specs.Notices.{Row, Numbers, factsOf}
-use Rattle.daybook.specs.Calls.{Notice, fresh!, open!, energy!, status!, request!, withdraw! }
+use Rattle.daybook.specs.Calls.{Notice, fresh!, open!, energy!, status!, request!, withdraw!, correct! }
 use Rattle.lists.specs.Lists.{Lists, Register}
-use Rattle.lists.specs.InnerSteps.{withOffs, withPendingLists, findLists, putLists, withLists, onLists, openedLists, openingLists, enteredLists, enterLists, energyLists, statusLists, requestLists, withdrawLists, noticeLists}
+use Rattle.lists.specs.InnerSteps.{withOffs, withRegs, withPendingLists, findLists, putLists, withLists, onLists, openedLists, openingLists, enteredLists, enterLists, energyLists, statusLists, requestLists, withdrawLists, correctedLists, correctListsAt, correctLists, noticeLists}
 use Rattle.lists.specs.InnerWell.{Points, WellFormed}
 use Rattle.lists.proofs.Rows.{decide-keeps}
 use Rattle.lists.proofs.Notices.{notice-step, notice-keeps, notice-kept}
@@ -45,6 +45,7 @@ use Rattle.opening.specs.Opening.{openCall}
 use Rattle.energy.specs.Energy.{energyCall}
 use Rattle.status.specs.Status.{statusCall}
 use Rattle.transfer.specs.Transfer.{requestCall, withdrawCall}
+use Rattle.correction.specs.Correction.{correctCall}
 use Rattle.history.specs.Frame.{inPart, ofPoint, ofNewPoint, Framed, Frames}
 use Rattle.history.specs.Runs.{noticeCall}
 use Rattle.history.proofs.Steps.{notice-is}
@@ -239,15 +240,17 @@ isFresh (energy! n) = false
 isFresh (status! n) = false
 isFresh (request! n holidays) = false
 isFresh (withdraw! n) = false
+isFresh (correct! n) = false
 
 left-alone : (t : List ℤ) → sound (editionOf t) t ≡ false → (c : Notice) → isFresh c ≡ false → noticeCall c t .1 ≡ t
-unfolding noticeCall openCall energyCall statusCall requestCall withdrawCall onEdition
+unfolding noticeCall openCall energyCall statusCall requestCall withdrawCall correctCall onEdition
 left-alone t s (fresh! n) e = absurd (false≢true (sym e))
 left-alone t s (open! n) e = rw s refl
 left-alone t s (energy! n) e = rw s refl
 left-alone t s (status! n) e = rw s refl
 left-alone t s (request! n holidays) e = rw s refl
 left-alone t s (withdraw! n) e = rw s refl
+left-alone t s (correct! n) e = rw s refl
 
 framed : (c : Notice) → isFresh c ≡ false → (t : List ℤ) (own : ℕ → Bool)
     → ((s : sound (editionOf t) t ≡ true) → Kept t s own (noticeLists c (editionOf t) (registerOf (editionOf t) t) .1))
@@ -259,7 +262,7 @@ framed c e t own f = go (sound (editionOf t) t) refl
     go false s = subst (Framed own t) (sym (left-alone t s c e)) (unchanged own t)
 
 pub frames : Frames
-unfolding noticeCall noticeLists energyLists enterLists enteredLists statusLists withOffs requestLists withdrawLists withPendingLists
+unfolding noticeCall noticeLists energyLists enterLists enteredLists statusLists withOffs requestLists withdrawLists withPendingLists correctLists correctListsAt correctedLists withRegs
 frames =
     record {
       opening = λ t n. framed (open! n) refl t (ofNewPoint t) (λ s. on-opening t s n);
@@ -268,4 +271,5 @@ frames =
       request = λ t n holidays.
           framed (request! n holidays) refl t (ofPoint t (n .mirn)) (λ s. on-lists t s 2 (n .mirn) _ _ _ (λ q. refl));
       withdraw = λ t n. framed (withdraw! n) refl t (ofPoint t (n .mirn)) (λ s. on-lists t s 0 (n .mirn) _ _ _ (λ q. refl));
+      correct = λ t n. framed (correct! n) refl t (ofPoint t (n .mirn)) (λ s. on-lists t s 16 (n .mirn) _ _ _ (λ q. refl));
     }

@@ -20,7 +20,7 @@ use Rattle.daybook.specs.declared.Facts.{Facts}
 use Rattle.daybook.specs.declared.Opening.{Opening}
 use Rattle.daybook.specs.Book.{Entry, Point, Book, latest}
 use Rattle.daybook.specs.Notices.{Numbers, isRange, find, which, entryOf, factsOf, outcomeOf, entered, enter}
-use Rattle.daybook.specs.Calls.{Notice, fresh!, open!, energy!, status!, request!, withdraw!, Call, notice!, query!, noted, step}
+use Rattle.daybook.specs.Calls.{Notice, fresh!, open!, energy!, status!, request!, withdraw!, correct!, Call, notice!, query!, noted, step}
 use Rattle.lists.specs.Lists.{Lists, Register, operatorOf, pointOf, bookOf, withFacts, unnamedAgain}
 use Rattle.lists.specs.InnerSteps.{noticeLists}
 use Rattle.lists.specs.InnerWell.{WellFormed}
@@ -210,6 +210,7 @@ module _ (t : List ℤ) (old : section0 t ≡ true) where
   notice-same (status! n) = refl
   notice-same (request! n holidays) = refl
   notice-same (withdraw! n) = refl
+  notice-same (correct! n) = refl
 
 call-same : (L : Lent) (c : Call) → section0 (L .table) ≡ true → lentStep c L ≡ lentStepBy noSection c L
 unfolding lentStep lentStepBy

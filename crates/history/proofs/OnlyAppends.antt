@@ -15,7 +15,7 @@ use Rattle.daybook.specs.declared.Edition.{Edition}
 use Rattle.daybook.specs.declared.EnergyNotice.{EnergyNotice}
 use Rattle.daybook.specs.Book.{Entry, Pending, Point, Book, withEntries, records, latest}
 use Rattle.daybook.specs.Notices.{Numbers, decide, find, withPoint, onPoint, Which, append, replacement, recut, whichNumber, which, entryOf, removed, Outcome, registers, lapses, stays, appendRegisters, outcomeOf, outcomeNumbers, entered, enter, energy}
-use Rattle.daybook.specs.Calls.{Notice, fresh!, open!, energy!, status!, request!, withdraw!, Call, notice!, query! }
+use Rattle.daybook.specs.Calls.{Notice, fresh!, open!, energy!, status!, request!, withdraw!, correct!, Call, notice!, query! }
 use Rattle.lists.specs.Lists.{pointOf}
 use Rattle.lists.specs.InnerWell.{PendingOk, nopending, pending}
 use Rattle.lists.proofs.Points.{find-put}
@@ -197,6 +197,7 @@ notice-same t (energy! n) h = energy-same t n (h n refl)
 notice-same t (status! n) h = refl
 notice-same t (request! n holidays) h = refl
 notice-same t (withdraw! n) h = refl
+notice-same t (correct! n) h = refl
 
 call-same : (L : Lent) (c : Call)
     → ((n : EnergyNotice) → c ≡ notice! (energy! n) → named (energyCallBefore (L .table) n .0) ≡ false)

@@ -10,7 +10,7 @@ use Rattle.numbers.specs.Answers.{refused}
 use Rattle.daybook.specs.declared.Edition.{Edition}
 use Rattle.daybook.specs.Book.{Book}
 use Rattle.daybook.specs.Notices.{Numbers}
-use Rattle.daybook.specs.Calls.{Notice, fresh!, open!, energy!, status!, request!, withdraw!, Query, account!, allocate!, Call, notice!, query!, Answer, noted, given, State, step}
+use Rattle.daybook.specs.Calls.{Notice, fresh!, open!, energy!, status!, request!, withdraw!, correct!, Query, account!, allocate!, Call, notice!, query!, Answer, noted, given, State, step}
 use Rattle.layout.specs.Layout.{tableLength, editionOf, tableBook, withBook}
 use Rattle.layout.specs.Sound.{sound}
 use Rattle.layout.specs.Calls.{answerAndTable, onEdition}
@@ -22,6 +22,7 @@ use Rattle.opening.specs.Opening.{freshCall, openCall}
 use Rattle.energy.specs.Energy.{energyCall}
 use Rattle.status.specs.Status.{statusCall}
 use Rattle.transfer.specs.Transfer.{requestCall, withdrawCall}
+use Rattle.correction.specs.Correction.{correctCall}
 use Rattle.account.specs.Account.{accountCall}
 use Rattle.allocate.specs.Allocate.{allocateCall}
 use Rattle.history.specs.Runs.{noticeCall, queryCall, Lent, lentStep}
@@ -35,13 +36,14 @@ module _ (t : List ℤ) (s : sound (editionOf t) t ≡ true) where
 
   -- a notice is the book's step, written over the table
   pub notice-is : (c : Notice) → noticeCall c t ≡ answerAndTable ed t (noted c ed (tableBook ed t))
-  unfolding noticeCall noted freshCall openCall energyCall statusCall requestCall withdrawCall onEdition
+  unfolding noticeCall noted freshCall openCall energyCall statusCall requestCall withdrawCall correctCall onEdition
   notice-is (fresh! n) = rw (le-leb tableLength (length t) (sound-long ed t s .0))
   notice-is (open! n) = rw s
   notice-is (energy! n) = rw s
   notice-is (status! n) = rw s
   notice-is (request! n holidays) = rw s
   notice-is (withdraw! n) = rw s
+  notice-is (correct! n) = rw s
 
   -- a query is the book's
   pub query-is : (q : Query) → queryCall q t ≡ given q (tableBook ed t)

@@ -20,7 +20,7 @@ use Rattle.history.specs.Promise.{refusalIn, Reserved}
 -- The calls here are definitions. The contracts of the code equate each function with one of them, for every table and
 -- all numbers: opening::fresh with freshCall, opening::open with openCall, energy::energy with energyCall,
 -- status::status with statusCall, transfer::request with requestCall, transfer::withdraw with withdrawCall,
--- account::account with accountCall, allocate::allocate with allocateCall.
+-- correction::correct with correctCall, account::account with accountCall, allocate::allocate with allocateCall.
 abbrev pub EveryList : Type 0
 EveryList =
     (t₀ : List ℤ) (n : Ranges) → freshCall t₀ n .0 ≡ pos 0 ∷ [] → (cs : List Call)

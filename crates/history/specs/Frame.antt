@@ -14,6 +14,7 @@ use Rattle.daybook.specs.declared.EnergyNotice.{EnergyNotice}
 use Rattle.daybook.specs.declared.StatusNotice.{StatusNotice}
 use Rattle.daybook.specs.declared.TransferRequest.{TransferRequest}
 use Rattle.daybook.specs.declared.Withdrawal.{Withdrawal}
+use Rattle.daybook.specs.declared.Correction.{Correction}
 use Rattle.layout.specs.Places.{pointsPlace, operatorPlace}
 use Rattle.layout.specs.Layout.{stride, placeOf, editionOf, numAt}
 use Rattle.table.specs.Lookup.{indexOf}
@@ -21,6 +22,7 @@ use Rattle.opening.specs.Opening.{openCall}
 use Rattle.energy.specs.Energy.{energyCall}
 use Rattle.status.specs.Status.{statusCall}
 use Rattle.transfer.specs.Transfer.{requestCall, withdrawCall}
+use Rattle.correction.specs.Correction.{correctCall}
 
 -- Does place k lie in the part of point i?
 abbrev pub inPart : Edition → ℕ → ℕ → Bool
@@ -51,3 +53,4 @@ pub record Frames : Type 0 where
       (t : List ℤ) (n : TransferRequest) (holidays : List ℤ)
       → Framed (ofPoint t (n .mirn)) t (requestCall t n holidays .1)
   pub withdraw : (t : List ℤ) (n : Withdrawal) → Framed (ofPoint t (n .mirn)) t (withdrawCall t n .1)
+  pub correct : (t : List ℤ) (n : Correction) → Framed (ofPoint t (n .mirn)) t (correctCall t n .1)

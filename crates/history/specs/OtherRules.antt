@@ -8,7 +8,7 @@ use Rattle.daybook.specs.declared.Edition.{Edition}
 use Rattle.daybook.specs.declared.EnergyNotice.{EnergyNotice}
 use Rattle.daybook.specs.Book.{Entry, Pending, Point, Book, latest}
 use Rattle.daybook.specs.Notices.{Numbers, onPoint, Which, which, entryOf, energyEarly, energyRowsAt, Outcome, entered}
-use Rattle.daybook.specs.Calls.{Notice, fresh!, open!, energy!, status!, request!, withdraw!, Call, notice!, query!, Answer}
+use Rattle.daybook.specs.Calls.{Notice, fresh!, open!, energy!, status!, request!, withdraw!, correct!, Call, notice!, query!, Answer}
 use Rattle.layout.specs.Calls.{onTable}
 use Rattle.history.specs.Runs.{Lent, noticeCall, lentStep}
 
@@ -35,6 +35,7 @@ noticeCallBy rule (energy! n) t = energyCallBy rule t n
 noticeCallBy rule (status! n) t = noticeCall (status! n) t
 noticeCallBy rule (request! n holidays) t = noticeCall (request! n holidays) t
 noticeCallBy rule (withdraw! n) t = noticeCall (withdraw! n) t
+noticeCallBy rule (correct! n) t = noticeCall (correct! n) t
 
 unfoldable pub lentStepBy : Rule → Call → Lent → Answer × Lent
 lentStepBy rule (notice! c) L =

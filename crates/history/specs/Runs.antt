@@ -4,11 +4,12 @@ use lib.IntN.{ℤ}
 use Rattle.daybook.specs.declared.Edition.{Edition}
 use Rattle.daybook.specs.declared.Ranges.{Ranges}
 use Rattle.daybook.specs.Notices.{Numbers}
-use Rattle.daybook.specs.Calls.{Notice, fresh!, open!, energy!, status!, request!, withdraw!, Query, account!, allocate!, Call, notice!, query!, State, Answer}
+use Rattle.daybook.specs.Calls.{Notice, fresh!, open!, energy!, status!, request!, withdraw!, correct!, Query, account!, allocate!, Call, notice!, query!, State, Answer}
 use Rattle.opening.specs.Opening.{freshCall, openCall}
 use Rattle.energy.specs.Energy.{energyCall}
 use Rattle.status.specs.Status.{statusCall}
 use Rattle.transfer.specs.Transfer.{requestCall, withdrawCall}
+use Rattle.correction.specs.Correction.{correctCall}
 use Rattle.account.specs.Account.{accountCall}
 use Rattle.allocate.specs.Allocate.{allocateCall}
 
@@ -22,6 +23,7 @@ noticeCall (energy! n) t = energyCall t n
 noticeCall (status! n) t = statusCall t n
 noticeCall (request! n holidays) t = requestCall t n holidays
 noticeCall (withdraw! n) t = withdrawCall t n
+noticeCall (correct! n) t = correctCall t n
 
 -- What a query answers of it.
 unfoldable pub queryCall : Query → List ℤ → Answer
