@@ -13,7 +13,8 @@ use Rattle.words.specs.Tables.{encodedInto}
 use Rattle.daybook.specs.Notices.{Numbers}
 use Rattle.buffers.specs.Buffers.{tableIn, holidaysIn, withNumbers, replied, written}
 use Rattle.journal.specs.declared.NoticeWord.{NoticeWord}
-use Rattle.journal.specs.declared.NoticeWord.the-variants.{Fresh, Open, Energy, Status, Request, Withdraw}
+use Rattle.journal.specs.declared.NoticeWord.the-variants.{Fresh, Open, Energy, Status, Transfer}
+use Rattle.journal.specs.declared.TransferWord.the-variants.{Request, Withdraw, Correct}
 use Rattle.journal.specs.declared.QueryWord.{QueryWord}
 use Rattle.journal.specs.declared.QueryWord.the-variants.{Account, Allocate, Date}
 use Rattle.journal.specs.declared.CallWord.{CallWord}
@@ -27,8 +28,9 @@ seven-noticed Fresh t xs list = refl
 seven-noticed Open t xs list = refl
 seven-noticed Energy t xs list = refl
 seven-noticed Status t xs list = refl
-seven-noticed Request t xs list = refl
-seven-noticed Withdraw t xs list = refl
+seven-noticed (Transfer Request) t xs list = refl
+seven-noticed (Transfer Withdraw) t xs list = refl
+seven-noticed (Transfer Correct) t xs list = refl
 
 pub seven-asked : (q : QueryWord) (t xs : List ℤ) (room : ℕ) → asked q t (listed (sevenOf xs)) room ≡ asked q t xs room
 seven-asked Account t xs room = refl

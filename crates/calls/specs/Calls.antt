@@ -5,29 +5,36 @@ use lib.IntN.{ℤ}
 use lib.ListN.{length}
 use Rattle.calendar.specs.Calendar.{dateCall}
 use Rattle.daybook.specs.Notices.{Numbers}
-use Rattle.daybook.specs.Conversions.{num, rangesOf, openingOf, energyNoticeOf, statusOf, requestOf, withdrawalOf, accountQueryOf, allocationQueryOf}
+use Rattle.daybook.specs.Conversions.{num, rangesOf, openingOf, energyNoticeOf, statusOf, requestOf, withdrawalOf, correctionOf, accountQueryOf, allocationQueryOf}
 use Rattle.opening.specs.Opening.{freshCall, openCall}
 use Rattle.energy.specs.Energy.{energyCall}
 use Rattle.status.specs.Status.{statusCall}
 use Rattle.transfer.specs.Transfer.{requestCall, withdrawCall}
+use Rattle.correction.specs.Correction.{correctCall}
 use Rattle.account.specs.Account.{accountCall}
 use Rattle.allocate.specs.Allocate.{allocateCall}
 use Rattle.buffers.specs.Buffers.{tableIn, holidaysIn, written}
 use Rattle.journal.specs.declared.NoticeWord.{NoticeWord}
-use Rattle.journal.specs.declared.NoticeWord.the-variants.{Fresh, Open, Energy, Status, Request, Withdraw}
+use Rattle.journal.specs.declared.NoticeWord.the-variants.{Fresh, Open, Energy, Status, Transfer}
+use Rattle.journal.specs.declared.TransferWord.{TransferWord}
+use Rattle.journal.specs.declared.TransferWord.the-variants.{Request, Withdraw, Correct}
 use Rattle.journal.specs.declared.QueryWord.{QueryWord}
 use Rattle.journal.specs.declared.QueryWord.the-variants.{Account, Allocate, Date}
 use Rattle.journal.specs.declared.CallWord.{CallWord}
 use Rattle.journal.specs.declared.CallWord.the-variants as Call·
 
--- A notice's answer and the table after it.
+-- A notice's answer and the table after it: one of a transfer, and any.
+abbrev pub transferred : TransferWord → List ℤ → List ℤ → List ℤ → Numbers × List ℤ
+transferred Request t xs list = requestCall t (requestOf xs) list
+transferred Withdraw t xs list = withdrawCall t (withdrawalOf xs)
+transferred Correct t xs list = correctCall t (correctionOf xs)
+
 abbrev pub noticed : NoticeWord → List ℤ → List ℤ → List ℤ → Numbers × List ℤ
 noticed Fresh t xs list = freshCall t (rangesOf xs)
 noticed Open t xs list = openCall t (openingOf xs)
 noticed Energy t xs list = energyCall t (energyNoticeOf xs)
 noticed Status t xs list = statusCall t (statusOf xs)
-noticed Request t xs list = requestCall t (requestOf xs) list
-noticed Withdraw t xs list = withdrawCall t (withdrawalOf xs)
+noticed (Transfer w) t xs list = transferred w t xs list
 
 -- A query's answer, and its numbers for an answer table of `room` places.
 abbrev pub asked : QueryWord → List ℤ → List ℤ → ℕ → Numbers × List ℤ

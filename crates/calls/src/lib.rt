@@ -5,11 +5,12 @@ ghost use Prim.Native.Nat.{_/_};
 ghost use lib.ListN.{length};
 ghost use Rattle.daybook.specs.Conversions.{num};
 ghost use Rattle.buffers.specs.Buffers.{tableIn, holidaysIn, written};
-ghost use Rattle.calls.specs.Calls.{noticed, asked, called};
+ghost use Rattle.calls.specs.Calls.{transferred, noticed, asked, called};
 ghost use Rattle.calls.specs.InnerCalls.{sevenOf, listed};
 use journal::CallWord;
 use journal::NoticeWord;
 use journal::QueryWord;
+use journal::TransferWord;
 
 // Number i of a line.
 fn number(nums: &[i64], i: usize) -> i64
@@ -46,7 +47,20 @@ fn first_seven(nums: &[i64]) -> Seven
     }
 }
 
-// A notice with the numbers a, through its exported function.
+// A notice of a transfer with the numbers a, through its exported function.
+fn transfer(w: TransferWord, a: Seven, list: &[u8], register: &mut [u8], answer: &mut [u8]) -> i64
+    ensures { λ r. ⌜ (r, (now (register .exit), now (answer .exit))) ≡ written (transferred w (tableIn (now (register .entry))) (listed a) (holidaysIn (now (list .entry)))) (now (register .entry)) (now (answer .entry)) ⌝ }
+{
+    match w {
+        TransferWord::Request => {
+            hub::petlumas_request(register, answer, list, a.n0, a.n1, a.n2, a.n3)
+        }
+        TransferWord::Withdraw => hub::petlumas_withdraw(register, answer, a.n0, a.n1),
+        TransferWord::Correct => hub::petlumas_correct(register, answer, a.n0, a.n1, a.n2, a.n3),
+    }
+}
+
+// Any notice.
 fn notify(n: NoticeWord, a: Seven, list: &[u8], register: &mut [u8], answer: &mut [u8]) -> i64
     ensures { λ r. ⌜ (r, (now (register .exit), now (answer .exit))) ≡ written (noticed n (tableIn (now (register .entry))) (listed a) (holidaysIn (now (list .entry)))) (now (register .entry)) (now (answer .entry)) ⌝ }
 {
@@ -59,10 +73,7 @@ fn notify(n: NoticeWord, a: Seven, list: &[u8], register: &mut [u8], answer: &mu
             hub::petlumas_energy(register, answer, a.n0, a.n1, a.n2, a.n3, a.n4, a.n5)
         }
         NoticeWord::Status => hub::petlumas_status(register, answer, a.n0, a.n1, a.n2),
-        NoticeWord::Request => {
-            hub::petlumas_request(register, answer, list, a.n0, a.n1, a.n2, a.n3)
-        }
-        NoticeWord::Withdraw => hub::petlumas_withdraw(register, answer, a.n0, a.n1),
+        NoticeWord::Transfer(w) => transfer(w, a, list, register, answer),
     }
 }
 

@@ -6,7 +6,9 @@ use lib.IntN.{ℤ}
 use Rattle.numbers.specs.Naturals.{natOf}
 use Rattle.daybook.specs.Conversions.{num}
 use Rattle.journal.specs.declared.NoticeWord.{NoticeWord}
-use Rattle.journal.specs.declared.NoticeWord.the-variants.{Fresh, Open, Energy, Status, Request, Withdraw}
+use Rattle.journal.specs.declared.NoticeWord.the-variants.{Fresh, Open, Energy, Status, Transfer}
+use Rattle.journal.specs.declared.TransferWord.{TransferWord}
+use Rattle.journal.specs.declared.TransferWord.the-variants.{Request, Withdraw, Correct}
 use Rattle.journal.specs.declared.QueryWord.{QueryWord}
 use Rattle.journal.specs.declared.QueryWord.the-variants.{Account, Allocate, Date}
 use Rattle.journal.specs.declared.CallWord.{CallWord}
@@ -18,13 +20,17 @@ use Rattle.forms.specs.declared.Form.{Form}
 abbrev pub shapeOf : ℕ → ℕ → Bool → Bool → Form
 shapeOf takes gives list table = record { takes = takes; gives = gives; list = list; table = table }
 
+abbrev pub transferForm : TransferWord → Form
+transferForm Request = shapeOf 4 3 true false
+transferForm Withdraw = shapeOf 2 1 false false
+transferForm Correct = shapeOf 4 17 false false
+
 abbrev pub noticeForm : NoticeWord → Form
 noticeForm Fresh = shapeOf 2 1 false false
 noticeForm Open = shapeOf 7 1 false false
 noticeForm Energy = shapeOf 6 5 false false
 noticeForm Status = shapeOf 3 1 false false
-noticeForm Request = shapeOf 4 3 true false
-noticeForm Withdraw = shapeOf 2 1 false false
+noticeForm (Transfer w) = transferForm w
 
 abbrev pub queryForm : QueryWord → Form
 queryForm Account = shapeOf 3 2 false false

@@ -5,11 +5,12 @@ ghost use lib.Dec.{eqb};
 ghost use lib.ListN.{length};
 ghost use Rattle.numbers.specs.Naturals.{natOf};
 ghost use Rattle.daybook.specs.Conversions.{num};
-ghost use Rattle.forms.specs.Forms.{shapeOf, noticeForm, queryForm, formOf, ownNumbers, sizeOf};
+ghost use Rattle.forms.specs.Forms.{shapeOf, transferForm, noticeForm, queryForm, formOf, ownNumbers, sizeOf};
 ghost use Rattle.forms.specs.InnerForms.{Formed};
 use journal::CallWord;
 use journal::NoticeWord;
 use journal::QueryWord;
+use journal::TransferWord;
 
 // How many numbers a call and its answer have; whether a list follows the call's numbers, with its count in front; and
 // whether an answer table is lent.
@@ -32,6 +33,16 @@ fn shape(takes: usize, gives: usize, list: bool, table: bool) -> Form
     }
 }
 
+fn transfer_form(w: TransferWord) -> Form
+    ensures { λ r. ⌜ Formed r (transferForm w) ⌝ }
+{
+    match w {
+        TransferWord::Request => shape(4, 3, true, false),
+        TransferWord::Withdraw => shape(2, 1, false, false),
+        TransferWord::Correct => shape(4, 17, false, false),
+    }
+}
+
 fn notice_form(n: NoticeWord) -> Form
     ensures { λ r. ⌜ Formed r (noticeForm n) ⌝ }
 {
@@ -40,8 +51,7 @@ fn notice_form(n: NoticeWord) -> Form
         NoticeWord::Open => shape(7, 1, false, false),
         NoticeWord::Energy => shape(6, 5, false, false),
         NoticeWord::Status => shape(3, 1, false, false),
-        NoticeWord::Request => shape(4, 3, true, false),
-        NoticeWord::Withdraw => shape(2, 1, false, false),
+        NoticeWord::Transfer(w) => transfer_form(w),
     }
 }
 

@@ -18,10 +18,12 @@ use Rattle.daybook.specs.declared.EnergyNotice.{EnergyNotice}
 use Rattle.daybook.specs.declared.StatusNotice.{StatusNotice}
 use Rattle.daybook.specs.declared.TransferRequest.{TransferRequest}
 use Rattle.daybook.specs.declared.Withdrawal.{Withdrawal}
+use Rattle.daybook.specs.declared.Correction.{Correction}
 use Rattle.daybook.specs.declared.AccountQuery.{AccountQuery}
 use Rattle.daybook.specs.declared.AllocationQuery.{AllocationQuery}
 use Rattle.daybook.specs.Book.{Book, Point}
 use Rattle.daybook.specs.Notices.{Row, highestRefusal, Numbers, decide, find, onPoint, freshRows, fresh, operatorsIn, openingRows, opening, energyEarly, energyRows, energyRowsAt, energy, statusEarly, statusRows, status, requestEarly, requestRows, request, withdrawEarly, withdrawRows, withdraw}
+use Rattle.daybook.specs.Corrections.{correctEarly, correctRows, correctRowsAt, correct}
 use Rattle.daybook.specs.Queries.{accountRows, account, allocateRows, allocate}
 use Rattle.lists.proofs.Rows.{upTo, up-to-append, up-to-least}
 use Rattle.layout.specs.Layout.{tableLength, editionOf, tableBook}
@@ -31,6 +33,7 @@ use Rattle.opening.specs.Opening.{freshCall, openCall}
 use Rattle.energy.specs.Energy.{energyCall}
 use Rattle.status.specs.Status.{statusCall}
 use Rattle.transfer.specs.Transfer.{requestCall, withdrawCall}
+use Rattle.correction.specs.Correction.{correctCall}
 use Rattle.account.specs.Account.{accountCall}
 use Rattle.allocate.specs.Allocate.{allocateCall}
 use Rattle.buffers.proofs.Ends.{refusalOf}
@@ -92,6 +95,10 @@ request-small t n hs =
 pub withdraw-small : (t : List ℤ) (n : Withdrawal) → refusalOf (withdrawCall t n .0) ≤ highestRefusal
 unfolding withdrawCall withdraw withdrawEarly withdrawRows upTo
 withdraw-small t n = on-table 0 (withdraw n) (editionOf t) t (λ B. on-point 0 (n .mirn) (withdrawEarly n) _ _ B refl (λ p. refl))
+
+pub correct-small : (t : List ℤ) (n : Correction) → refusalOf (correctCall t n .0) ≤ highestRefusal
+unfolding correctCall correct correctEarly correctRowsAt correctRows upTo
+correct-small t n = on-table 16 (correct n) (editionOf t) t (λ B. on-point 16 (n .mirn) (correctEarly n) _ _ B refl (λ p. refl))
 
 pub date-small : (y m d : ℤ) → refusalOf (dateCall y m d) ≤ highestRefusal
 unfolding dateCall

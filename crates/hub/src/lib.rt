@@ -8,12 +8,14 @@ ghost use Rattle.opening.specs.Opening.{freshCall, openCall};
 ghost use Rattle.energy.specs.Energy.{energyCall};
 ghost use Rattle.status.specs.Status.{statusCall};
 ghost use Rattle.transfer.specs.Transfer.{requestCall, withdrawCall};
+ghost use Rattle.correction.specs.Correction.{correctCall};
 ghost use Rattle.account.specs.Account.{accountCall};
 ghost use Rattle.allocate.specs.Allocate.{allocateCall};
 ghost use Rattle.buffers.specs.Buffers.{tableIn, holidaysIn, replied, written};
 use calendar::YearMonthDay;
 use daybook::AccountQuery;
 use daybook::AllocationQuery;
+use daybook::Correction;
 use daybook::EnergyNotice;
 use daybook::Opening;
 use daybook::Ranges;
@@ -155,6 +157,30 @@ pub extern "C" fn petlumas_withdraw(
     let table = buffers::table_in(register, &mut t);
     let a = transfer::withdraw(table, n);
     let numbers = daybook::notice_numbers(a);
+    buffers::finish(register, answer, table, &numbers)
+}
+
+#[no_mangle]
+pub extern "C" fn petlumas_correct(
+    register: &mut [u8],
+    answer: &mut [u8],
+    mirn: i64,
+    user: i64,
+    day: i64,
+    notice: i64,
+) -> i64
+    ensures { λ r. ⌜ (r, (now (register .exit), now (answer .exit))) ≡ written (correctCall (tableIn (now (register .entry))) (record { mirn = mirn; user = user; day = day; notice = notice })) (now (register .entry)) (now (answer .entry)) ⌝ }
+{
+    let n = Correction {
+        mirn,
+        user,
+        day,
+        notice,
+    };
+    let mut t = [0i64; places::TABLE_LENGTH];
+    let table = buffers::table_in(register, &mut t);
+    let a = correction::correct(table, n);
+    let numbers = daybook::correction_numbers(a);
     buffers::finish(register, answer, table, &numbers)
 }
 

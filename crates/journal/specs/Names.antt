@@ -5,6 +5,8 @@ use Prim.Native.Nat.{ℕ}
 use lib.Dec.{eqb}
 use Rattle.journal.specs.declared.NoticeWord.{NoticeWord}
 use Rattle.journal.specs.declared.NoticeWord.the-variants as Notice·
+use Rattle.journal.specs.declared.TransferWord.{TransferWord}
+use Rattle.journal.specs.declared.TransferWord.the-variants as Transfer·
 use Rattle.journal.specs.declared.QueryWord.{QueryWord}
 use Rattle.journal.specs.declared.QueryWord.the-variants as Query·
 use Rattle.journal.specs.declared.CallWord.the-variants as Call·
@@ -25,19 +27,28 @@ pick false a b = b
 abbrev pub notice : List ℕ → List ℕ → NoticeWord → Command → Command
 notice w name is other = pick (sameBytes w name) (Call (Call·.Notice is)) other
 
+abbrev pub transfer : List ℕ → List ℕ → TransferWord → Command → Command
+transfer w name is other = notice w name (Notice·.Transfer is) other
+
 abbrev pub query : List ℕ → List ℕ → QueryWord → Command → Command
 query w name is other = pick (sameBytes w name) (Call (Call·.Query is)) other
 
--- withdraw, request, status, energy, open, fresh
+-- correct, withdraw, request
+unfoldable pub transferOr : List ℕ → Command → Command
+transferOr w other =
+    (transfer w (99 ∷ 111 ∷ 114 ∷ 114 ∷ 101 ∷ 99 ∷ 116 ∷ []) Transfer·.Correct
+    (transfer w (119 ∷ 105 ∷ 116 ∷ 104 ∷ 100 ∷ 114 ∷ 97 ∷ 119 ∷ []) Transfer·.Withdraw
+    (transfer w (114 ∷ 101 ∷ 113 ∷ 117 ∷ 101 ∷ 115 ∷ 116 ∷ []) Transfer·.Request
+    other)))
+
+-- status, energy, open, fresh
 unfoldable pub noticeOr : List ℕ → Command → Command
 noticeOr w other =
-    (notice w (119 ∷ 105 ∷ 116 ∷ 104 ∷ 100 ∷ 114 ∷ 97 ∷ 119 ∷ []) Notice·.Withdraw
-    (notice w (114 ∷ 101 ∷ 113 ∷ 117 ∷ 101 ∷ 115 ∷ 116 ∷ []) Notice·.Request
     (notice w (115 ∷ 116 ∷ 97 ∷ 116 ∷ 117 ∷ 115 ∷ []) Notice·.Status
     (notice w (101 ∷ 110 ∷ 101 ∷ 114 ∷ 103 ∷ 121 ∷ []) Notice·.Energy
     (notice w (111 ∷ 112 ∷ 101 ∷ 110 ∷ []) Notice·.Open
     (notice w (102 ∷ 114 ∷ 101 ∷ 115 ∷ 104 ∷ []) Notice·.Fresh
-    other))))))
+    other))))
 
 -- date, allocate, account
 unfoldable pub queryOr : List ℕ → Command → Command
@@ -47,10 +58,11 @@ queryOr w other =
     (query w (97 ∷ 99 ∷ 99 ∷ 111 ∷ 117 ∷ 110 ∷ 116 ∷ []) Query·.Account
     other)))
 
--- a notice, a query; hub, alen, tlen, poke, table, look
+-- a transfer, another notice, a query; hub, alen, tlen, poke, table, look
 unfoldable pub commandNamed : List ℕ → Command
 commandNamed w =
-    noticeOr w
+    transferOr w
+    (noticeOr w
     (queryOr w
     (pick (sameBytes w (104 ∷ 117 ∷ 98 ∷ [])) Hub
     (pick (sameBytes w (97 ∷ 108 ∷ 101 ∷ 110 ∷ [])) Room
@@ -58,7 +70,7 @@ commandNamed w =
     (pick (sameBytes w (112 ∷ 111 ∷ 107 ∷ 101 ∷ [])) Poke
     (pick (sameBytes w (116 ∷ 97 ∷ 98 ∷ 108 ∷ 101 ∷ [])) Table
     (pick (sameBytes w (108 ∷ 111 ∷ 111 ∷ 107 ∷ [])) Look
-    Unknown)))))))
+    Unknown))))))))
 
 -- energy, allocate, account: the words that may follow `hub`
 unfoldable pub namedOnBytes : List ℕ → Command

@@ -4,7 +4,7 @@ ghost use Prim.Native.Nat.{_+_, _*_, _<_, _≤_};
 ghost use lib.ListN.{length, drop};
 ghost use Rattle.journal.specs.Text.{isDigit, valueOfDigits, nonNegative, negative as Text·negative, numberOf, valueOf, wordsOf, numbersOf, readInto, takenCount};
 ghost use Rattle.journal.specs.InnerText.{capped, Skipped, Ended};
-ghost use Rattle.journal.specs.Names.{sameBytes, pick as Names·pick, noticeOr, queryOr, commandNamed, namedOnBytes};
+ghost use Rattle.journal.specs.Names.{sameBytes, pick as Names·pick, noticeOr, transferOr, queryOr, commandNamed, namedOnBytes};
 
 // The notices, which may change a register.
 pub enum NoticeWord {
@@ -12,8 +12,14 @@ pub enum NoticeWord {
     Open,
     Energy,
     Status,
+    Transfer(TransferWord),
+}
+
+// Those that concern a point's transfer to another User.
+pub enum TransferWord {
     Request,
     Withdraw,
+    Correct,
 }
 
 // The calls that change none.
@@ -196,9 +202,21 @@ fn notice_or(w: &[u8], other: Command) -> Command
     let c = pick_notice(w, b"fresh", NoticeWord::Fresh, other);
     let c = pick_notice(w, b"open", NoticeWord::Open, c);
     let c = pick_notice(w, b"energy", NoticeWord::Energy, c);
-    let c = pick_notice(w, b"status", NoticeWord::Status, c);
-    let c = pick_notice(w, b"request", NoticeWord::Request, c);
-    pick_notice(w, b"withdraw", NoticeWord::Withdraw, c)
+    pick_notice(w, b"status", NoticeWord::Status, c)
+}
+
+fn pick_transfer(w: &[u8], name: &[u8], is: TransferWord, other: Command) -> Command
+    ensures { λ r. ⌜ r ≡ Names·pick (sameBytes (now (w .entry)) (now (name .entry))) (Command.Call (CallWord.Notice (NoticeWord.Transfer is))) other ⌝ }
+{
+    pick_notice(w, name, NoticeWord::Transfer(is), other)
+}
+
+fn transfer_or(w: &[u8], other: Command) -> Command
+    ensures { λ r. ⌜ r ≡ transferOr (now (w .entry)) other ⌝ }
+{
+    let c = pick_transfer(w, b"request", TransferWord::Request, other);
+    let c = pick_transfer(w, b"withdraw", TransferWord::Withdraw, c);
+    pick_transfer(w, b"correct", TransferWord::Correct, c)
 }
 
 fn query_or(w: &[u8], other: Command) -> Command
@@ -219,7 +237,7 @@ pub fn named(w: &[u8]) -> Command
     let c = pick(w, b"tlen", Command::Lend, c);
     let c = pick(w, b"alen", Command::Room, c);
     let c = pick(w, b"hub", Command::Hub, c);
-    notice_or(w, query_or(w, c))
+    transfer_or(w, notice_or(w, query_or(w, c)))
 }
 
 // What the word after `hub` asks for.

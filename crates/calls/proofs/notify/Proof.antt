@@ -36,16 +36,8 @@ returns-4 c =
 returns-5 : tie.Need-returns-5
 returns-5 c =
     let f = c .before .before .before .before in
-    let told = f .before .before .before .before .before .before .before in
-    let a = told .before .before .before .before .before .args .a in
-    rw (told .enum-told5 .given .1, back (f .petlumas-request .result) (search needs)) (rw (back (a .n0) (search needs), back (a .n1) (search needs), back (a .n2) (search needs), back (a .n3) (search needs)) at (f .petlumas-request .ensures))
-
-returns-6 : tie.Need-returns-6
-returns-6 c =
-    let f = c .before .before .before .before in
-    let told = f .before .before .before .before .before in
-    let a = told .before .before .before .before .before .args .a in
-    rw (told .enum-told6 .given .1, back (f .petlumas-withdraw .result) (search needs)) (rw (back (a .n0) (search needs), back (a .n1) (search needs)) at (f .petlumas-withdraw .ensures))
+    let told = f .before .before .before .before in
+    rw (told .n .given .1, back (f .transfer .result) (search needs)) (f .transfer .ensures)
 
 pub notify-spec : {M : Type 1} → statement M
 notify-spec =
@@ -53,7 +45,6 @@ notify-spec =
     (tie.spec
     (λ c. search needs) (λ c κs. search needs) (λ c. search needs) (λ c κs. search needs) (λ c. search needs)
     (λ c κs. search needs) (λ c. search needs) (λ c κs. search needs) (λ c. search needs) (λ c κs. search needs)
-    (λ c. search needs) (λ c κs. search needs)
     (λ c. search needs) (λ c. search needs)
     returns
     (λ c. search needs) (λ c. search needs)
@@ -63,6 +54,4 @@ notify-spec =
     (λ c. search needs) (λ c. search needs)
     returns-4
     (λ c. search needs) (λ c. search needs)
-    returns-5
-    (λ c. search needs) (λ c. search needs)
-    returns-6)
+    returns-5)

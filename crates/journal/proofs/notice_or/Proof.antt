@@ -6,19 +6,15 @@ use Rattle.journal.proofs.notice_or.Tie as tie
 returns : tie.Need-returns
 unfolding noticeOr
 returns c =
-    let request = c .before .before in
-    let status = request .before .before in
-    let energy = status .before .before in
+    let energy = c .before .before in
     let opening = energy .before .before in
     let fresh = opening .before .before in
-    rw (c .pick-notice6 .ensures, request .pick-notice5 .ensures, status .pick-notice4 .ensures, energy .pick-notice3 .ensures, opening .pick-notice2 .ensures, fresh .pick-notice .ensures)
+    rw (c .pick-notice4 .ensures, energy .pick-notice3 .ensures, opening .pick-notice2 .ensures, fresh .pick-notice .ensures)
 
 pub notice-or-spec : {M : Type 1} → statement M
 notice-or-spec =
     tie.close
     (tie.spec
-    (λ c. search needs) (λ c κs. search needs)
-    (λ c. search needs) (λ c κs. search needs)
     (λ c. search needs) (λ c κs. search needs)
     (λ c. search needs) (λ c κs. search needs)
     (λ c. search needs) (λ c κs. search needs)
