@@ -1,3 +1,4 @@
--- Document 01's marked cases, and answers at the boundaries, computed from the definitions.
+-- Document 01's marked cases, answers at the boundaries, and corrections, computed from the definitions.
 pub mod Marked
 pub mod Boundaries
+pub mod Corrections
