@@ -32,7 +32,7 @@ static void decode(const uint8_t *bytes, int64_t *table) {
 struct compared {
     struct chance chance;
     struct both both;
-    uint64_t calls, energies, accounts, allocations; /* all, and those given of each kind */
+    uint64_t calls, energies, corrections, accounts, allocations; /* all, and those given of each */
 };
 
 static void expect(bool holds, const char *what, const int64_t *args) {
@@ -59,6 +59,15 @@ static int64_t library_energy(uint8_t *bytes, uint8_t *answer, const int64_t *a)
 
 static struct plain_energy c_energy(int64_t *table, const int64_t *a) {
     return plain_energy(table, REGISTER_NUMBERS, a[0], a[1], a[2], a[3], a[4], a[5]);
+}
+
+static int64_t library_correct(uint8_t *bytes, uint8_t *answer, const int64_t *a) {
+    return petlumas_correct(bytes, BYTES, answer, PETLUMAS_CORRECT_ANSWER_BYTES, a[0], a[1], a[2],
+                            a[3]);
+}
+
+static struct plain_correction c_correct(int64_t *table, const int64_t *a) {
+    return plain_correct(table, REGISTER_NUMBERS, a[0], a[1], a[2], a[3]);
 }
 
 static int64_t library_account(const uint8_t *bytes, uint8_t *answer, const int64_t *a) {
@@ -97,6 +106,19 @@ static void compare_energy(struct compared *c, const int64_t *a) {
     c->energies += result == 0;
 }
 
+static void compare_correct(struct compared *c, const int64_t *a) {
+    uint8_t answer[PETLUMAS_CORRECT_ANSWER_BYTES];
+    int64_t result = library_correct(c->both.bytes, answer, a);
+    struct plain_correction plain = c_correct(c->both.table, a);
+    bool same = result == plain.refusal && get_number(answer, 0) == plain.refusal;
+    for (size_t k = 0; k < 16; k++)
+        same = same && get_number(answer, 1 + k) == plain.flags[k];
+    expect(same, "correct", a);
+    expect(same_table(&c->both), "correct, table", a);
+    c->calls++;
+    c->corrections += result == 0;
+}
+
 static void compare_account(struct compared *c, const int64_t *a) {
     uint8_t answer[PETLUMAS_ACCOUNT_ANSWER_BYTES];
     int64_t result = library_account(c->both.bytes, answer, a);
@@ -129,7 +151,7 @@ static void compare_allocate(struct compared *c, const int64_t *a) {
     c->allocations += result == 0;
 }
 
-/* The three calls on the register that arguments are chosen for, or on a damaged copy of it. */
+/* These calls on the register that arguments are chosen for, or on a damaged copy of it. */
 static void compare_calls(struct compared *c, uint64_t damages) {
     int64_t args[ARGS_MOST] = {0};
     memcpy(c->both.bytes, c->chance.reg, BYTES);
@@ -142,6 +164,9 @@ static void compare_calls(struct compared *c, uint64_t damages) {
     compare_allocate(c, args);
     choose_energy_notice(&c->chance, args);
     compare_energy(c, args);
+    choose_correct(&c->chance, args);
+    if (one_in(&c->chance, 3))
+        compare_correct(c, args);
 }
 
 /* Other notices, so that energy meets spans and requests. */
@@ -170,8 +195,8 @@ static void compare(struct compared *c, uint64_t lists, uint64_t length) {
         }
     }
     printf("equal answers and tables in %" PRIu64 " calls; given: %" PRIu64 " energy, %" PRIu64
-           " account, %" PRIu64 " allocate\n\n",
-           c->calls, c->energies, c->accounts, c->allocations);
+           " correct, %" PRIu64 " account, %" PRIu64 " allocate\n\n",
+           c->calls, c->energies, c->corrections, c->accounts, c->allocations);
 }
 
 /* ---- registers to time on */

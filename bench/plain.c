@@ -9,6 +9,8 @@ enum {
     ENERGY_MOST = 1000000,
     AMOUNT_MOST = 1000000000,
     USERS = 16,
+    DAYS = LAST_DAY + 2, /* a registration may start on the day after the last */
+    PERIOD = 425,
 };
 
 static const int64_t MIRN_MOST = 9999999999;
@@ -275,6 +277,69 @@ struct plain_energy plain_energy(int64_t *table, size_t length, int64_t mirn, in
     if (refusal != 0)
         return (struct plain_energy){refusal, 0, 0, 0, 0};
     return enter(p, row, start, end, energy, type);
+}
+
+/* ---- correct */
+
+/* The FRO of each day. */
+static void spread(const int64_t *p, int64_t *fro) {
+    memset(fro, 0, DAYS * sizeof *fro);
+    for (const int64_t *r = registrations(p); r < registrations_end(p); r += 2)
+        for (int64_t d = r[0]; d < DAYS; d++)
+            fro[d] = r[1];
+}
+
+/* Writes a point's registrations as the days have them; false where they are too many. */
+static bool gather(int64_t *p, const int64_t *fro, int64_t rows_most) {
+    int64_t rows[2 * REGISTRATIONS] = {0};
+    int64_t count = 0;
+    for (int64_t d = 0; d < DAYS; d++) {
+        if (fro[d] == 0 || (d > 0 && fro[d] == fro[d - 1]))
+            continue;
+        if (count == rows_most)
+            return false;
+        rows[2 * count] = d;
+        rows[2 * count + 1] = fro[d];
+        count++;
+    }
+    memcpy(p + REGISTRATION_ROWS, rows, sizeof rows);
+    p[REGISTRATION_COUNT] = count;
+    return true;
+}
+
+static struct plain_correction correct_point(int64_t *p, int64_t user, int64_t day) {
+    struct plain_correction answer = {21, {0}};
+    int64_t fro[DAYS];
+    bool stays = p[PENDING] != 0 && p[PENDING] != user;
+    spread(p, fro);
+    for (int64_t d = day; d < DAYS; d++) {
+        if (fro[d] == user)
+            continue;
+        answer.refusal = 0;
+        answer.flags[fro[d] - 1] = 1;
+        fro[d] = user;
+    }
+    if (answer.refusal != 0)
+        return answer;
+    if (!gather(p, fro, stays ? REGISTRATIONS - 1 : REGISTRATIONS))
+        return (struct plain_correction){16, {0}};
+    if (!stays)
+        p[PENDING] = p[FIRST] = p[LAST] = 0;
+    return answer;
+}
+
+struct plain_correction plain_correct(int64_t *table, size_t length, int64_t mirn, int64_t user,
+                                      int64_t day, int64_t notice) {
+    if (!plain_sound(table, length))
+        return (struct plain_correction){1, {0}};
+    if (!within(mirn, 1, MIRN_MOST) || !within(user, 1, USERS) || !is_day(day) || !is_day(notice))
+        return (struct plain_correction){2, {0}};
+    int64_t *p = find_point(table, mirn);
+    if (p == NULL)
+        return (struct plain_correction){4, {0}};
+    if (!within(day, most(p[INSTALL], notice - PERIOD), notice))
+        return (struct plain_correction){20, {0}};
+    return correct_point(p, user, day);
 }
 
 /* ---- account */

@@ -11,6 +11,10 @@ struct plain_energy {
     int64_t refusal, which, removed, user, lapsed;
 };
 
+struct plain_correction {
+    int64_t refusal, flags[16];
+};
+
 struct plain_account {
     int64_t refusal, sum;
 };
@@ -23,6 +27,10 @@ bool plain_sound(const int64_t *table, size_t length);
 
 struct plain_energy plain_energy(int64_t *table, size_t length, int64_t mirn, int64_t start,
                                  int64_t end, int64_t energy, int64_t type, int64_t confirmed);
+
+/* By days: whose each day is, before and after. */
+struct plain_correction plain_correct(int64_t *table, size_t length, int64_t mirn, int64_t user,
+                                      int64_t day, int64_t notice);
 
 struct plain_account plain_account(const int64_t *table, size_t length, int64_t user, int64_t from,
                                    int64_t to);

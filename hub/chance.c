@@ -143,6 +143,21 @@ void choose_withdraw(struct chance *c, int64_t *args) {
     args[1] = pending != 0 && !one_in(c, 3) ? pending : choose_user(c);
 }
 
+/* Often after the last registration's start, so that a point fills up, else near the start of any.
+   The notice day is mostly in time, else about the first one that is too late. */
+void choose_correct(struct chance *c, int64_t *args) {
+    size_t point = any_point(c);
+    int64_t rows = number_at(c, point + REGISTRATION_COUNT);
+    bool last = rows == 0 || !one_in(c, 4);
+    size_t row = last ? (size_t)(rows == 0 ? 0 : rows - 1) : (size_t)below(c, (uint64_t)rows);
+    int64_t start = number_at(c, point + REGISTRATION_ROWS + REGISTRATION_NUMBERS * row);
+    int64_t day = start + (last ? between(c, 1, 9) : between(c, -2, 9));
+    args[0] = choose_mirn(c, point);
+    args[1] = choose_user(c);
+    args[2] = mostly(c, day);
+    args[3] = mostly(c, day + (one_in(c, 8) ? between(c, 424, 427) : between(c, 0, 425)));
+}
+
 void choose_account(struct chance *c, int64_t *args) {
     int64_t from = between(c, 0, 600);
     args[0] = choose_user(c);

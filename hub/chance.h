@@ -32,6 +32,7 @@ void choose_energy_notice(struct chance *c, int64_t *args);
 void choose_status(struct chance *c, int64_t *args);
 void choose_request(struct chance *c, int64_t *args);
 void choose_withdraw(struct chance *c, int64_t *args);
+void choose_correct(struct chance *c, int64_t *args);
 void choose_account(struct chance *c, int64_t *args);
 void choose_allocate(struct chance *c, int64_t *args);
 void choose_date(struct chance *c, int64_t *args);

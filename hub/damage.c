@@ -18,7 +18,7 @@ enum {
     SHARES_BYTES = PETLUMAS_ALLOCATE_TABLE_BYTES,
     PAGE_BYTES = 4096,
     ARENA_BYTES = 16 * PAGE_BYTES,
-    REFUSALS = 20,
+    REFUSALS = 22,
     CASES_PER_REGISTER = 250,
 };
 
@@ -168,6 +168,11 @@ static int64_t call_withdraw(struct test *t, const int64_t *a) {
     return petlumas_withdraw(t->reg.at, t->reg.length, t->answer.at, t->answer.length, a[0], a[1]);
 }
 
+static int64_t call_correct(struct test *t, const int64_t *a) {
+    return petlumas_correct(t->reg.at, t->reg.length, t->answer.at, t->answer.length, a[0], a[1],
+                            a[2], a[3]);
+}
+
 static int64_t call_account(struct test *t, const int64_t *a) {
     return petlumas_account(t->reg.at, t->reg.length, t->answer.at, t->answer.length, a[0], a[1],
                             a[2]);
@@ -182,7 +187,19 @@ static int64_t call_date(struct test *t, const int64_t *a) {
     return petlumas_date(t->answer.at, t->answer.length, a[0], a[1], a[2]);
 }
 
-enum { FRESH, OPEN, ENERGY, STATUS, REQUEST, WITHDRAW, ACCOUNT, ALLOCATE, DATE, FUNCTIONS };
+enum {
+    FRESH,
+    OPEN,
+    ENERGY,
+    STATUS,
+    REQUEST,
+    WITHDRAW,
+    CORRECT,
+    ACCOUNT,
+    ALLOCATE,
+    DATE,
+    FUNCTIONS
+};
 
 static const struct function functions[FUNCTIONS] = {
     [FRESH] = {"fresh", 1, true, choose_fresh, call_fresh},
@@ -191,6 +208,7 @@ static const struct function functions[FUNCTIONS] = {
     [STATUS] = {"status", 1, true, choose_status, call_status},
     [REQUEST] = {"request", 3, true, choose_request, call_request},
     [WITHDRAW] = {"withdraw", 1, true, choose_withdraw, call_withdraw},
+    [CORRECT] = {"correct", 17, true, choose_correct, call_correct},
     [ACCOUNT] = {"account", 2, false, choose_account, call_account},
     [ALLOCATE] = {"allocate", 18, false, choose_allocate, call_allocate},
     [DATE] = {"date", 2, false, choose_date, call_date},

@@ -116,6 +116,13 @@ static bool play_withdraw(struct player *p, struct numbers n) {
     return print_answer(p, answer, sizeof answer / 8);
 }
 
+static bool play_correct(struct player *p, struct numbers n) {
+    uint8_t answer[PETLUMAS_CORRECT_ANSWER_BYTES];
+    petlumas_correct(p->buffer, lent_bytes(p), answer, sizeof answer, n.at[0], n.at[1], n.at[2],
+                     n.at[3]);
+    return print_answer(p, answer, sizeof answer / 8);
+}
+
 static bool play_account(struct player *p, struct numbers n) {
     uint8_t answer[PETLUMAS_ACCOUNT_ANSWER_BYTES];
     petlumas_account(p->buffer, lent_bytes(p), answer, sizeof answer, n.at[0], n.at[1], n.at[2]);
@@ -285,11 +292,14 @@ static bool hub_allocate(struct player *p, struct numbers n) {
 /* ---- lines */
 
 static const struct call calls[] = {
-    {"fresh", 2, play_fresh},     {"open", 7, play_open},         {"energy", 6, play_energy},
-    {"status", 3, play_status},   {"request", ANY, play_request}, {"withdraw", 2, play_withdraw},
-    {"account", 3, play_account}, {"allocate", 6, play_allocate}, {"date", 3, play_date},
-    {"look", 1, play_look},       {"poke", 2, play_poke},         {"tlen", 1, play_tlen},
-    {"alen", 1, play_alen},       {"table", 0, play_table},       {NULL, 0, NULL},
+    {"fresh", 2, play_fresh},       {"open", 7, play_open},
+    {"energy", 6, play_energy},     {"status", 3, play_status},
+    {"request", ANY, play_request}, {"withdraw", 2, play_withdraw},
+    {"correct", 4, play_correct},   {"account", 3, play_account},
+    {"allocate", 6, play_allocate}, {"date", 3, play_date},
+    {"look", 1, play_look},         {"poke", 2, play_poke},
+    {"tlen", 1, play_tlen},         {"alen", 1, play_alen},
+    {"table", 0, play_table},       {NULL, 0, NULL},
 };
 
 static const struct call hub_calls[] = {

@@ -5,7 +5,8 @@
  * little endian. petlumas_fresh makes a register of any bytes.
  *
  * Each function returns a refusal: 0 where the call was entered or answered,
- * else the lowest number of this list that applies. After a refusal the
+ * else the first number of its own list, under "Refusals", that applies: the
+ * lowest, but for petlumas_correct, which tests 16 last. After a refusal the
  * register is as it was.
  *
  *    1  the register is too short or (petlumas_fresh aside) unsound
@@ -26,8 +27,12 @@
  *   13  the allowable period leaves the days 0 to 39,999
  *   14  off while off, on while on, or a day that is too early
  *   15  there is nothing to split the load by
- *   16  no room: 33rd point, 49th record, 9th off span, 9th registration
+ *   16  no room: 33rd point, 49th record, 9th off span, 9th registration, or an
+ *       8th beside a request that stays pending
  *   19  the points left would not cover the other operators' unfilled reserves
+ *   20  the correction day is after the notice day or more than 425 days before
+ *       it, or before install
+ *   21  the User is FRO on every day from the correction day on already
  *
  * The answer is the refusal and then the fields that a function names, 8 bytes
  * each, little endian. It is written on a refusal too, with every field 0. An
@@ -64,6 +69,7 @@
 #define PETLUMAS_STATUS_ANSWER_BYTES 8
 #define PETLUMAS_REQUEST_ANSWER_BYTES 24
 #define PETLUMAS_WITHDRAW_ANSWER_BYTES 8
+#define PETLUMAS_CORRECT_ANSWER_BYTES 136
 #define PETLUMAS_ACCOUNT_ANSWER_BYTES 16
 #define PETLUMAS_ALLOCATE_ANSWER_BYTES 144
 #define PETLUMAS_DATE_ANSWER_BYTES 16
@@ -145,6 +151,20 @@ int64_t petlumas_request(uint8_t *PETLUMAS_RESTRICT reg, size_t reg_len,
 int64_t petlumas_withdraw(uint8_t *PETLUMAS_RESTRICT reg, size_t reg_len,
                           uint8_t *PETLUMAS_RESTRICT answer, size_t answer_len,
                           int64_t mirn, int64_t user);
+
+/* Corrects a transfer error: makes a User the point's FRO, its responsible
+ * User, from a day on. Later registrations go, and so does a pending request of
+ * that User; another User's stays. Records don't change.
+ * mirn, user: the point and the User.
+ * day: the correction day.
+ * notice: the notice day; day is at most 425 days before it.
+ * Answer: sixteen flags, for the Users 1 to 16: 1 where the User was FRO on some
+ *   day that has another FRO now, else 0.
+ * Refusals: 1, 2, 4, 20, 21, 16. */
+int64_t petlumas_correct(uint8_t *PETLUMAS_RESTRICT reg, size_t reg_len,
+                         uint8_t *PETLUMAS_RESTRICT answer, size_t answer_len,
+                         int64_t mirn, int64_t user, int64_t day,
+                         int64_t notice);
 
 /* Sums a User's energy.
  * user, from, to: the User, and the first and the last day.
