@@ -10,7 +10,7 @@ use Rattle.calendar.specs.Calendar.{allowablePeriod, businessDayBefore, busines
 use Rattle.daybook.specs.declared.Edition.{Edition}
 use Rattle.daybook.specs.Book.{fromOn, fill, withEntries, withOff, withFro, withPending, lastOf, gather, recordAt, records, begins, registrationAt, registrations, latest, spanAt, spans, lastFilled, appendDay, dayShare}
 use Rattle.daybook.specs.Notices.{least, Numbers, decide, find, put, withPoint, onPoint, freshRows, fresh, factsOf, opened, held, othersUnfilled, openingRows, opening, which, entryOf, energyEarly, offWithin, energyRows, laterStarts, entered, enter, energyRowsAt, energy, statusEarly, statusRows, switched, status, requestEarly, requestRows, request, withdrawEarly, withdrawRows, withdraw}
-use Rattle.daybook.specs.Corrections.{corrected, froChanged, affected, flags, correctEarly, crowded, correctRows, correctRowsAt, correctAt, correct}
+use Rattle.daybook.specs.Corrections.{corrected, froChanged, affected, flags, correctEarly, full, correctRows, correctRowsAt, correctAt, correct}
 use Rattle.daybook.specs.Queries.{sumOf, ownShare, accountOf, accountRows, account, someFilled, allFilled, dailyGas, meteredOf, tdmOf, nslOf, weight, weights, total, split, pointShares, totalOf, allocateRows, allocate}
 use Rattle.daybook.specs.Calls.{fresh!, open!, energy!, status!, request!, withdraw!, account!, allocate!, Call, notice!, query!, Answer, noted, given, State, step, answers}
 
@@ -68,7 +68,7 @@ numbers (a ∷ l) = a .0 ∷ numbers l
 
 -- Each call's numbers, the refusal first. To unfold this definition is to unfold the whole day book.
 unfoldable pub answersFrom : State → List Call → List Numbers
-unfolding all firstFrom lastBelow sumFrom floorPart ceilPart partialEnergy share allowablePeriod businessDayBefore businessDayAfter listed holidayList fromOn fill withEntries withOff withFro withPending lastOf gather recordAt records begins registrationAt registrations latest spanAt spans lastFilled appendDay dayShare least decide find put withPoint onPoint freshRows fresh factsOf opened held othersUnfilled openingRows opening which entryOf energyEarly offWithin energyRows laterStarts entered enter energyRowsAt energy statusEarly statusRows switched status requestEarly requestRows request withdrawEarly withdrawRows withdraw corrected froChanged affected flags correctEarly crowded correctRows correctRowsAt correctAt correct sumOf ownShare accountOf accountRows account someFilled allFilled dailyGas meteredOf tdmOf nslOf weight weights total split pointShares totalOf allocateRows allocate noted given step answers
+unfolding all firstFrom lastBelow sumFrom floorPart ceilPart partialEnergy share allowablePeriod businessDayBefore businessDayAfter listed holidayList fromOn fill withEntries withOff withFro withPending lastOf gather recordAt records begins registrationAt registrations latest spanAt spans lastFilled appendDay dayShare least decide find put withPoint onPoint freshRows fresh factsOf opened held othersUnfilled openingRows opening which entryOf energyEarly offWithin energyRows laterStarts entered enter energyRowsAt energy statusEarly statusRows switched status requestEarly requestRows request withdrawEarly withdrawRows withdraw corrected froChanged affected flags correctEarly full correctRows correctRowsAt correctAt correct sumOf ownShare accountOf accountRows account someFilled allFilled dailyGas meteredOf tdmOf nslOf weight weights total split pointShares totalOf allocateRows allocate noted given step answers
 answersFrom S calls = numbers (answers calls S)
 
 -- From nothing: what stands in the book before fresh does not matter.

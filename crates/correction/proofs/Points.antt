@@ -13,13 +13,13 @@ use Rattle.numbers.specs.Search.{isSome}
 use Rattle.numbers.proofs.Bools.{both, iff}
 use Rattle.daybook.specs.Book.{Pending, withFro, withPending}
 use Rattle.daybook.specs.Notices.{least, users}
-use Rattle.daybook.specs.Corrections.{othersRequest, corrected, froChanged, flags, permitted, crowded, correctRows, correctRowsAt, correctAt}
+use Rattle.daybook.specs.Corrections.{othersRequest, corrected, froChanged, flags, permitted, full, correctRows, correctRowsAt, correctAt}
 use Rattle.lists.specs.Lists.{Lists, pointOf}
 use Rattle.lists.specs.InnerSteps.{latestOf, earlier, userFrom, withRegs, withPendingLists, correctedLists, correctListsAt}
 use Rattle.lists.specs.InnerWell.{Well}
 use Rattle.lists.proofs.Registrations.{latest-at}
 use Rattle.lists.proofs.FroChanges.{affected-is, changes-is}
-use Rattle.lists.proofs.CorrectStep.{correct-clear, crowded-is}
+use Rattle.lists.proofs.CorrectStep.{correct-clear, full-is}
 use Rattle.layout.specs.Layout.{pendingFrom, numAt, pointNumbers, pointFrom}
 use Rattle.layout.specs.InnerWrites.{appendRegistration, cutRegistrations, clearPending}
 use Rattle.layout.specs.InnerParts.{roomOf, SoundPart}
@@ -103,45 +103,45 @@ module _ {p : List ℤ} (s : SoundPart p) (user day : ℕ) (low : 1 ≤ user) (h
     rows-are : least (correctRowsAt user day notice (pointOf q))
         ≡ cond (not (permitted (q .facts .install) notice day)) 20
         (cond (not (froChanged (λ u. true) (pointOf q .fro) (corrected user day (pointOf q) .fro))) 21
-        (cond (crowded (corrected user day (pointOf q))) 16 0))
+        (cond (full (corrected user day (pointOf q))) 16 0))
     unfolding correctRowsAt pointOf
     rows-are = in-order _ _ _
 
-    -- by registrations: the latest is the User's and has started, and they are too many
-    abbrev unchanged : Bool
-    unchanged = leb (latestOf (q .regs) .0) day && eqb (latestOf (q .regs) .1) user
+    -- by registrations: the latest is the User's and has started; those that are left are too many
+    abbrev sameUser : Bool
+    sameUser = leb (latestOf (q .regs) .0) day && eqb (latestOf (q .regs) .1) user
 
-    abbrev full : Bool
-    full = ltb (cond (isSome (othersRequest user (q .pending))) 7 8) (length (userFrom day user (q .regs)))
+    abbrev tooMany : Bool
+    tooMany = ltb (cond (isSome (othersRequest user (q .pending))) 7 8) (length (userFrom day user (q .regs)))
 
     module _ (e : permitted (q .facts .install) notice day ≡ true) where
       from : q .facts .install ≤ day
       from = leb-true _ _ (both _ _ (both _ _ e .0) .0)
 
-      unchanged-is : not (froChanged (λ u. true) (pointOf q .fro) (corrected user day (pointOf q) .fro)) ≡ unchanged
+      same-is : not (froChanged (λ u. true) (pointOf q .fro) (corrected user day (pointOf q) .fro)) ≡ sameUser
       unfolding corrected withFro withPending pointOf
-      unchanged-is = ap not (changes-is (w .regsOk) (w .regsStart) day user from (omega arith)) ∙ Bool·not-not unchanged
+      same-is = ap not (changes-is (w .regsOk) (w .regsStart) day user from (omega arith)) ∙ Bool·not-not sameUser
 
-      full-is : crowded (corrected user day (pointOf q)) ≡ full
-      full-is = crowded-is user day q w from (omega arith) low high
+      many-is : full (corrected user day (pointOf q)) ≡ tooMany
+      many-is = full-is user day q w from (omega arith) low high
 
     -- outside the period neither matters
-    pub row-is : least (correctRows (not (permitted (q .facts .install) notice day)) unchanged full)
+    pub row-is : least (correctRows (not (permitted (q .facts .install) notice day)) sameUser tooMany)
         ≡ least (correctRowsAt user day notice (pointOf q))
     row-is = in-order _ _ _ ∙ go (permitted (q .facts .install) notice day) refl ∙ sym rows-are
       where
         go : (t : Bool) → permitted (q .facts .install) notice day ≡ t
-            → _≡_ {A = ℕ} (cond (not t) 20 (cond unchanged 21 (cond full 16 0)))
+            → _≡_ {A = ℕ} (cond (not t) 20 (cond sameUser 21 (cond tooMany 16 0)))
             (cond (not t) 20 (cond (not (froChanged (λ u. true) (pointOf q .fro)
             (corrected user day (pointOf q) .fro))) 21
-            (cond (crowded (corrected user day (pointOf q))) 16 0)))
-        go true e = rw (unchanged-is e, full-is e)
+            (cond (full (corrected user day (pointOf q))) 16 0)))
+        go true e = rw (same-is e, many-is e)
         go false e = refl
 
     -- by the places of the part
     pub rows-read : {outside same many : Bool} → outside ≡ not (permitted (numAt p 2) notice day)
         → same ≡ (leb (numAt p (16 + 2 * (numAt p 4 - 1))) day && eqb (numAt p (16 + 2 * (numAt p 4 - 1) + 1)) user)
-        → many ≡ full
+        → many ≡ tooMany
         → least (correctRows outside same many) ≡ least (correctRowsAt user day notice (pointOf q))
     unfolding pointFrom
     rows-read a b c =
@@ -172,7 +172,7 @@ module _ {p : List ℤ} (s : SoundPart p) (user day : ℕ) (low : 1 ≤ user) (h
     pub room-left : length (userFrom day user (q .regs)) ≤ 8
     room-left =
         go (isSome (othersRequest user (q .pending)))
-        (sym (crowded-is user day q w from-install (omega arith) low high)
+        (sym (full-is user day q w from-install (omega arith) low high)
         ∙ correct-clear user day notice (pointOf q) e .1)
       where
         go : (t : Bool) → ltb (cond t 7 8) (length (userFrom day user (q .regs))) ≡ false

@@ -49,8 +49,8 @@ abbrev pub permitted : ℕ → ℕ → ℕ → Bool
 permitted install notice day = leb install day && leb (notice - 425) day && leb day notice
 
 -- More than 8 registrations, or more than 7 beside a request that stays pending.
-unfoldable pub crowded : Point → Bool
-crowded p = ltb (cond (isSome (p .pending)) 7 8) (length (registrations p))
+unfoldable pub full : Point → Bool
+full p = ltb (cond (isSome (p .pending)) 7 8) (length (registrations p))
 
 -- 20 and 21 are tested before 16, though 16 is the lowest.
 unfoldable pub correctRows : Bool → Bool → Bool → List Row
@@ -61,7 +61,7 @@ unfoldable pub correctRowsAt : ℕ → ℕ → ℕ → Point → List Row
 correctRowsAt user day notice p =
     let after : Point = corrected user day p in
     correctRows (not (permitted (p .facts .install) notice day)) (not (froChanged (λ u. true) (p .fro) (after .fro)))
-    (crowded after)
+    (full after)
 
 -- ---- the call
 

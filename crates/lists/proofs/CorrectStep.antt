@@ -15,7 +15,7 @@ use Rattle.daybook.specs.declared.Correction.{Correction}
 use Rattle.daybook.specs.declared.Edition.{Edition}
 use Rattle.daybook.specs.Book.{Pending, Point, days, registrations, withFro, withPending}
 use Rattle.daybook.specs.Notices.{Row, least, Numbers, isMirn}
-use Rattle.daybook.specs.Corrections.{othersRequest, corrected, permitted, crowded, correctEarly, correctRows, correctRowsAt, correctAt, correct}
+use Rattle.daybook.specs.Corrections.{othersRequest, corrected, permitted, full, correctEarly, correctRows, correctRowsAt, correctAt, correct}
 use Rattle.lists.specs.Lists.{Lists, Register, bookFacts, offOn, entryOn, pointOf, bookOf}
 use Rattle.lists.specs.InnerSteps.{latestOf, userFrom, withRegs, withPendingLists, correctedLists, correctListsAt, correctLists}
 use Rattle.lists.specs.InnerWell.{PendingOk, nopending, pending, Well, WellFormed}
@@ -59,7 +59,7 @@ past outside unchanged full a b e = rw (a, b) at e
 
 -- The correction day is on or after install, and there is room.
 pub correct-clear : (user day notice : ℕ) (p : Point) → least (correctRowsAt user day notice p) ≡ 0
-    → (p .facts .install ≤ day) × (crowded (corrected user day p) ≡ false)
+    → (p .facts .install ≤ day) × (full (corrected user day p) ≡ false)
 unfolding correctRowsAt correctRows
 correct-clear user day notice p z =
     let twenty = least-none 19 _ _ z in
@@ -89,11 +89,11 @@ module _ (user day : ℕ) {room : ℕ} (q : Lists) (w : Well room q) where
 
   -- how many registrations it has
   module _ (from : q .facts .install ≤ day) (dayOk : day ≤ 40000) (userLow : 1 ≤ user) (userHigh : user ≤ 16) where
-    pub crowded-is : crowded (corrected user day (pointOf q))
+    pub full-is : full (corrected user day (pointOf q))
         ≡ ltb (cond (isSome (othersRequest user (q .pending))) 7 8) (length (userFrom day user (q .regs)))
-    unfolding crowded registrations correctedLists withRegs withPendingLists pointOf
-    crowded-is =
-        ap crowded corrected-is
+    unfolding full registrations correctedLists withRegs withPendingLists pointOf
+    full-is =
+        ap full corrected-is
         ∙ ap (λ l. ltb (cond (isSome (othersRequest user (q .pending))) 7 8) (length l))
         (regs-scan (regs-from (w .regsOk) day user from dayOk userLow userHigh))
 
@@ -120,10 +120,10 @@ module _ (user day : ℕ) {room : ℕ} (q : Lists) (w : Well room q) where
             ∙ ne-eqb user (r .user) (λ z. eqb-false (r .user) user t (sym z)) in
             (omega arith, pending a b ne d f l)
 
-    corrected-keeps : crowded (corrected user day (pointOf q)) ≡ false → Well room (correctedLists user day q)
+    corrected-keeps : full (corrected user day (pointOf q)) ≡ false → Well room (correctedLists user day q)
     unfolding correctedLists withRegs withPendingLists
     corrected-keeps e =
-        let after = request-keeps (q .pending) (w .pendingOk) (sym crowded-is ∙ e) in
+        let after = request-keeps (q .pending) (w .pendingOk) (sym full-is ∙ e) in
         record {
           factsOk = w .factsOk;
           regsOk = regs-from (w .regsOk) day user from dayOk userLow userHigh;

@@ -198,11 +198,11 @@ withdrawLists n R =
     onLists 0 (n .mirn) (withdrawEarly n) (λ q. withdrawRows (natOf (n .user)) (q .pending))
     (λ q. ([], withPendingLists none q)) R
 
--- The rows and the flags are those of the days.
 unfoldable pub correctedLists : ℕ → ℕ → Lists → Lists
 correctedLists user day q =
     withRegs (userFrom day user (q .regs)) (withPendingLists (othersRequest user (q .pending)) q)
 
+-- The flags, and below the rows, are those of the days.
 unfoldable pub correctListsAt : ℕ → ℕ → Lists → Numbers × Lists
 correctListsAt user day q = (correctAt user day (pointOf q) .0, correctedLists user day q)
 
