@@ -8,7 +8,7 @@ use native.Mathlib.Omega.{arith}
 use lib.Dec.{leb, ltb, eqb}
 use lib.ListN.{length, getD, drop, replicate, take-append-drop}
 use lib.IntN.{ℤ, pos}
-use borrow.Author.Tests.{leb-true, ltb-false, le-leb, eq-eqb, ne-eqb}
+use borrow.Author.Tests.{leb-true, le-leb, eq-eqb, ne-eqb}
 use Rattle.numbers.specs.Search.{isSome}
 use Rattle.numbers.proofs.Bools.{both, iff}
 use Rattle.daybook.specs.Book.{Pending, withFro, withPending}
@@ -19,7 +19,7 @@ use Rattle.lists.specs.InnerSteps.{latestOf, earlier, userFrom, withRegs, withP
 use Rattle.lists.specs.InnerWell.{Well}
 use Rattle.lists.proofs.Registrations.{latest-at}
 use Rattle.lists.proofs.FroChanges.{affected-is, changes-is}
-use Rattle.lists.proofs.CorrectStep.{correct-clear, full-is}
+use Rattle.lists.proofs.CorrectStep.{correct-clear, full-is, corrected-keeps}
 use Rattle.layout.specs.Layout.{pendingFrom, numAt, pointNumbers, pointFrom}
 use Rattle.layout.specs.InnerWrites.{appendRegistration, cutRegistrations, clearPending}
 use Rattle.layout.specs.InnerParts.{roomOf, SoundPart}
@@ -170,15 +170,10 @@ module _ {p : List ℤ} (s : SoundPart p) (user day : ℕ) (low : 1 ≤ user) (h
 
     -- there is room for the registrations
     pub room-left : length (userFrom day user (q .regs)) ≤ 8
+    unfolding correctedLists withRegs withPendingLists
     room-left =
-        go (isSome (othersRequest user (q .pending)))
-        (sym (full-is user day q w from-install (omega arith) low high)
-        ∙ correct-clear user day notice (pointOf q) e .1)
-      where
-        go : (t : Bool) → ltb (cond t 7 8) (length (userFrom day user (q .regs))) ≡ false
-            → length (userFrom day user (q .regs)) ≤ 8
-        go true x = omega (arith, ltb-false 7 (length (userFrom day user (q .regs))) x)
-        go false x = ltb-false 8 (length (userFrom day user (q .regs))) x
+        corrected-keeps user day q w from-install (omega arith) low high (correct-clear user day notice (pointOf q) e .1)
+        .regsFew
 
   -- ---- the registrations after it
 

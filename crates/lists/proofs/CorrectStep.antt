@@ -11,6 +11,7 @@ use borrow.Author.Tests.{leb-true, ltb-false, eqb-false, ne-eqb, not-false}
 use Rattle.numbers.specs.Naturals.{natOf}
 use Rattle.numbers.specs.Search.{isSome}
 use Rattle.numbers.proofs.Bools.{both}
+use Rattle.calendar.specs.Calendar.{isDay}
 use Rattle.daybook.specs.declared.Correction.{Correction}
 use Rattle.daybook.specs.declared.Edition.{Edition}
 use Rattle.daybook.specs.Book.{Pending, Point, days, registrations, withFro, withPending}
@@ -26,27 +27,24 @@ use Rattle.lists.proofs.Bounds.{within-bounds, both-hold}
 
 -- ---- where no row applies
 
--- The numbers of a correction in range.
+-- What row 2 tells of the numbers that a point's lists take.
 pub record CorrectNumbers (n : Correction) : Type 0 where
   pub userLow : 1 ≤ natOf (n .user)
   pub userHigh : natOf (n .user) ≤ 16
   pub dayOk : natOf (n .day) ≤ 39999
-  pub noticeOk : natOf (n .notice) ≤ 39999
 
 pub correct-numbers : (n : Correction) (rows : List Row) → least (correctEarly n ++ rows) ≡ 0
     → CorrectNumbers n × (least rows ≡ 0)
 unfolding correctEarly
 correct-numbers n rows z =
     let two = least-none 1 _ _ z in
-    let notice = both-hold _ _ (two .0) in
-    let day = both _ _ (notice .0) in
+    let day = both _ _ (both-hold _ (isDay (n .notice)) (two .0) .0) in
     let user = both (isMirn (n .mirn)) _ (day .0) in
     let u = within-bounds 1 16 (n .user) (user .1) in (
       record {
         userLow = u .0;
         userHigh = u .1;
         dayOk = within-bounds 0 39999 (n .day) (day .1) .1;
-        noticeOk = within-bounds 0 39999 (n .notice) (notice .1) .1;
       },
       two .1,
     )
@@ -120,7 +118,7 @@ module _ (user day : ℕ) {room : ℕ} (q : Lists) (w : Well room q) where
             ∙ ne-eqb user (r .user) (λ z. eqb-false (r .user) user t (sym z)) in
             (omega arith, pending a b ne d f l)
 
-    corrected-keeps : full (corrected user day (pointOf q)) ≡ false → Well room (correctedLists user day q)
+    pub corrected-keeps : full (corrected user day (pointOf q)) ≡ false → Well room (correctedLists user day q)
     unfolding correctedLists withRegs withPendingLists
     corrected-keeps e =
         let after = request-keeps (q .pending) (w .pendingOk) (sym full-is ∙ e) in

@@ -40,10 +40,13 @@ module _ (test : ℕ → Bool) (d : ℕ) where
           let g : e < y .0 = leb-false (y .0) e q in
           rw (lt-ltb d (y .0) (omega arith), ap test (sym (user-before whole (x .1) e g)) ∙ t)
 
-  -- a registration that has such a day has one by day 40,000
+  -- a day from d and from x's start on, up to 40,000, of whose User the test holds
+  abbrev Day : ℕ × ℕ → List (ℕ × ℕ) → Type 0
+  Day x l = (e : ℕ) × (d ≤ e) × (x .0 ≤ e) × (e ≤ 40000) × (test (userOn (x .1) l e) ≡ true)
+
+  -- where a registration has such a day there is one
   some-user : {l : List (ℕ × ℕ)} (x : ℕ × ℕ) → Regs (x .1) (suc (x .0)) l → d ≤ 40000 → x .0 ≤ 40000
-      → someUser test d (x ∷ l) ≡ true
-      → (e : ℕ) × (d ≤ e) × (x .0 ≤ e) × (e ≤ 40000) × (test (userOn (x .1) l e) ≡ true)
+      → someUser test d (x ∷ l) ≡ true → Day x l
   unfolding someUser userOn
   some-user x noreg h k s = (max d (x .0), omega arith, omega arith, omega arith, one (test (x .1)) s)
     where
@@ -56,14 +59,11 @@ module _ (test : ℕ → Bool) (d : ℕ) where
       whole : Regs (x .1) (y .0) (y ∷ m)
       whole = reg {lo = y .0} {x = y} (omega arith) b c f n r
 
-      later : ((e : ℕ) × (d ≤ e) × (y .0 ≤ e) × (e ≤ 40000) × (test (userOn (y .1) m e) ≡ true))
-          → (e : ℕ) × (d ≤ e) × (x .0 ≤ e) × (e ≤ 40000) × (test (userOn (x .1) (y ∷ m) e) ≡ true)
+      later : Day y m → Day x (y ∷ m)
       later i = (i .0, i .1, omega arith, i .3, ap test (user-since (x .1) y m (i .0) (i .2)) ∙ i .4)
 
       go : (p t : Bool) → ltb d (y .0) ≡ p → test (x .1) ≡ t → ((p && t) || someUser test d (y ∷ m)) ≡ true
-          → (someUser test d (y ∷ m) ≡ true
-          → (e : ℕ) × (d ≤ e) × (y .0 ≤ e) × (e ≤ 40000) × (test (userOn (y .1) m e) ≡ true))
-          → (e : ℕ) × (d ≤ e) × (x .0 ≤ e) × (e ≤ 40000) × (test (userOn (x .1) (y ∷ m) e) ≡ true)
+          → (someUser test d (y ∷ m) ≡ true → Day y m) → Day x (y ∷ m)
       go true true p t s ih =
           let g : max d (x .0) < y .0 = omega (arith, ltb-true d (y .0) p) in
           (max d (x .0), omega arith, omega arith, omega arith, ap test (user-before whole (x .1) (max d (x .0)) g) ∙ t)
@@ -162,8 +162,8 @@ module _ (d u : ℕ) where
   others-since x (reg {x = y} a b c f n r) h e = rw (lt-ltb d (y .0) (omega arith), e)
 
   others-is : {l : List (ℕ × ℕ)} (x : ℕ × ℕ) → Regs (x .1) (suc (x .0)) l → x .0 ≤ d
-      → someUser other d (x ∷ l) ≡ not
-      (leb (maybe x (λ y. y) (lastOf l) .0) d && eqb (maybe x (λ y. y) (lastOf l) .1) u)
+      → someUser other d (x ∷ l)
+      ≡ not (leb (maybe x (λ y. y) (lastOf l) .0) d && eqb (maybe x (λ y. y) (lastOf l) .1) u)
   unfolding someUser lastOf
   others-is x noreg h = rw (le-leb (x .0) d h) (or-false (other (x .1)))
   others-is x (reg {x = y} {l = m} a b c f n r) h = go (leb (y .0) d) (eqb (x .1) u) refl refl (λ g. others-is y r g)
@@ -183,7 +183,8 @@ module _ (d u : ℕ) where
           let g : d < y .0 = leb-false (y .0) d q in
           let p : y .0 ≤ last .0 = last-after y r in
           let i : eqb (y .1) u ≡ false =
-          ap (λ v. eqb (y .1) v) (sym (eqb-true (x .1) u e)) ∙ ne-eqb (y .1) (x .1) (λ z. eqb-false (x .1) (y .1) n (sym z)) in
+          ap (λ v. eqb (y .1) v) (sym (eqb-true (x .1) u e))
+          ∙ ne-eqb (y .1) (x .1) (λ z. eqb-false (x .1) (y .1) n (sym z)) in
           rw (others-since y r (omega arith) i, lt-leb (last .0) d (omega arith))
           (or-true (ltb d (y .0) && not (eqb (x .1) u)))
 
