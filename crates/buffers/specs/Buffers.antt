@@ -1,6 +1,6 @@
 -- The calls on bytes, 8 a number, little endian. A buffer may be longer than its numbers; the bytes past them stay.
 use mathlib.Core.Bool.{cond}
-use mathlib.Core.List.{List}
+use mathlib.Core.List.{List, []}
 use Prim.Native.Nat.{ℕ, _*_, _/_}
 use lib.Dec.{leb}
 use lib.IntN.{ℤ, pos}
@@ -34,9 +34,17 @@ replied ns answer =
     cond (leb (8 * length ns) (length answer)) (refusal, withNumbers ns answer)
     (cond (sameZ refusal (pos 1)) (pos 1) (pos 2), answer)
 
--- The same of a call that also has numbers for a lent buffer, a register or an answer table. They are written where the
--- result is 0. The result, the buffer's bytes, the answer's bytes.
+-- The same of a call that also has bytes for a lent buffer. The buffer has them where the result is 0. The result, the
+-- buffer's bytes, the answer's bytes.
+abbrev pub writtenBytes : Numbers × List ℕ → List ℕ → List ℕ → ℤ × (List ℕ × List ℕ)
+writtenBytes w buffer answer =
+    let r : ℤ × List ℕ = replied (w .0) answer in (r .0, (cond (sameZ (r .0) (pos 0)) (w .1) buffer, r .1))
+
+-- And of one that has numbers for a lent buffer, a register or an answer table.
 unfoldable pub written : Numbers × List ℤ → List ℕ → List ℕ → ℤ × (List ℕ × List ℕ)
-written w buffer answer =
-    let r : ℤ × List ℕ = replied (w .0) answer in
-    (r .0, (cond (sameZ (r .0) (pos 0)) (withNumbers (w .1) buffer) buffer, r .1))
+written w buffer answer = writtenBytes (w .0, withNumbers (w .1) buffer) buffer answer
+
+-- The bytes of an image that a save or a restore is lent: none where its answer's buffer is too short. Then it gets 2,
+-- or 1 by the register, whatever the image holds.
+unfoldable pub imageIn : List ℕ → List ℕ → List ℕ
+imageIn image answer = cond (leb 8 (length answer)) image []

@@ -7,7 +7,7 @@ ghost use lib.IntN.{pos};
 ghost use lib.ListN.{length, getD};
 ghost use Rattle.daybook.specs.Notices.{highestRefusal};
 ghost use Rattle.layout.specs.Layout.{tableLength};
-ghost use Rattle.buffers.specs.Buffers.{numbersIn, withNumbers, tableIn, replied, written};
+ghost use Rattle.buffers.specs.Buffers.{numbersIn, withNumbers, tableIn, replied, written, imageIn};
 
 // The bytes of a register.
 const REGISTER_BYTES: usize = 61504;
@@ -65,6 +65,17 @@ pub fn shares_in<'a, 'b>(shares: &'a [u8], t: &'b mut [i64]) -> &'b mut [i64]
         return &mut t[..32];
     }
     &mut t[..n]
+}
+
+// How many bytes of an image are lent on, by a call that answers with no field: all, or none where its answer's buffer
+// is too short.
+pub fn image_room(image: &[u8], answer: &[u8]) -> usize
+    ensures { λ r. ⌜ (r ≡ length (imageIn (now (image .entry)) (now (answer .entry)))) × (r ≤ length (now (image .entry))) ⌝ }
+{
+    if answer.len() < 8 {
+        return 0;
+    }
+    image.len()
 }
 
 // Writes numbers, given as their bits, from the first byte on.

@@ -20,10 +20,8 @@ use Rattle.layout.specs.Calls.{answerAndTable}
 use Rattle.layout.proofs.Editions.{edition-fits}
 use Rattle.layout.proofs.Notices.{written-length}
 use Rattle.opening.specs.Opening.{freshCall}
-use Rattle.history.specs.Runs.{noticeCall, freshState}
-use Rattle.history.specs.Agreement.{StandsFor}
-use Rattle.history.proofs.Steps.{state-is, own-sound}
-use Rattle.history.proofs.Runs.{fresh-begins}
+use Rattle.history.specs.Runs.{noticeCall, freshState, zeroImages}
+use Rattle.history.proofs.Runs.{fresh-table, zeros-hold}
 use Rattle.buffers.specs.Buffers.{withNumbers, tableIn, replied, written}
 use Rattle.bytelists.specs.ByteLists.{petlumas-fresh, hub-notice, noticeIn, byteStep}
 use Rattle.bytelists.proofs.Back.{table-whole, table-none}
@@ -78,17 +76,18 @@ accepted-is t n = go (leb tableLength (length t)) refl (least (freshRows n)) ref
     go true h (suc r) z e = let k : suc r ≡ 0 = cc in absurd (omega arith)
     go false h row z e = let k : _≡_ {A = ℕ} 1 0 = cc in absurd (omega arith)
 
-pub fresh-holds : (b₀ second answer : List ℕ) (n : Ranges)
-    → byteStep (hub-notice (petlumas-fresh n)) second answer (record { register = b₀ }) .0 .0 ≡ pos 0
-    → Holds (byteStep (hub-notice (petlumas-fresh n)) second answer (record { register = b₀ }) .1) (freshState (editionOf (tableIn b₀)) n)
+pub fresh-holds : (b₀ second answer : List ℕ) (n : Ranges) (past : ℕ → ℕ)
+    → byteStep (hub-notice (petlumas-fresh n)) second answer (record { register = b₀; images = zeroImages past }) .0 .0 ≡ pos 0
+    → Holds (byteStep (hub-notice (petlumas-fresh n)) second answer (record { register = b₀; images = zeroImages past }) .1)
+    (freshState (editionOf (tableIn b₀)) n)
 unfolding byteStep noticeIn noticeCall
-fresh-holds b₀ second answer n returned =
+fresh-holds b₀ second answer n past returned =
     let (refusal, bytes) = returned-zero (freshCall t n) b₀ answer returned in
     let a : Accepted t (freshCall t n) n = accepted-is t n refusal in
-    let r : StandsFor (record { table = freshCall t n .1 }) (freshState (editionOf t) n) = fresh-begins t n (a .answer) in
-    subst (λ b. Holds (record { register = b }) (freshState (editionOf t) n)) (sym bytes)
-    (subst (Holds (record { register = withNumbers (freshCall t n .1) b₀ })) (state-is r)
-    (table-put (freshCall t n .1) b₀ (own-sound r) (a .left (table-whole b₀ (enough (a .long)))) (enough (a .long))))
+    subst (λ b. Holds (record { register = b; images = zeroImages past }) (freshState (editionOf t) n)) (sym bytes)
+    (table-put (freshCall t n .1) b₀ (zeroImages past) (freshState (editionOf t) n)
+    (record { table = fresh-table t n (a .answer); images = zeros-hold (editionOf t) past })
+    (a .left (table-whole b₀ (enough (a .long)))) (enough (a .long)))
   where
     t : List ℤ
     t = tableIn b₀

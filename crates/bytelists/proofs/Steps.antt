@@ -1,33 +1,42 @@
 -- A call through the hub on bytes that stand for a state replies as the book does, and leaves bytes that stand for the
 -- state after it. Assumes nothing.
-use mathlib.Core.Path.{_≡_, refl, sym, _∙_, ap, subst}
-use mathlib.Core.Bool.{Bool, true, false, not, cond, false≢true}
-use mathlib.Core.List.{List, [], _∷_}
-use Prim.Native.Nat.{ℕ, _*_, _≤_}
+use mathlib.Core.Path.{_≡_, refl, sym, _∙_, ap, subst, fun-ext}
+use mathlib.Core.Bool.{Bool, true, false, not, cond, and-false, false≢true}
+use mathlib.Core.List.{List, [], _∷_, _++_}
+use Prim.Native.Nat.{ℕ, zero, suc, _*_, _≤_}
 use native.Mathlib.Omega.{arith}
-use lib.Dec.{leb}
+use lib.Dec.{leb, eqb}
 use lib.IntN.{ℤ, pos}
-use lib.ListN.{length, getD}
-use Rattle.numbers.specs.Naturals.{sameZ}
+use lib.ListN.{length, getD, take, drop, take-append-drop, length-append, length-drop}
+use borrow.Author.Tests.{eqb-true, ne-eqb}
+use Rattle.numbers.specs.Naturals.{natOf, sameZ}
 use Rattle.numbers.specs.Answers.{refused}
 use Rattle.numbers.proofs.Bools.{cond-same}
 use Rattle.words.specs.Tables.{encodedInto}
-use Rattle.daybook.specs.Notices.{Numbers}
-use Rattle.daybook.specs.Calls.{Notice, notice!, State, Answer, noted, step}
+use Rattle.numbers.specs.Search.{isSome}
+use Rattle.daybook.specs.Notices.{least, Numbers, decide}
+use Rattle.daybook.specs.States.{isState, stateRow, under}
+use Rattle.daybook.specs.Calls.{Notice, StateCall, save!, restore!, state!, State, Answer, noted, stated, step}
+use Rattle.lists.proofs.Rows.{decide-keeps}
 use Rattle.layout.specs.Layout.{tableLength, editionOf, tableBook, withBook}
 use Rattle.layout.specs.Sound.{sound}
 use Rattle.layout.specs.Calls.{answerAndTable}
 use Rattle.layout.proofs.Editions.{edition-fits}
 use Rattle.layout.proofs.Notices.{notice-length}
-use Rattle.history.specs.Runs.{noticeCall, Lent, lentStep}
+use Rattle.images.specs.Blocks.{imageNumbers}
+use Rattle.images.specs.Images.{saveCall, restoreCall}
+use Rattle.images.proofs.Saved.{length-numbers}
+use Rattle.images.proofs.Calls.{asked, Kept, save-kept, save-out, restore-kept, restore-out}
+use Rattle.history.specs.Runs.{noticeCall, queryCall, stateCall, lentStep}
 use Rattle.history.specs.Agreement.{StandsFor}
 use Rattle.history.proofs.Steps as OnTables
-use Rattle.history.proofs.Steps.{stateOf, notice-is, step-agrees, state-is, own-sound}
-use Rattle.buffers.specs.Buffers.{withNumbers, tableIn, replied, written}
-use Rattle.bytelists.specs.ByteLists.{HubCall, hub-notice, hub-query, Reply, noticeIn, callIn, LentBytes, lentIn, byteStep, bookStep}
+use Rattle.history.proofs.States.{own-sound}
+use Rattle.history.proofs.Steps.{notice-is, call-agrees}
+use Rattle.buffers.specs.Buffers.{withNumbers, tableIn, replied, writtenBytes, written, imageIn}
+use Rattle.bytelists.specs.ByteLists.{HubState, HubCall, hub-notice, hub-query, hub-state, petlumas-save, petlumas-restore, Reply, noticeIn, queryIn, stateIn, callIn, LentBytes, lentIn, stateStep, byteStep, bookStep}
 use Rattle.bytelists.proofs.Back.{bytes-length, table-whole, table-back}
 
--- Bytes of a register that stands for the state S.
+-- Bytes of a register that stands for the state S, beside images.
 pub record Holds (L : LentBytes) (S : State) : Type 0 where
   pub long : 61504 ≤ length (L .register)
   pub standsFor : StandsFor (lentIn L) S
@@ -41,14 +50,13 @@ refused-is : (ns : Numbers) → sameZ (getD ns 0 (pos 0)) (pos 0) ≡ false → 
 refused-is [] e = absurd (false≢true (sym e))
 refused-is (r ∷ ns) e = ap not e
 
--- a sound table, written over a register's bytes
-pub table-put : (t : List ℤ) (b : List ℕ) → sound (editionOf t) t ≡ true → length t ≡ tableLength → 61504 ≤ length b
-    → Holds (record { register = withNumbers t b }) (stateOf t)
-table-put t b s e h =
-    let back : tableIn (withNumbers t b) ≡ t = table-back t b s e h in
+-- a table that stands for a book, written over a register's bytes
+pub table-put : (t : List ℤ) (b : List ℕ) (images : ℕ → List ℕ) (S : State) → StandsFor (record { table = t; images = images }) S
+    → length t ≡ tableLength → 61504 ≤ length b → Holds (record { register = withNumbers t b; images = images }) S
+table-put t b images S r e h =
     record {
       long = omega (arith, bytes-length t b, h);
-      standsFor = rw back (record { edition = refl; isSound = s; book = refl });
+      standsFor = subst (λ u. StandsFor (record { table = u; images = images }) S) (sym (table-back t b (own-sound (r .table)) e h)) r;
     }
 
 -- a call with no numbers for its second buffer leaves it
@@ -59,31 +67,30 @@ second-kept ns second answer =
     let r : ℤ × List ℕ = replied ns answer in
     ap (λ s. (r .0, (s, r .1))) (sym (cond-same (sameZ (r .0) (pos 0)) second))
 
--- What a notice's answer and the table left, w, are beside the table t that it was lent.
-record Left (t : List ℤ) (w : Numbers × List ℤ) : Type 0 where
-  isSound : sound (editionOf (w .1)) (w .1) ≡ true
-  long : length (w .1) ≡ tableLength
-  sentBack : refused (w .0) ≡ true → w .1 ≡ t
+module _ (L : LentBytes) (S : State) (r : Holds L S) (second answer : List ℕ) where
+  abbrev b : List ℕ
+  b = L .register
 
-module _ (b : List ℕ) (enough : 61504 ≤ length b) (s : sound (editionOf (tableIn b)) (tableIn b) ≡ true) (second answer : List ℕ) where
   abbrev t : List ℤ
   t = tableIn b
 
-  abbrev lent : LentBytes
-  lent = record { register = b }
-
-  unchanged : Holds lent (stateOf t)
-  unchanged = record { long = enough; standsFor = record { edition = refl; isSound = s; book = refl } }
-
-  -- ---- what is written at the end of a notice
+  t-sound : sound (editionOf t) t ≡ true
+  t-sound = own-sound (r .standsFor .table)
 
   abbrev fits : Numbers → Bool
   fits ns = leb (8 * length ns) (length answer)
 
-  written-leaves : (w : Numbers × List ℤ) → Left t w
-      → Holds (record { register = written w b answer .1 .0 }) (cond (fits (w .0)) (stateOf (w .1)) (stateOf t))
+  -- ---- what is written at the end of a call that writes the register
+
+  -- What a call's answer and the table left, w, are beside the table that it was lent.
+  record Left (w : Numbers × List ℤ) : Type 0 where
+    long : length (w .1) ≡ tableLength
+    sentBack : refused (w .0) ≡ true → w .1 ≡ t
+
+  written-leaves : (w : Numbers × List ℤ) → Left w → (T : State) → StandsFor (record { table = w .1; images = L .images }) T
+      → Holds (record { register = written w b answer .1 .0; images = L .images }) (cond (fits (w .0)) T S)
   unfolding written replied
-  written-leaves w l = go (fits (w .0))
+  written-leaves w l T s = go (fits (w .0))
     where
       refusal : ℤ
       refusal = getD (w .0) 0 (pos 0)
@@ -91,54 +98,219 @@ module _ (b : List ℕ) (enough : 61504 ≤ length b) (s : sound (editionOf (tab
       result : Bool → ℤ
       result was = cond {A = ℤ × List ℕ} was (refusal, withNumbers (w .0) answer) (cond (sameZ refusal (pos 1)) (pos 1) (pos 2), answer) .0
 
-      done : (z : Bool) → sameZ refusal (pos 0) ≡ z → Holds (record { register = cond z (withNumbers (w .1) b) b }) (stateOf (w .1))
-      done true e = table-put (w .1) b (l .isSound) (l .long) enough
-      done false e = rw (l .sentBack (refused-is (w .0) e)) unchanged
+      done : (z : Bool) → sameZ refusal (pos 0) ≡ z → Holds (record { register = cond z (withNumbers (w .1) b) b; images = L .images }) T
+      done true e = table-put (w .1) b (L .images) T s (l .long) (r .long)
+      done false e =
+          record {
+            long = r .long;
+            standsFor = subst (λ u. StandsFor (record { table = u; images = L .images }) T) (l .sentBack (refused-is (w .0) e)) s;
+          }
 
       short : (z : Bool)
-          → Holds (record { register = cond (sameZ (cond z (pos 1) (pos 2)) (pos 0)) (withNumbers (w .1) b) b }) (stateOf t)
-      short true = unchanged
-      short false = unchanged
+          → Holds (record { register = cond (sameZ (cond z (pos 1) (pos 2)) (pos 0)) (withNumbers (w .1) b) b; images = L .images }) S
+      short true = r
+      short false = r
 
       go : (was : Bool)
-          → Holds (record { register = cond (sameZ (result was) (pos 0)) (withNumbers (w .1) b) b }) (cond was (stateOf (w .1)) (stateOf t))
+          → Holds (record { register = cond (sameZ (result was) (pos 0)) (withNumbers (w .1) b) b; images = L .images }) (cond was T S)
       go true = done (sameZ refusal (pos 0)) refl
       go false = short (sameZ refusal (pos 1))
 
-  -- ---- a call
+  -- ---- a call, by the call on the table
 
-  notice-left : (c : Notice) → Left t (noticeCall c t)
-  unfolding lentStep
+  -- a reply and what is left
+  follows : (h : HubCall) (v : Reply × LentBytes) → v .0 ≡ written (lentStep (callIn h second) (lentIn L) .0) second answer
+      → Holds (v .1) (cond (fits (lentStep (callIn h second) (lentIn L) .0 .0)) (step (callIn h second) S .1) S)
+      → Follows v (bookStep h second answer S)
+  unfolding bookStep
+  follows h v e k =
+      let f : OnTables.Follows _ (step (callIn h second) S) = call-agrees (lentIn L) S (r .standsFor) (callIn h second) in
+      record {
+        reply = e ∙ ap (λ (a : Answer). written a second answer) (f .answer);
+        holds = subst (λ (a : Answer). Holds (v .1) (cond (fits (a .0)) (step (callIn h second) S .1) S)) (f .answer) k;
+      }
+
+  notice-left : (c : Notice) → Left (noticeCall c t)
   notice-left c =
       record {
-        isSound = own-sound (step-agrees t s (notice! c) .standsFor);
-        long = ap (λ (w : Numbers × List ℤ). length (w .1)) is ∙ notice-length (editionOf t) (edition-fits t) t s c (table-whole b enough);
+        long = ap (λ (w : Numbers × List ℤ). length (w .1)) is ∙ notice-length (editionOf t) (edition-fits t) t t-sound c (table-whole b (r .long));
         sentBack = λ e. ap (λ (w : Numbers × List ℤ). w .1) is
-            ∙ ap (λ r. cond r t (withBook (editionOf t) t (noted c (editionOf t) (tableBook (editionOf t) t) .1))) (sym (ap (λ (w : Numbers × List ℤ). refused (w .0)) is) ∙ e);
+            ∙ ap (λ x. cond x t (withBook (editionOf t) t (noted c (editionOf t) (tableBook (editionOf t) t) .1))) (sym (ap (λ (w : Numbers × List ℤ). refused (w .0)) is) ∙ e);
       }
     where
       is : noticeCall c t ≡ answerAndTable (editionOf t) t (noted c (editionOf t) (tableBook (editionOf t) t))
-      is = notice-is t s c
+      is = notice-is t t-sound c
 
-  -- by the call on the table, v
-  follows : (h : HubCall) (v : Answer × Lent) → lentStep (callIn h second) (lentIn lent) ≡ v → (r : Reply × LentBytes)
-      → r .0 ≡ written (v .0) second answer → Holds (r .1) (cond (fits (v .0 .0)) (stateOf (v .1 .table)) (stateOf t))
-      → Follows r (bookStep h second answer (stateOf t))
-  unfolding bookStep
-  follows h v is r e k =
-      let f : OnTables.Follows v (step (callIn h second) (stateOf t)) = subst (λ v. OnTables.Follows v (step (callIn h second) (stateOf t))) is (step-agrees t s (callIn h second)) in
-      subst (λ (S : State). Follows r (written (step (callIn h second) (stateOf t) .0) second answer, cond (fits (step (callIn h second) (stateOf t) .0 .0)) S (stateOf t)))
-      (state-is (f .standsFor))
-      (subst (λ (a : Answer). Follows r (written a second answer, cond (fits (a .0)) (stateOf (v .1 .table)) (stateOf t))) (f .answer) (record { reply = e; holds = k }))
+  -- ---- a named state
 
-  each : (h : HubCall) → Follows (byteStep h second answer lent) (bookStep h second answer (stateOf t))
-  unfolding byteStep lentStep written
+  -- an answer of one number that has no room
+  one-short : (row : ℕ) (ns : Numbers) → ns ≡ pos row ∷ [] → eqb row 1 ≡ false → leb 8 (length answer) ≡ false
+      → (buffer : List ℕ) (xs : List ℤ) → written (ns, xs) buffer answer ≡ (pos 2, (buffer, answer))
+  unfolding written replied
+  one-short row ns a d e buffer xs = rw (a, e, d)
+
+  -- the book's row is never 1
+  record Rowed (w : Numbers × State) : Type 0 where
+    row : ℕ
+    is : w .0 ≡ pos row ∷ []
+    notOne : eqb row 1 ≡ false
+
+  rowed : (c : StateCall) → Rowed (stated c S)
+  unfolding stated decide least
+  rowed (save! n lent) = go (stateRow n lent .1) _
+    where
+      go : (b : Bool) (T : State) → Rowed (decide (least ((2, b) ∷ [])) 0 S ([], T))
+      go true T = record { row = 2; is = refl; notOne = refl }
+      go false T = record { row = 0; is = refl; notOne = refl }
+  rowed (restore! n lent) = go (stateRow n lent .1) (not (isSome (S .saved (natOf n)))) _
+    where
+      go : (a b : Bool) (T : State) → Rowed (decide (least ((2, a) ∷ (17, b) ∷ [])) 0 S ([], T))
+      go true true T = record { row = 2; is = refl; notOne = refl }
+      go true false T = record { row = 2; is = refl; notOne = refl }
+      go false true T = record { row = 17; is = refl; notOne = refl }
+      go false false T = record { row = 0; is = refl; notOne = refl }
+
+  -- by room for its answer
+  state-fits : (c : StateCall) (b : Bool) → leb 8 (length answer) ≡ b → fits (lentStep (state! c) (lentIn L) .0 .0) ≡ b
+  unfolding step
+  state-fits c b e =
+      ap (λ (a : Answer). fits (a .0)) (call-agrees (lentIn L) S (r .standsFor) (state! c) .answer)
+      ∙ ap fits (rowed c .is) ∙ e
+
+  -- a call that gets 2 and leaves everything, where there is none
+  sent-back : (h : HubState) (v : Reply × LentBytes) → leb 8 (length answer) ≡ false → v ≡ ((pos 2, (second, answer)), L)
+      → Follows v (bookStep (hub-state h) second answer S)
+  unfolding step
+  sent-back h v e is =
+      subst (λ v. Follows v (bookStep (hub-state h) second answer S)) (sym is)
+      (follows (hub-state h) ((pos 2, (second, answer)), L)
+      (sym
+      (ap (λ (a : Answer). written a second answer) (call-agrees (lentIn L) S (r .standsFor) (state! (stateIn h)) .answer)
+      ∙ one-short (rowed (stateIn h) .row) _ (rowed (stateIn h) .is) (rowed (stateIn h) .notOne) e second []))
+      (subst (λ b. Holds L (cond b (step (state! (stateIn h)) S .1) S)) (sym (state-fits (stateIn h) false e)) r))
+
+  module _ (n : ℤ) (lent : ℕ) where
+    abbrev image : List ℕ
+    image = L .images (natOf n)
+
+    abbrev first : List ℕ
+    first = take lent image
+
+    -- the lent bytes, by room for the answer
+    lent-bytes : (b : Bool) → leb 8 (length answer) ≡ b → imageIn first answer ≡ cond b first []
+    unfolding imageIn
+    lent-bytes b e = ap (λ b. cond b first []) e
+
+    no-bytes : asked n [] ≡ false
+    no-bytes = and-false (isState n)
+
+    -- ---- restore
+
+    abbrev restores : List ℕ → Reply × LentBytes
+    restores i =
+        let w : ℤ × (List ℕ × List ℕ) = written (restoreCall t n i) b answer in
+        ((w .0, (second, w .1 .1)), record { register = w .1 .0; images = L .images })
+
+    restore-left : Left (restoreCall t n first)
+    unfolding restoreCall
+    restore-left =
+        record {
+          long = decide-keeps 0 t _ (λ u. length u ≡ tableLength) _ whole (λ z.
+              omega (arith, length-append (imageNumbers first) (drop tableLength t), length-numbers first, length-drop tableLength t, whole));
+          sentBack = restore-kept t n first .sentBack;
+        }
+      where
+        whole : length t ≡ tableLength
+        whole = table-whole b (r .long)
+
+    restore-follows : Follows (byteStep (hub-state (petlumas-restore n lent)) second answer L) (bookStep (hub-state (petlumas-restore n lent)) second answer S)
+    unfolding byteStep stateStep lentStep stateCall stateIn written
+    restore-follows = go (leb 8 (length answer)) refl
+      where
+        h : HubCall
+        h = hub-state (petlumas-restore n lent)
+
+        long : tableLength ≤ length t
+        long = omega (arith, table-whole b (r .long))
+
+        out : ℤ × (List ℕ × List ℕ) → Reply × LentBytes
+        out w = ((w .0, (second, w .1 .1)), record { register = w .1 .0; images = L .images })
+
+        go : (x : Bool) → leb 8 (length answer) ≡ x → Follows (restores (imageIn first answer)) (bookStep h second answer S)
+        go true e =
+            subst (λ i. Follows (restores i) (bookStep h second answer S)) (sym (lent-bytes true e))
+            (follows h (restores first) (second-kept _ second answer)
+            (written-leaves (restoreCall t n first) restore-left _ (call-agrees (lentIn L) S (r .standsFor) (callIn h second) .standsFor)))
+        go false e =
+            sent-back (petlumas-restore n lent) _ e
+            (ap restores (lent-bytes false e) ∙ ap (λ u. out (written u b answer)) (restore-out t n [] long no-bytes)
+            ∙ ap out (one-short 2 (pos 2 ∷ []) refl refl e b t))
+
+    -- ---- save
+
+    abbrev saves : List ℕ → Reply × LentBytes
+    saves i =
+        let w : ℤ × (List ℕ × List ℕ) = writtenBytes (saveCall t n i) first answer in
+        ((w .0, (second, w .1 .1)), record { register = b; images = under (natOf n) (w .1 .0 ++ drop lent image) (L .images) })
+
+    kept-left : (row : ℕ) (u : Numbers × List ℕ) → u .0 ≡ pos row ∷ [] → (refused (u .0) ≡ true → u .1 ≡ first) → leb 8 (length answer) ≡ true
+        → cond (sameZ (replied (u .0) answer .0) (pos 0)) (u .1) first ≡ u .1
+    unfolding replied
+    kept-left zero u a f e = rw (a, e)
+    kept-left (suc row) u a f e =
+        let ne : eqb (suc row) 0 ≡ false = ne-eqb (suc row) 0 (λ (z : suc row ≡ 0). omega arith) in
+        rw (a, e, ne) (sym (f (ap refused a ∙ ap not ne)))
+
+    kept-short : leb 8 (length answer) ≡ false → writtenBytes (pos 2 ∷ [], []) first answer ≡ (pos 2, (first, answer))
+    unfolding replied
+    kept-short e = rw e
+
+    -- an image written back as it was
+    same-images : under (natOf n) (first ++ drop lent image) (L .images) ≡ L .images
+    same-images = fun-ext (λ k. go k (eqb k (natOf n)) refl)
+      where
+        go : (k : ℕ) (x : Bool) → eqb k (natOf n) ≡ x → cond x (first ++ drop lent image) (L .images k) ≡ L .images k
+        go k true e = take-append-drop lent image ∙ ap (L .images) (sym (eqb-true k (natOf n) e))
+        go k false e = refl
+
+    save-follows : Follows (byteStep (hub-state (petlumas-save n lent)) second answer L) (bookStep (hub-state (petlumas-save n lent)) second answer S)
+    unfolding byteStep stateStep lentStep stateCall stateIn
+    save-follows = go (leb 8 (length answer)) refl
+      where
+        h : HubCall
+        h = hub-state (petlumas-save n lent)
+
+        k : Kept first (saveCall t n first)
+        k = save-kept t n first
+
+        with-image : List ℕ → LentBytes
+        with-image i = record { register = b; images = under (natOf n) (i ++ drop lent image) (L .images) }
+
+        out : ℤ × (List ℕ × List ℕ) → Reply × LentBytes
+        out w = ((w .0, (second, w .1 .1)), with-image (w .1 .0))
+
+        go : (x : Bool) → leb 8 (length answer) ≡ x → Follows (saves (imageIn first answer)) (bookStep h second answer S)
+        go true e =
+            subst (λ i. Follows (saves i) (bookStep h second answer S)) (sym (lent-bytes true e))
+            (follows h (saves first) (second-kept _ second answer)
+            (subst (λ i. Holds (with-image i) (cond (fits (saveCall t n first .0)) (step (state! (save! n lent)) S .1) S)) (sym (kept-left (k .row) (saveCall t n first) (k .answer) (k .sentBack) e))
+            (subst (λ x. Holds (with-image (saveCall t n first .1)) (cond x (step (state! (save! n lent)) S .1) S)) (sym (state-fits (save! n lent) true e))
+            (record { long = r .long; standsFor = call-agrees (lentIn L) S (r .standsFor) (state! (save! n lent)) .standsFor }))))
+        go false e =
+            sent-back (petlumas-save n lent) _ e
+            (ap saves (lent-bytes false e) ∙ ap (λ u. out (writtenBytes u first answer)) (save-out t n [] t-sound no-bytes)
+            ∙ ap out (kept-short e) ∙ ap (λ is. ((pos 2, (second, answer)), record { register = b; images = is })) same-images)
+
+  each : (h : HubCall) → Follows (byteStep h second answer L) (bookStep h second answer S)
+  unfolding byteStep lentStep written step
   each (hub-notice c) =
-      follows (hub-notice c) _ refl _ (second-kept _ second answer) (written-leaves _ (notice-left (noticeIn c second)))
-  each (hub-query q) = follows (hub-query q) _ refl _ refl (rw (cond-same (fits _) (stateOf t)) unchanged)
+      follows (hub-notice c) (byteStep (hub-notice c) second answer L) (second-kept _ second answer)
+      (written-leaves (noticeCall (noticeIn c second) t) (notice-left (noticeIn c second)) _ (call-agrees (lentIn L) S (r .standsFor) (callIn (hub-notice c) second) .standsFor))
+  each (hub-query q) =
+      follows (hub-query q) (byteStep (hub-query q) second answer L) refl (rw (cond-same (fits (queryCall (queryIn q second) t .0)) S) r)
+  each (hub-state (petlumas-save n lent)) = save-follows n lent
+  each (hub-state (petlumas-restore n lent)) = restore-follows n lent
 
 pub call-follows : (h : HubCall) (second answer : List ℕ) (L : LentBytes) (S : State) → Holds L S
     → Follows (byteStep h second answer L) (bookStep h second answer S)
-call-follows h second answer L S r =
-    subst (λ S. Follows (byteStep h second answer L) (bookStep h second answer S)) (state-is (r .standsFor))
-    (each (L .register) (r .long) (own-sound (r .standsFor)) second answer h)
+call-follows h second answer L S r = each L S r second answer h

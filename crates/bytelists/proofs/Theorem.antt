@@ -17,7 +17,7 @@ use Rattle.layout.proofs.Editions.{edition-fits}
 use Rattle.buffers.specs.Buffers.{tableIn, withNumbers, replied, written}
 use Rattle.history.specs.Runs.{freshState}
 use Rattle.history.specs.Promise.{refusalIn, Reserved}
-use Rattle.history.proofs.Promise.{ReservesFit, none-covered, Covers, covered-step, step-edition, bookRefusal, reserved-covered}
+use Rattle.history.proofs.Promise.{ReservesFit, fresh-covers, Covers, covered-step, step-edition, bookRefusal, reserved-covered}
 use Rattle.history.proofs.Theorem.{stands-agrees}
 use Rattle.bytelists.specs.ByteLists.{petlumas-open, hub-notice, LentCall, Reply, noticeIn, callIn, LentBytes, byteStep, byteRun, replies, bookStep, bookRun, bookReplies}
 use Rattle.bytelists.specs.Claim.{EveryHubList}
@@ -75,9 +75,9 @@ reserved-bytes L S r kept second answer =
     same n = ap (λ (r : Reply). r .0) (call-follows (hub-notice (petlumas-open n)) second answer L S r .reply)
 
 pub every-hub-list : EveryHubList
-every-hub-list b₀ second answer n returned hs =
-    let (held, same) = run-follows hs _ _ (fresh-holds b₀ second answer n returned) in
+every-hub-list b₀ second answer n past returned hs =
+    let (held, same) = run-follows hs _ _ (fresh-holds b₀ second answer n past returned) in
     let ed : Edition = editionOf (tableIn b₀) in
     let fit : ReservesFit ed = edition-fits (tableIn b₀) .reserved in
-    let covered = covered-run hs (freshState ed n) fit (none-covered ed fit) in
+    let covered = covered-run hs (freshState ed n) fit (fresh-covers ed n fit) in
     (stands-agrees _ _ (held .standsFor), same, reserved-bytes _ _ held (reserved-covered _ covered))

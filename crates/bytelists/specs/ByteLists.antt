@@ -1,10 +1,12 @@
 -- Lists of calls through the hub, each on the register's bytes that the one before left, and the same in the day book.
 use mathlib.Core.Bool.{cond}
-use mathlib.Core.List.{List, [], _∷_}
+use mathlib.Core.List.{List, [], _∷_, _++_}
 use Prim.Native.Nat.{ℕ, _*_, _/_}
 use lib.Dec.{leb}
 use lib.IntN.{ℤ}
-use lib.ListN.{length}
+use lib.ListN.{length, take, drop}
+use Rattle.numbers.specs.Naturals.{natOf}
+use Rattle.daybook.specs.Notices.{Numbers}
 use Rattle.daybook.specs.declared.Ranges.{Ranges}
 use Rattle.daybook.specs.declared.Opening.{Opening}
 use Rattle.daybook.specs.declared.EnergyNotice.{EnergyNotice}
@@ -14,11 +16,14 @@ use Rattle.daybook.specs.declared.Withdrawal.{Withdrawal}
 use Rattle.daybook.specs.declared.Correction.{Correction}
 use Rattle.daybook.specs.declared.AccountQuery.{AccountQuery}
 use Rattle.daybook.specs.declared.AllocationQuery.{AllocationQuery}
-use Rattle.daybook.specs.Calls.{Notice, fresh!, open!, energy!, status!, request!, withdraw!, correct!, Query, account!, allocate!, Call, notice!, query!, State, Answer, step}
+use Rattle.daybook.specs.States.{under}
+use Rattle.daybook.specs.Calls.{Notice, fresh!, open!, energy!, status!, request!, withdraw!, correct!, Query, account!, allocate!, StateCall, save!, restore!, Call, notice!, query!, state!, State, Answer, step}
 use Rattle.history.specs.Runs.{Lent, noticeCall, queryCall}
-use Rattle.buffers.specs.Buffers.{tableIn, holidaysIn, written}
+use Rattle.images.specs.Images.{saveCall, restoreCall}
+use Rattle.buffers.specs.Buffers.{tableIn, holidaysIn, writtenBytes, written, imageIn}
 
--- The exported functions that take a register, each with its numbers: those that may change it, and those that only read.
+-- The exported functions that take a register, each with its numbers: those that may change it, those that only read,
+-- and those of a named state, which say beside its number how many of its image's bytes they are lent.
 pub data HubNotice : Type 0 where
   petlumas-fresh : Ranges → HubNotice
   petlumas-open : Opening → HubNotice
@@ -32,12 +37,17 @@ pub data HubQuery : Type 0 where
   petlumas-account : AccountQuery → HubQuery
   petlumas-allocate : AllocationQuery → HubQuery
 
+pub data HubState : Type 0 where
+  petlumas-save : ℤ → ℕ → HubState
+  petlumas-restore : ℤ → ℕ → HubState
+
 pub data HubCall : Type 0 where
   hub-notice : HubNotice → HubCall
   hub-query : HubQuery → HubCall
+  hub-state : HubState → HubCall
 
--- A call, and the bytes that it lends beside the register: its second buffer, a request's holidays or an allocation's
--- answer table (no other call has one: its bytes do not matter and stay), and its answer buffer.
+-- A call, and the bytes that it lends beside the register and the images: its second buffer, a request's holidays or an
+-- allocation's answer table (no other call has one: its bytes do not matter and stay), and its answer buffer.
 pub record LentCall : Type 0 where
   pub call : HubCall
   pub second : List ℕ
@@ -64,19 +74,40 @@ unfoldable pub queryIn : HubQuery → List ℕ → Query
 queryIn (petlumas-account n) second = account! n
 queryIn (petlumas-allocate n) second = allocate! n (length second / 8)
 
+unfoldable pub stateIn : HubState → StateCall
+stateIn (petlumas-save n lent) = save! n lent
+stateIn (petlumas-restore n lent) = restore! n lent
+
 abbrev pub callIn : HubCall → List ℕ → Call
 callIn (hub-notice c) second = notice! (noticeIn c second)
 callIn (hub-query q) second = query! (queryIn q second)
+callIn (hub-state c) second = state! (stateIn c)
 
 -- ---- on bytes
 
--- What is lent from call to call.
+-- What is lent from call to call: the register, and for each state number an image of its own.
 pub record LentBytes : Type 0 where
   pub register : List ℕ
+  pub images : ℕ → List ℕ
 
--- The same as tables.
+-- The same with the register as a table.
 abbrev pub lentIn : LentBytes → Lent
-lentIn L = record { table = tableIn (L .register) }
+lentIn L = record { table = tableIn (L .register); images = L .images }
+
+-- A save writes the first bytes of its number's image, as many as it says, and a restore reads them.
+unfoldable pub stateStep : HubState → List ℕ → LentBytes → ℤ × (LentBytes × List ℕ)
+stateStep (petlumas-save n lent) answer L =
+    let image : List ℕ = L .images (natOf n) in
+    let first : List ℕ = take lent image in
+    let call : Numbers × List ℕ = saveCall (tableIn (L .register)) n (imageIn first answer) in
+    let w : ℤ × (List ℕ × List ℕ) = writtenBytes call first answer in
+    let images : ℕ → List ℕ = under (natOf n) (w .1 .0 ++ drop lent image) (L .images) in
+    (w .0, (record { register = L .register; images = images }, w .1 .1))
+stateStep (petlumas-restore n lent) answer L =
+    let first : List ℕ = take lent (L .images (natOf n)) in
+    let call : Numbers × List ℤ = restoreCall (tableIn (L .register)) n (imageIn first answer) in
+    let w : ℤ × (List ℕ × List ℕ) = written call (L .register) answer in
+    (w .0, (record { register = w .1 .0; images = L .images }, w .1 .1))
 
 -- The reply to a call, and what it leaves of what it is lent: the definitions that the hub's contracts equate the code
 -- with. A notice writes the register and leaves its second buffer; a query only reads the register. (An account has no
@@ -84,8 +115,10 @@ lentIn L = record { table = tableIn (L .register) }
 unfoldable pub byteStep : HubCall → List ℕ → List ℕ → LentBytes → Reply × LentBytes
 byteStep (hub-notice c) second answer L =
     let w : ℤ × (List ℕ × List ℕ) = written (noticeCall (noticeIn c second) (tableIn (L .register))) (L .register) answer in
-    ((w .0, (second, w .1 .1)), record { register = w .1 .0 })
+    ((w .0, (second, w .1 .1)), record { register = w .1 .0; images = L .images })
 byteStep (hub-query q) second answer L = (written (queryCall (queryIn q second) (tableIn (L .register))) second answer, L)
+byteStep (hub-state c) second answer L =
+    let w : ℤ × (LentBytes × List ℕ) = stateStep c answer L in ((w .0, (second, w .1 .1)), w .1 .0)
 
 -- What a list of calls leaves of what is lent, and the replies.
 unfoldable pub byteRun : List LentCall → LentBytes → LentBytes

@@ -6,14 +6,15 @@ use lib.IntN.{pos}
 use Rattle.daybook.specs.declared.Ranges.{Ranges}
 use Rattle.daybook.specs.Calls.{State}
 use Rattle.layout.specs.Layout.{editionOf}
-use Rattle.history.specs.Runs.{freshState}
+use Rattle.history.specs.Runs.{freshState, zeroImages}
 use Rattle.history.specs.Agreement.{Agrees}
 use Rattle.history.specs.Promise.{Reserved}
 use Rattle.buffers.specs.Buffers.{tableIn}
 use Rattle.bytelists.specs.ByteLists.{petlumas-fresh, petlumas-open, hub-notice, LentCall, LentBytes, lentIn, byteStep, byteRun, replies, bookRun, bookReplies}
 
 -- Lend any bytes b₀ and any answer buffer to petlumas_fresh, with any two ranges n. If it returns 0, then lend the
--- bytes that it left to any calls of the hub, one after the other, with any numbers and with buffers of any bytes.
+-- bytes that it left to any calls of the hub, one after the other, with any numbers and with buffers of any bytes; and
+-- lend an image of zero bytes for each state number to its saves and restores, and to nobody else.
 -- Of the table in the register's bytes after the last call and the state of the day book given the same calls all that
 -- `Agrees` says holds.
 -- Each call returns what the book's answer begins with, and leaves the bytes of the book's numbers in its answer buffer
@@ -22,15 +23,17 @@ use Rattle.bytelists.specs.ByteLists.{petlumas-fresh, petlumas-open, hub
 -- And an operator that then holds fewer points than its reserve gets neither 16 nor 19 from petlumas_open.
 --
 -- The calls here are definitions. The contracts of the hub's exported functions equate what each returns and leaves
--- with them, for every register, all numbers and buffers: petlumas_fresh, petlumas_open, petlumas_energy, petlumas_status,
--- petlumas_request, petlumas_withdraw, petlumas_correct and petlumas_allocate with `written`, petlumas_account with
--- `replied`. A request borrows its holidays, an account and an allocation the register, without changing them.
+-- with them, for every register, all numbers and buffers: petlumas_fresh, petlumas_open, petlumas_energy,
+-- petlumas_status, petlumas_request, petlumas_withdraw, petlumas_correct, petlumas_allocate and petlumas_restore with
+-- `written`, petlumas_account with `replied`, petlumas_save with `writtenBytes`. A request borrows its holidays, an
+-- account, an allocation and a save the register, and a restore its image, without changing them.
 abbrev pub EveryHubList : Type 0
 EveryHubList =
-    (b₀ second answer : List ℕ) (n : Ranges)
-    → byteStep (hub-notice (petlumas-fresh n)) second answer (record { register = b₀ }) .0 .0 ≡ pos 0
+    (b₀ second answer : List ℕ) (n : Ranges) (past : ℕ → ℕ)
+    → let L₀ : LentBytes = record { register = b₀; images = zeroImages past } in
+    byteStep (hub-notice (petlumas-fresh n)) second answer L₀ .0 .0 ≡ pos 0
     → (hs : List LentCall)
-    → let L : LentBytes = byteStep (hub-notice (petlumas-fresh n)) second answer (record { register = b₀ }) .1 in
+    → let L : LentBytes = byteStep (hub-notice (petlumas-fresh n)) second answer L₀ .1 in
     let S : State = freshState (editionOf (tableIn b₀)) n in
     Agrees (lentIn (byteRun hs L)) (bookRun hs S) × (replies hs L ≡ bookReplies hs S)
     × ((second answer : List ℕ)

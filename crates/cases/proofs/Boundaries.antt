@@ -12,7 +12,7 @@ use lib.ListN.{replicate}
 use Rattle.numbers.specs.Search.{firstFrom}
 use Rattle.numbers.specs.Shares.{share}
 use Rattle.daybook.specs.declared.Edition.{Edition}
-use Rattle.daybook.specs.Book.{Entry, Pending, Point}
+use Rattle.daybook.specs.Book.{Entry, Pending, Point, Book}
 use Rattle.daybook.specs.Notices.{least, append, replacement, recut, Outcome, registers, lapses, stays, outcomeOf, statusRows, requestRows}
 use Rattle.daybook.specs.Queries.{active, someFilled, weight}
 use Rattle.daybook.specs.Calls.{Call, State}
@@ -230,6 +230,7 @@ older-answers :
     (record {
       edition = record { points = 8; records = 1; reserve = 2 };
       book = bookOf (record { nondaily = negsuc 0; daily = negsuc 0; points = older 1 0 ∷ older 2 1 ∷ [] });
+      saved = λ n. none;
     }) (by 1 11 1 ++ by 2 21 3)
     ≡ naturals (map (λ r. r ∷ []) (19 ∷ 0 ∷ 0 ∷ 19 ∷ [])))
     × (unnamedAgain (older 1 0 ∷ older 2 3 ∷ []) (older 1 1 ∷ older 2 3 ∷ older 3 4 ∷ []) ≡ older 1 0 ∷ older 2 3 ∷ older 3 4 ∷ [])
@@ -333,7 +334,8 @@ metered n =
       fro = λ d. 2;
       pending = none;
     } in
-    record { edition = small; book = record { nondaily = negsuc 0; daily = negsuc 0; points = daily ∷ other ∷ [] } }
+    let book : Book = record { nondaily = negsuc 0; daily = negsuc 0; points = daily ∷ other ∷ [] } in
+    record { edition = small; book = book; saved = λ n. none }
 
 -- all goes to User 2
 load : ℕ → List ℕ

@@ -1,4 +1,5 @@
 -- Calls as a journal writes them, numbers in document 01's order, and what the day book answers to a list of them.
+use mathlib.Core.Option.{none}
 use mathlib.Core.List.{List, [], _∷_, map}
 use Prim.Native.Nat.{ℕ}
 use lib.IntN.{ℤ, pos, negsuc}
@@ -12,7 +13,8 @@ use Rattle.daybook.specs.Book.{fromOn, fill, withEntries, withOff, withFro, wit
 use Rattle.daybook.specs.Notices.{least, Numbers, decide, find, put, withPoint, onPoint, freshRows, fresh, factsOf, opened, held, othersUnfilled, openingRows, opening, which, entryOf, energyEarly, offWithin, energyRows, laterStarts, entered, enter, energyRowsAt, energy, statusEarly, statusRows, switched, status, requestEarly, requestRows, request, withdrawEarly, withdrawRows, withdraw}
 use Rattle.daybook.specs.Corrections.{corrected, froChanged, affected, flags, correctEarly, full, correctRows, correctRowsAt, correctAt, correct}
 use Rattle.daybook.specs.Queries.{sumOf, ownShare, accountOf, accountRows, account, someFilled, allFilled, dailyGas, meteredOf, tdmOf, nslOf, weight, weights, total, split, pointShares, totalOf, allocateRows, allocate}
-use Rattle.daybook.specs.Calls.{fresh!, open!, energy!, status!, request!, withdraw!, account!, allocate!, Call, notice!, query!, Answer, noted, given, State, step, answers}
+use Rattle.daybook.specs.States.{imageLength, firstRow}
+use Rattle.daybook.specs.Calls.{fresh!, open!, energy!, status!, request!, withdraw!, account!, allocate!, save!, restore!, Call, notice!, query!, state!, Answer, noted, given, State, stated, step, answers}
 
 abbrev pub Fresh : ℤ → ℤ → Call
 Fresh r s = notice! (fresh! (record { nondaily = r; daily = s }))
@@ -62,18 +64,28 @@ abbrev pub Allocate : ℕ → ℕ → ℕ → ℕ → Call
 Allocate g a b tdq =
     query! (allocate! (record { gasday = pos g; from = pos a; to = pos b; tdq = pos tdq; uag = pos 0; clp = pos 0 }) 32)
 
+-- lent all bytes of an image
+abbrev pub Save : ℤ → Call
+Save n = state! (save! n imageLength)
+
+abbrev pub Restore : ℤ → Call
+Restore n = state! (restore! n imageLength)
+
 abbrev numbers : List Answer → List Numbers
 numbers [] = []
 numbers (a ∷ l) = a .0 ∷ numbers l
 
 -- Each call's numbers, the refusal first. To unfold this definition is to unfold the whole day book.
 unfoldable pub answersFrom : State → List Call → List Numbers
-unfolding all firstFrom lastBelow sumFrom floorPart ceilPart partialEnergy share allowablePeriod businessDayBefore businessDayAfter listed holidayList fromOn fill withEntries withOff withFro withPending lastOf gather recordAt records begins registrationAt registrations latest spanAt spans lastFilled appendDay dayShare least decide find put withPoint onPoint freshRows fresh factsOf opened held othersUnfilled openingRows opening which entryOf energyEarly offWithin energyRows laterStarts entered enter energyRowsAt energy statusEarly statusRows switched status requestEarly requestRows request withdrawEarly withdrawRows withdraw corrected froChanged affected flags correctEarly full correctRows correctRowsAt correctAt correct sumOf ownShare accountOf accountRows account someFilled allFilled dailyGas meteredOf tdmOf nslOf weight weights total split pointShares totalOf allocateRows allocate noted given step answers
+unfolding all firstFrom lastBelow sumFrom floorPart ceilPart partialEnergy share allowablePeriod businessDayBefore businessDayAfter listed holidayList fromOn fill withEntries withOff withFro withPending lastOf gather recordAt records begins registrationAt registrations latest spanAt spans lastFilled appendDay dayShare least decide find put withPoint onPoint freshRows fresh factsOf opened held othersUnfilled openingRows opening which entryOf energyEarly offWithin energyRows laterStarts entered enter energyRowsAt energy statusEarly statusRows switched status requestEarly requestRows request withdrawEarly withdrawRows withdraw corrected froChanged affected flags correctEarly full correctRows correctRowsAt correctAt correct sumOf ownShare accountOf accountRows account someFilled allFilled dailyGas meteredOf tdmOf nslOf weight weights total split pointShares totalOf allocateRows allocate firstRow noted given stated step answers
 answersFrom S calls = numbers (answers calls S)
 
--- From nothing: what stands in the book before fresh does not matter.
+-- From nothing: what stands in the book before fresh does not matter, and nothing is saved.
 abbrev pub answersOf : Edition → List Call → List Numbers
-answersOf ed calls = answersFrom (record { edition = ed; book = record { nondaily = pos 0; daily = pos 0; points = [] } }) calls
+answersOf ed calls =
+    answersFrom
+    (record { edition = ed; book = record { nondaily = pos 0; daily = pos 0; points = [] }; saved = λ n. none })
+    calls
 
 -- answers of numbers that are not negative
 abbrev pub naturals : List (List ℕ) → List Numbers

@@ -1,9 +1,12 @@
 -- Document 01's numbers for each answer of the code, and lists of calls, from state to state.
-use mathlib.Core.Bool.{Bool, true, false}
+use mathlib.Core.Bool.{Bool, true, false, not}
+use mathlib.Core.Option.{Option, some}
 use mathlib.Core.List.{List, [], _∷_, map}
 use Prim.Native.Nat.{ℕ}
 use lib.IntN.{ℤ, pos}
 use lib.ListN.{replicate}
+use Rattle.numbers.specs.Naturals.{natOf}
+use Rattle.numbers.specs.Search.{maybe, isSome}
 use Rattle.daybook.specs.declared.Ranges.{Ranges}
 use Rattle.daybook.specs.declared.Opening.{Opening}
 use Rattle.daybook.specs.declared.EnergyNotice.{EnergyNotice}
@@ -25,9 +28,10 @@ use Rattle.daybook.specs.declared.AccountAnswer.the-variants as Account
 use Rattle.daybook.specs.declared.AllocationAnswer.{AllocationAnswer}
 use Rattle.daybook.specs.declared.Edition.{Edition}
 use Rattle.daybook.specs.Book.{Book}
-use Rattle.daybook.specs.Notices.{Numbers, fresh, opening, energy, status, request, withdraw}
+use Rattle.daybook.specs.Notices.{least, Numbers, decide, fresh, opening, energy, status, request, withdraw}
 use Rattle.daybook.specs.Corrections.{correct}
 use Rattle.daybook.specs.Queries.{account, allocate}
+use Rattle.daybook.specs.States.{stateRow, under}
 
 -- ---- the numbers of an answer: the refusal first, then the fields, every one 0 on a refusal
 
@@ -89,9 +93,15 @@ pub data Query : Type 0 where
   account! : AccountQuery → Query
   allocate! : AllocationQuery → ℕ → Query
 
+-- A call on a named state: its number, and how many of its image's bytes are lent.
+pub data StateCall : Type 0 where
+  save! : ℤ → ℕ → StateCall
+  restore! : ℤ → ℕ → StateCall
+
 pub data Call : Type 0 where
   notice! : Notice → Call
   query! : Query → Call
+  state! : StateCall → Call
 
 -- An answer's numbers, and those for the first places of the answer table.
 abbrev pub Answer : Type 0
@@ -114,15 +124,29 @@ given (allocate! n room) B = allocate n room B
 
 -- ---- lists of calls, from state to state
 
+-- The book, in an edition of the table, and under each state number the book that was saved last, if one was.
 pub record State : Type 0 where
   pub edition : Edition
   pub book : Book
+  pub saved : ℕ → Option Book
+
+-- A save keeps the book under its number, and a restore takes the book back to that (document 02, d): 17 where nothing
+-- was saved. A refusal changes nothing.
+unfoldable pub stated : StateCall → State → Numbers × State
+stated (save! n lent) S =
+    let kept : ℕ → Option Book = under (natOf n) (some (S .book)) (S .saved) in
+    decide (least (stateRow n lent ∷ [])) 0 S ([], record { edition = S .edition; book = S .book; saved = kept })
+stated (restore! n lent) S =
+    let kept : Option Book = S .saved (natOf n) in
+    let back : State = maybe S (λ B. record { edition = S .edition; book = B; saved = S .saved }) kept in
+    decide (least (stateRow n lent ∷ (17, not (isSome kept)) ∷ [])) 0 S ([], back)
 
 unfoldable pub step : Call → State → Answer × State
 step (notice! c) S =
     let w : Numbers × Book = noted c (S .edition) (S .book) in
-    ((w .0, []), record { edition = S .edition; book = w .1 })
+    ((w .0, []), record { edition = S .edition; book = w .1; saved = S .saved })
 step (query! q) S = (given q (S .book), S)
+step (state! c) S = let w : Numbers × State = stated c S in ((w .0, []), w .1)
 
 -- What a list of calls leaves, and what it answers.
 unfoldable pub run : List Call → State → State

@@ -4,5 +4,6 @@ pub mod Book
 pub mod Notices
 pub mod Corrections
 pub mod Queries
+pub mod States
 pub mod Calls
 pub mod Conversions

@@ -7,6 +7,7 @@ ghost use mathlib.Core.Path.{_≡_};
 ghost use Rattle.words.specs.Words.{bitsOf};
 ghost use Rattle.calendar.specs.Calendar.{dateNumbers};
 ghost use Rattle.daybook.specs.Notices.{isMirn, isUser, isFlag, isRange};
+ghost use Rattle.daybook.specs.States.{isState};
 ghost use Rattle.daybook.specs.Calls.{noticeNumbers, energyNumbers, requestNumbers, correctionNumbers, accountNumbers, allocationNumbers};
 
 // Beside the book stands the edition of the table: how many points it holds, how many records of each, and how many
@@ -96,7 +97,7 @@ pub struct AllocationQuery {
     pub clp: i64,
 }
 
-// Of fresh, open, status and withdraw, which answer with no field.
+// Of fresh, open, status, withdraw, save and restore, which answer with no field.
 pub enum NoticeAnswer {
     Entered,
     Refused(u64),
@@ -158,6 +159,13 @@ pub fn is_range(x: i64) -> bool
     ensures { λ r. ⌜ r ≡ isRange x ⌝ }
 {
     (-1 <= x) & (x <= 1000000)
+}
+
+// A state number.
+pub fn is_state(x: i64) -> bool
+    ensures { λ r. ⌜ r ≡ isState x ⌝ }
+{
+    (1 <= x) & (x <= 4)
 }
 
 // The numbers of an answer, as their bits: the refusal, then the fields.

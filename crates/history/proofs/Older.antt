@@ -20,7 +20,7 @@ use Rattle.daybook.specs.declared.Facts.{Facts}
 use Rattle.daybook.specs.declared.Opening.{Opening}
 use Rattle.daybook.specs.Book.{Entry, Point, Book, latest}
 use Rattle.daybook.specs.Notices.{Numbers, isRange, find, which, entryOf, factsOf, outcomeOf, entered, enter}
-use Rattle.daybook.specs.Calls.{Notice, fresh!, open!, energy!, status!, request!, withdraw!, correct!, Call, notice!, query!, noted, step}
+use Rattle.daybook.specs.Calls.{Notice, fresh!, open!, energy!, status!, request!, withdraw!, correct!, save!, restore!, Call, notice!, query!, state!, noted}
 use Rattle.lists.specs.Lists.{Lists, Register, operatorOf, pointOf, bookOf, withFacts, unnamedAgain}
 use Rattle.lists.specs.InnerSteps.{noticeLists}
 use Rattle.lists.specs.InnerWell.{WellFormed}
@@ -35,10 +35,11 @@ use Rattle.layout.proofs.Tables.{register-back}
 use Rattle.layout.proofs.TableSound.{sound-lays}
 use Rattle.table.proofs.Calls.{leaves-is}
 use Rattle.energy.specs.Energy.{energyCall}
-use Rattle.history.specs.Runs.{Lent, noticeCall, lentStep}
+use Rattle.history.specs.Runs.{Lent, noticeCall, stateCall, lentStep}
 use Rattle.history.specs.OtherRules.{enterBy, energyCallBy, noticeCallBy, lentStepBy}
 use Rattle.history.specs.Older.{unusedZeroBefore, factsSoundBefore, partSoundBefore, soundBefore, beforeG, noSection, inSection0, section0, unnamed, ofOperator1, OlderRegisters}
-use Rattle.history.proofs.Steps.{notice-is, step-agrees, state-is, own-sound}
+use Rattle.history.proofs.Steps.{notice-is, notice-table}
+use Rattle.history.proofs.States.{own-sound}
 use Rattle.history.proofs.EnergyBooks.{stepBy, found, row, now-is, by-is}
 use Rattle.history.proofs.Facts.{factsIn, facts-after}
 
@@ -214,8 +215,9 @@ module _ (t : List ℤ) (old : section0 t ≡ true) where
 
 call-same : (L : Lent) (c : Call) → section0 (L .table) ≡ true → lentStep c L ≡ lentStepBy noSection c L
 unfolding lentStep lentStepBy
-call-same L (notice! c) old = ap (λ (w : Numbers × List ℤ). ((w .0, []), record { table = w .1 })) (notice-same (L .table) old c)
+call-same L (notice! c) old = ap (λ (w : Numbers × List ℤ). ((w .0, []), record { table = w .1; images = L .images })) (notice-same (L .table) old c)
 call-same L (query! q) old = refl
+call-same L (state! c) old = refl
 
 -- ---- points stay in section 0
 
@@ -231,13 +233,17 @@ stays-in-0 c ed B h s =
     each-append in0 (factsIn B) (factsOf n ∷ []) (each-map (λ (p : Point). p .facts) in0 (B .points) ∙ s) (ap (λ z. eqb (natOf z) 0 && true) (h n e)))
 
 runs-on-a : (L : Lent) (c : Call) → section0 (L .table) ≡ true → ((n : Opening) → c ≡ notice! (open! n) → n .section ≡ pos 0)
+    → ((n : ℤ) (lent : ℕ) → ¬ (c ≡ state! (restore! n lent)))
     → section0 (lentStep c L .1 .table) ≡ true
-unfolding lentStep step
-runs-on-a L (query! q) old h = old
-runs-on-a L (notice! c) old h =
+unfolding lentStep stateCall
+runs-on-a L (query! q) old h r = old
+runs-on-a L (state! (save! n lent)) old h r = old
+runs-on-a L (state! (restore! n lent)) old h r = absurd (r n lent refl)
+runs-on-a L (notice! c) old h r =
     let t : List ℤ = L .table in
-    let f = step-agrees t (now t old .0) (notice! c) .standsFor in
-    join (own-sound f) (ap (λ S. inSection0 (S .book)) (state-is f) ∙ stays-in-0 c (editionOf t) (tableBook (editionOf t) t) (λ n e. h n (ap notice! e)) (now t old .1))
+    let f = notice-table t (now t old .0) c in
+    join (own-sound f) (ap (λ ed. inSection0 (tableBook ed (noticeCall c t .1))) (f .edition) ∙ ap inSection0 (f .book)
+    ∙ stays-in-0 c (editionOf t) (tableBook (editionOf t) t) (λ n e. h n (ap notice! e)) (now t old .1))
 
 -- ---- operators stay unnamed
 
@@ -301,13 +307,16 @@ module _ (t : List ℤ) (s : sound (editionOf t) t ≡ true) (all0 : unnamed (ed
           ∙ unnamed-again (R .points) (map namedLists (R′ .points)) (unnamed-is t ∙ all0) (omega (arith, no-more, length-map (R′ .points) namedLists))
 
 runs-on-g : (L : Lent) (c : Call) → beforeG (L .table) ≡ true → ((n : Opening) → ¬ (c ≡ notice! (open! n)))
+    → ((n : ℤ) (lent : ℕ) → ¬ (c ≡ state! (restore! n lent)))
     → beforeG (lentStep c L .1 .table) ≡ true
-unfolding lentStep step
-runs-on-g L (query! q) old h = old
-runs-on-g L (notice! c) old h =
+unfolding lentStep stateCall
+runs-on-g L (query! q) old h r = old
+runs-on-g L (state! (save! n lent)) old h r = old
+runs-on-g L (state! (restore! n lent)) old h r = absurd (r n lent refl)
+runs-on-g L (notice! c) old h r =
     let t : List ℤ = L .table in
     let (s, all0) = both (sound (editionOf t) t) (unnamed (editionOf t) t) (sym (sound-g (editionOf t) t) ∙ old) in
-    let f = step-agrees t s (notice! c) .standsFor in
+    let f = notice-table t s c in
     sound-g _ _ ∙ join (own-sound f) (rw (f .edition) (left-unnamed t s all0 c (λ n e. h n (ap notice! e))))
 
 pub older-registers : OlderRegisters

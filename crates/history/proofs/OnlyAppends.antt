@@ -15,7 +15,7 @@ use Rattle.daybook.specs.declared.Edition.{Edition}
 use Rattle.daybook.specs.declared.EnergyNotice.{EnergyNotice}
 use Rattle.daybook.specs.Book.{Entry, Pending, Point, Book, withEntries, records, latest}
 use Rattle.daybook.specs.Notices.{Numbers, decide, find, withPoint, onPoint, Which, append, replacement, recut, whichNumber, which, entryOf, removed, Outcome, registers, lapses, stays, appendRegisters, outcomeOf, outcomeNumbers, entered, enter, energy}
-use Rattle.daybook.specs.Calls.{Notice, fresh!, open!, energy!, status!, request!, withdraw!, correct!, Call, notice!, query! }
+use Rattle.daybook.specs.Calls.{Notice, fresh!, open!, energy!, status!, request!, withdraw!, correct!, Call, notice!, query!, state! }
 use Rattle.lists.specs.Lists.{pointOf}
 use Rattle.lists.specs.InnerWell.{PendingOk, nopending, pending}
 use Rattle.lists.proofs.Points.{find-put}
@@ -204,8 +204,9 @@ call-same : (L : Lent) (c : Call)
     → lentStep c L ≡ lentStepBefore c L
 unfolding lentStep lentStepBy
 call-same L (notice! c) h =
-    ap (λ (w : Numbers × List ℤ). ((w .0, []), record { table = w .1 })) (notice-same (L .table) c (λ n e. h n (ap notice! e)))
+    ap (λ (w : Numbers × List ℤ). ((w .0, []), record { table = w .1; images = L .images })) (notice-same (L .table) c (λ n e. h n (ap notice! e)))
 call-same L (query! q) h = refl
+call-same L (state! c) h = refl
 
 pub only-appends : OnlyAppendsSettle
 only-appends = record { asBefore = call-same; alone = energy-alone }

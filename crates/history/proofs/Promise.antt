@@ -1,6 +1,7 @@
 -- The points left cover the unfilled reserves of all four operators, after every list of calls. Assumes nothing.
 use mathlib.Core.Path.{_≡_, refl, sym, _∙_, ap, ap₂, subst}
 use mathlib.Core.Bool.{Bool, true, false, not, cond, and-false}
+use mathlib.Core.Option.{Option, none, some, Option·some-injective, Option·none-ne-some}
 use mathlib.Core.List.{List, [], _∷_, _++_, map, map-map, map-append}
 use Prim.Native.Nat.{ℕ, zero, suc, _+_, _-_, _*_, _≤_, _<_}
 use native.Mathlib.Omega.{arith}
@@ -9,15 +10,16 @@ use lib.IntN.{ℤ, pos}
 use lib.ListN.{length, length-append}
 use borrow.Author.Tests.{lt-leb, le-ltb, eq-eqb, ne-eqb, eqb-false}
 use Rattle.numbers.specs.Naturals.{natOf}
-use Rattle.numbers.specs.Search.{isSome}
+use Rattle.numbers.specs.Search.{maybe, isSome}
 use Rattle.calendar.specs.Calendar.{within}
 use Rattle.daybook.specs.declared.Edition.{Edition}
 use Rattle.daybook.specs.declared.Facts.{Facts}
 use Rattle.daybook.specs.declared.Opening.{Opening}
+use Rattle.daybook.specs.declared.Ranges.{Ranges}
 use Rattle.daybook.specs.Book.{Point, Book}
 use Rattle.daybook.specs.Notices.{least, decide, find, factsOf, operatorsIn, held, unfilled, overFour, othersUnfilled, openingRows, opening}
-use Rattle.daybook.specs.Calls.{open!, Call, notice!, query!, Answer, noted, State, step, run}
-use Rattle.lists.proofs.Rows.{above, least-first}
+use Rattle.daybook.specs.Calls.{Notice, open!, save!, restore!, Call, notice!, query!, state!, Answer, noted, State, stated, step, run}
+use Rattle.lists.proofs.Rows.{above, least-first, decide-keeps}
 use Rattle.lists.proofs.Operators.{held-append}
 use Rattle.lists.proofs.Bounds.{within-bounds}
 use Rattle.lists.proofs.OpenStep.{OpenClear, open-clear}
@@ -101,26 +103,56 @@ none-covered ed fit = record { few = omega arith; covers = omega arith }
 operators-facts : (ps : List Point) → map (λ (f : Facts). f .operator) (map (λ (p : Point). p .facts) ps) ≡ operatorsIn ps
 operators-facts ps = map-map (λ (f : Facts). f .operator) (λ (p : Point). p .facts) ps
 
--- In a state the points left cover the reserves.
-abbrev pub Covers : State → Type 0
-Covers S = Covered (S .edition) (operatorsIn (S .book .points))
+-- In a book the points left cover the reserves.
+abbrev BookCovers : Edition → Book → Type 0
+BookCovers ed B = Covered ed (operatorsIn (B .points))
+
+notice-covers : (c : Notice) (ed : Edition) (B : Book) → ReservesFit ed → BookCovers ed B → BookCovers ed (noted c ed B .1)
+unfolding factsOf
+notice-covers c ed B fit k =
+    let P : List Facts → Type 0 = λ fs. Covered ed (map (λ (f : Facts). f .operator) fs) in
+    subst (Covered ed) (operators-facts (noted c ed B .1 .points))
+    (facts-after P c ed B (none-covered ed fit) (subst (Covered ed) (sym (operators-facts (B .points))) k) (λ n e z.
+    subst (Covered ed) (sym (map-append (λ (f : Facts). f .operator) (factsIn B) (factsOf n ∷ [])))
+    (let clear : OpenClear ed n _ _ = open-clear ed n _ _ z in
+    rw (operators-facts (B .points)) (covered-more ed _ (natOf (n .operator)) (clear .operatorLow) (clear .operatorHigh) k (clear .room) (clear .covers)))))
+
+-- In a state they do so in its book, and in each saved one.
+pub record Covers (S : State) : Type 0 where
+  pub book : BookCovers (S .edition) (S .book)
+  pub saved : (n : ℕ) (B : Book) → S .saved n ≡ some B → BookCovers (S .edition) B
+
+pub fresh-covers : (ed : Edition) (n : Ranges) → ReservesFit ed → Covers (freshState ed n)
+fresh-covers ed n fit = record { book = none-covered ed fit; saved = λ k B e. absurd (Option·none-ne-some B e) }
 
 pub covered-step : (c : Call) (S : State) → ReservesFit (S .edition) → Covers S → Covers (step c S .1)
-unfolding step factsOf
+unfolding step stated
 covered-step (query! q) S fit k = k
-covered-step (notice! c) S fit k =
-    let ed : Edition = S .edition in
-    let P : List Facts → Type 0 = λ fs. Covered ed (map (λ (f : Facts). f .operator) fs) in
-    subst (Covered ed) (operators-facts (noted c ed (S .book) .1 .points))
-    (facts-after P c ed (S .book) (none-covered ed fit) (subst (Covered ed) (sym (operators-facts (S .book .points))) k) (λ n e z.
-    subst (Covered ed) (sym (map-append (λ (f : Facts). f .operator) (factsIn (S .book)) (factsOf n ∷ [])))
-    (let clear : OpenClear ed n _ _ = open-clear ed n _ _ z in
-    rw (operators-facts (S .book .points)) (covered-more ed _ (natOf (n .operator)) (clear .operatorLow) (clear .operatorHigh) k (clear .room) (clear .covers)))))
+covered-step (notice! c) S fit k = record { book = notice-covers c (S .edition) (S .book) fit (k .book); saved = k .saved }
+covered-step (state! (save! n lent)) S fit k =
+    decide-keeps 0 S _ Covers _ k (λ z. record { book = k .book; saved = λ j B e. go j (eqb j (natOf n)) B e })
+  where
+    go : (j : ℕ) (b : Bool) (B : Book) → cond b (some (S .book)) (S .saved j) ≡ some B → BookCovers (S .edition) B
+    go j true B e = subst (BookCovers (S .edition)) (Option·some-injective (S .book) B e) (k .book)
+    go j false B e = k .saved j B e
+covered-step (state! (restore! n lent)) S fit k = decide-keeps 0 S _ Covers _ k (λ z. go (S .saved (natOf n)) refl)
+  where
+    go : (o : Option Book) → S .saved (natOf n) ≡ o
+        → Covers (maybe S (λ B. record { edition = S .edition; book = B; saved = S .saved }) o)
+    go none e = k
+    go (some B) e = record { book = k .saved (natOf n) B e; saved = k .saved }
 
 pub step-edition : (c : Call) (S : State) → step c S .1 .edition ≡ S .edition
-unfolding step
+unfolding step stated
 step-edition (notice! c) S = refl
 step-edition (query! q) S = refl
+step-edition (state! (save! n lent)) S = decide-keeps 0 S _ (λ T. T .edition ≡ S .edition) _ refl (λ z. refl)
+step-edition (state! (restore! n lent)) S =
+    decide-keeps 0 S _ (λ T. T .edition ≡ S .edition) _ refl (λ z. go (S .saved (natOf n)))
+  where
+    go : (o : Option Book) → maybe S (λ B. record { edition = S .edition; book = B; saved = S .saved }) o .edition ≡ S .edition
+    go none = refl
+    go (some B) = refl
 
 covered-run : (cs : List Call) (S : State) → ReservesFit (S .edition) → Covers S → Covers (run cs S)
 unfolding run
@@ -180,10 +212,10 @@ reserved-covered S k =
     row n = least (openingRows (S .edition) n (isSome (find (natOf (n .mirn)) (S .book .points))) (operatorsIn (S .book .points)))
 
     low : (n : Opening) → BelowReserve S n → row n ≤ 5
-    low n b = row-low (S .edition) n (isSome (find (natOf (n .mirn)) (S .book .points))) (operatorsIn (S .book .points)) k b
+    low n b = row-low (S .edition) n (isSome (find (natOf (n .mirn)) (S .book .points))) (operatorsIn (S .book .points)) (k .book) b
 
 pub in-every-edition : InEveryEdition
-in-every-edition ed fit n₀ cs = reserved-covered _ (covered-run cs (freshState ed n₀) fit (none-covered ed fit))
+in-every-edition ed fit n₀ cs = reserved-covered _ (covered-run cs (freshState ed n₀) fit (fresh-covers ed n₀ fit))
 
 -- ---- on what is lent, which answers as the book does
 

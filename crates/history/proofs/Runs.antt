@@ -2,16 +2,18 @@
 -- the state it begins. Assumes nothing.
 use mathlib.Core.Path.{_≡_, refl, ap₂}
 use mathlib.Core.Bool.{Bool, true, false, cond}
+use mathlib.Core.Option.{none}
 use mathlib.Core.List.{List, [], _∷_}
-use Prim.Native.Nat.{ℕ, zero, suc}
+use Prim.Native.Nat.{ℕ, zero, suc, _+_}
 use native.Mathlib.Omega.{arith}
 use lib.Dec.{leb}
 use lib.IntN.{ℤ, pos}
-use lib.ListN.{length}
+use lib.ListN.{length, length-replicate}
 use Rattle.daybook.specs.declared.Edition.{Edition}
 use Rattle.daybook.specs.declared.Ranges.{Ranges}
 use Rattle.daybook.specs.Notices.{least, Numbers, decide, freshRows, fresh}
 use Rattle.daybook.specs.Calls.{Call, State, run, answers}
+use Rattle.daybook.specs.States.{imageLength}
 use Rattle.lists.specs.Lists.{bookOf}
 use Rattle.lists.proofs.Operators.{kept-none}
 use Rattle.lists.proofs.OpenStep.{no-points}
@@ -20,8 +22,9 @@ use Rattle.layout.specs.Calls.{answerAndTable}
 use Rattle.layout.proofs.Editions.{edition-fits, edition-left}
 use Rattle.layout.proofs.Notices.{Holds, written-holds}
 use Rattle.opening.specs.Opening.{freshCall}
-use Rattle.history.specs.Runs.{Lent, lentRun, lentAnswers, freshState}
-use Rattle.history.specs.Agreement.{StandsFor}
+use Rattle.images.proofs.GivesBack.{take-zeros}
+use Rattle.history.specs.Runs.{Lent, lentRun, lentAnswers, freshState, zeroImages}
+use Rattle.history.specs.Agreement.{TableOf, ImagesHold, StandsFor}
 use Rattle.history.proofs.Steps.{Follows, call-agrees}
 
 -- What the calls leave stands for the state that the book's calls leave, and the answers are the same.
@@ -36,10 +39,10 @@ run-agrees (c ∷ cs) L S r =
 
 -- ---- where a list begins
 
-pub fresh-begins : (t : List ℤ) (n : Ranges) → freshCall t n .0 ≡ pos 0 ∷ []
-    → StandsFor (record { table = freshCall t n .1 }) (freshState (editionOf t) n)
+pub fresh-table : (t : List ℤ) (n : Ranges) → freshCall t n .0 ≡ pos 0 ∷ []
+    → TableOf (editionOf t) (freshState (editionOf t) n .book) (freshCall t n .1)
 unfolding freshCall fresh decide bookOf
-fresh-begins t n = go (leb tableLength (length t)) (least (freshRows n)) refl
+fresh-table t n = go (leb tableLength (length t)) (least (freshRows n)) refl
   where
     ed : Edition
     ed = editionOf t
@@ -49,9 +52,17 @@ fresh-begins t n = go (leb tableLength (length t)) (least (freshRows n)) refl
         cond long (answerAndTable ed t (decide row 0 (tableBook ed t) ([], freshState ed n .book))) (pos 1 ∷ [], t)
 
     go : (long : Bool) (row : ℕ) → least (freshRows n) ≡ row → given long row .0 ≡ pos 0 ∷ []
-        → StandsFor (record { table = given long row .1 }) (freshState ed n)
+        → TableOf ed (freshState ed n .book) (given long row .1)
     go true zero z e =
         let h : Holds ed (edition-fits t) _ (freshState ed n .book) = written-holds ed (edition-fits t) (no-points ed n z) t (kept-none _) in
         record { edition = edition-left t (freshState ed n .book); isSound = h .isSound; book = h .book }
     go true (suc r) z e = let k : _≡_ {A = ℕ} 0 1 = cc in absurd (omega arith)
     go false row z e = let k : _≡_ {A = ℕ} 0 1 = cc in absurd (omega arith)
+
+-- images of zero bytes hold nothing
+pub zeros-hold : (ed : Edition) (past : ℕ → ℕ) → ImagesHold ed (λ k. none) (zeroImages past)
+zeros-hold ed past =
+    record {
+      whole = λ n. omega (arith, length-replicate {A = ℕ} (imageLength + past n) 0);
+      holds = λ n. take-zeros (imageLength + past n) (omega arith);
+    }

@@ -3,6 +3,8 @@
 use mathlib.Core.Path.{_≡_, refl, _∙_, ap, subst}
 use mathlib.Core.Bool.{Bool, true, false, cond}
 use mathlib.Core.List.{List, []}
+use mathlib.Core.Option.{Option}
+use Prim.Native.Nat.{ℕ}
 use lib.IntN.{ℤ}
 use lib.ListN.{length}
 use borrow.Author.Tests.{le-leb}
@@ -10,7 +12,7 @@ use Rattle.numbers.specs.Answers.{refused}
 use Rattle.daybook.specs.declared.Edition.{Edition}
 use Rattle.daybook.specs.Book.{Book}
 use Rattle.daybook.specs.Notices.{Numbers}
-use Rattle.daybook.specs.Calls.{Notice, fresh!, open!, energy!, status!, request!, withdraw!, correct!, Query, account!, allocate!, Call, notice!, query!, Answer, noted, given, State, step}
+use Rattle.daybook.specs.Calls.{Notice, fresh!, open!, energy!, status!, request!, withdraw!, correct!, Query, account!, allocate!, Call, notice!, query!, state!, Answer, noted, given, State, stated, step}
 use Rattle.layout.specs.Layout.{tableLength, editionOf, tableBook, withBook}
 use Rattle.layout.specs.Sound.{sound}
 use Rattle.layout.specs.Calls.{answerAndTable, onEdition}
@@ -25,8 +27,9 @@ use Rattle.transfer.specs.Transfer.{requestCall, withdrawCall}
 use Rattle.correction.specs.Correction.{correctCall}
 use Rattle.account.specs.Account.{accountCall}
 use Rattle.allocate.specs.Allocate.{allocateCall}
-use Rattle.history.specs.Runs.{noticeCall, queryCall, Lent, lentStep}
-use Rattle.history.specs.Agreement.{StandsFor}
+use Rattle.history.specs.Runs.{noticeCall, queryCall, Lent, stateCall, lentStep}
+use Rattle.history.specs.Agreement.{TableOf, ImagesHold, StandsFor}
+use Rattle.history.proofs.States.{own-sound, Agreed, state-agrees}
 
 -- ---- a call on a sound table
 
@@ -60,6 +63,19 @@ module _ (t : List ℤ) (s : sound (editionOf t) t ≡ true) where
       go true B = refl
       go false B = edition-left t B
 
+  -- and what a notice leaves stands for the book after it
+  pub notice-table : (c : Notice) → TableOf ed (noted c ed (tableBook ed t) .1) (noticeCall c t .1)
+  notice-table c =
+      let h : Holds ed (edition-fits t) (answerAndTable ed t (noted c ed (tableBook ed t)) .1) (noted c ed (tableBook ed t) .1) = notice-holds ed (edition-fits t) t s c in
+      record {
+        edition = left-edition c;
+        isSound = ap (λ (w : Numbers × List ℤ). sound ed (w .1)) (notice-is c) ∙ h .isSound;
+        book = ap (λ (w : Numbers × List ℤ). tableBook ed (w .1)) (notice-is c) ∙ h .book;
+      }
+
+  own-table : TableOf ed (tableBook ed t) t
+  own-table = record { edition = refl; isSound = s; book = refl }
+
 -- ---- a call on what is lent
 
 -- The answer and what is left, v, beside the book's answer and state, w.
@@ -67,40 +83,35 @@ pub record Follows (v : Answer × Lent) (w : Answer × State) : Type 0 where
   pub answer : v .0 ≡ w .0
   pub standsFor : StandsFor (v .1) (w .1)
 
--- The state that a table stands for.
-abbrev pub stateOf : List ℤ → State
-stateOf t = record { edition = editionOf t; book = tableBook (editionOf t) t }
+-- The state that a table stands for, beside saved books.
+abbrev pub stateOf : List ℤ → (ℕ → Option Book) → State
+stateOf t saved = record { edition = editionOf t; book = tableBook (editionOf t) t; saved = saved }
 
-module _ (t : List ℤ) (s : sound (editionOf t) t ≡ true) where
+module _ (t : List ℤ) (s : sound (editionOf t) t ≡ true) (images : ℕ → List ℕ) (saved : ℕ → Option Book) (h : ImagesHold (editionOf t) saved images) where
   abbrev lent : Lent
-  lent = record { table = t }
+  lent = record { table = t; images = images }
 
-  pub step-agrees : (c : Call) → Follows (lentStep c lent) (step c (stateOf t))
+  pub step-agrees : (c : Call) → Follows (lentStep c lent) (step c (stateOf t saved))
   unfolding lentStep step
   step-agrees (notice! c) =
-      let e : Edition = editionOf t in
-      let h : Holds e (edition-fits t) (answerAndTable e t (noted c e (tableBook e t)) .1) (noted c e (tableBook e t) .1) = notice-holds e (edition-fits t) t s c in
-      let is : noticeCall c t ≡ answerAndTable e t (noted c e (tableBook e t)) = notice-is t s c in
       record {
-        answer = ap (λ (w : Numbers × List ℤ). (w .0, [])) is;
-        standsFor =
-            record {
-              edition = left-edition t s c;
-              isSound = ap (λ (w : Numbers × List ℤ). sound e (w .1)) is ∙ h .isSound;
-              book = ap (λ (w : Numbers × List ℤ). tableBook e (w .1)) is ∙ h .book;
-            };
+        answer = ap (λ (w : Numbers × List ℤ). (w .0, [])) (notice-is t s c);
+        standsFor = record { table = notice-table t s c; images = h };
       }
   step-agrees (query! q) =
-      record { answer = query-is t s q; standsFor = record { edition = refl; isSound = s; book = refl } }
+      record { answer = query-is t s q; standsFor = record { table = own-table t s; images = h } }
+  step-agrees (state! c) =
+      let a : Agreed (stateCall c lent) (stated c (stateOf t saved)) = state-agrees t s images saved h c in
+      record { answer = ap (λ (l : Numbers). (l, [])) (a .answer); standsFor = a .standsFor }
 
 -- it is the state that is stood for
-pub state-is : {L : Lent} {S : State} → StandsFor L S → stateOf (L .table) ≡ S
-state-is {L} {S} r =
-    ap {B = State} (λ ed. record { edition = ed; book = tableBook ed (L .table) }) (r .edition)
-    ∙ ap {B = State} (λ B. record { edition = S .edition; book = B }) (r .book)
-
-pub own-sound : {L : Lent} {S : State} → StandsFor L S → sound (editionOf (L .table)) (L .table) ≡ true
-own-sound r = rw (r .edition) (r .isSound)
+pub state-is : {ed : Edition} {B : Book} {t : List ℤ} → TableOf ed B t → (saved : ℕ → Option Book)
+    → stateOf t saved ≡ record { edition = ed; book = B; saved = saved }
+state-is {ed} {B} {t} r saved =
+    ap {B = State} (λ ed. record { edition = ed; book = tableBook ed t; saved = saved }) (r .edition)
+    ∙ ap {B = State} (λ B. record { edition = ed; book = B; saved = saved }) (r .book)
 
 pub call-agrees : (L : Lent) (S : State) → StandsFor L S → (c : Call) → Follows (lentStep c L) (step c S)
-call-agrees L S r c = subst (λ S. Follows (lentStep c L) (step c S)) (state-is r) (step-agrees (L .table) (own-sound r) c)
+call-agrees L S r c =
+    subst (λ S. Follows (lentStep c L) (step c S)) (state-is (r .table) (S .saved))
+    (step-agrees (L .table) (own-sound (r .table)) (L .images) (S .saved) (rw (r .table .edition) (r .images)) c)

@@ -6,7 +6,7 @@ use mathlib.Core.List.{List, [], _∷_}
 use Prim.Native.Nat.{ℕ, zero, suc, _≤_, _<_}
 use lib.Dec.{eqb}
 use lib.IntN.{ℤ, pos, _+ℤ_}
-use lib.ListN.{length, getD, drop}
+use lib.ListN.{length, getD, take, drop, replicate}
 use Rattle.numbers.specs.Naturals.{natOf}
 use Rattle.numbers.specs.Sums.{sumFrom, sumOver}
 use Rattle.numbers.specs.Answers.{refused}
@@ -16,6 +16,7 @@ use Rattle.daybook.specs.declared.AllocationQuery.{AllocationQuery}
 use Rattle.daybook.specs.declared.EnergyNotice.{EnergyNotice}
 use Rattle.daybook.specs.Book.{Entry, Point, Book, filled, latest, dayShare}
 use Rattle.daybook.specs.Notices.{Numbers, find}
+use Rattle.daybook.specs.States.{imageLength}
 use Rattle.daybook.specs.Calls.{State}
 use Rattle.daybook.specs.Queries.{sumOf, accountOf, allocate}
 use Rattle.lists.specs.Lists.{covering}
@@ -24,6 +25,7 @@ use Rattle.layout.specs.Sound.{sound}
 use Rattle.energy.specs.Energy.{energyCall}
 use Rattle.account.specs.Account.{accountCall}
 use Rattle.allocate.specs.Allocate.{allocateCall}
+use Rattle.images.specs.Blocks.{withImage}
 use Rattle.history.specs.Runs.{Lent}
 
 -- Point i, in order of opening.
@@ -95,11 +97,33 @@ pub record Transferred (ed : Edition) (t : List ℤ) (B : Book) (n : EnergyNotic
   pub differ : eqb (latest point .1) u ≡ false
   pub actual : point .facts .section ≡ 1 → natOf (n .«type_») ≡ 0
 
--- 1. What is lent stands for the state: the table is sound in the state's edition, and its book is the state's.
+-- A table of an edition that stands for the book B: it is sound, and its book is B.
+pub record TableOf (ed : Edition) (B : Book) (t : List ℤ) : Type 0 where
+  pub edition : editionOf t ≡ ed
+  pub isSound : sound ed t ≡ true
+  pub book : tableBook ed t ≡ B
+
+-- The image of a saved book: what a save under the number n of a table that stands for it left of some bytes.
+pub record ImageOf (ed : Edition) (B : Book) (n : ℕ) (image : List ℕ) : Type 0 where
+  pub table : List ℤ
+  pub standsFor : TableOf ed B table
+  pub before : List ℕ
+  pub enough : imageLength ≤ length before
+  pub bytes : take imageLength image ≡ take imageLength (withImage n table before)
+
+-- An image holds what was saved last under its number: zero bytes where nothing was.
+abbrev pub HoldsSaved : Edition → Option Book → ℕ → List ℕ → Type 0
+HoldsSaved ed none n image = take imageLength image ≡ replicate imageLength 0
+HoldsSaved ed (some B) n image = ImageOf ed B n image
+
+pub record ImagesHold (ed : Edition) (saved : ℕ → Option Book) (images : ℕ → List ℕ) : Type 0 where
+  pub whole : (n : ℕ) → imageLength ≤ length (images n)
+  pub holds : (n : ℕ) → HoldsSaved ed (saved n) n (images n)
+
+-- 1. What is lent stands for the state: the table for its book, and the images for its saved books.
 pub record StandsFor (L : Lent) (S : State) : Type 0 where
-  pub edition : editionOf (L .table) ≡ S .edition
-  pub isSound : sound (S .edition) (L .table) ≡ true
-  pub book : tableBook (S .edition) (L .table) ≡ S .book
+  pub table : TableOf (S .edition) (S .book) (L .table)
+  pub images : ImagesHold (S .edition) (S .saved) (L .images)
 
 -- The rest, of the table t of an edition and the day book B that it stands for.
 pub record AddsUp (ed : Edition) (t : List ℤ) (B : Book) : Type 0 where

@@ -4,6 +4,7 @@
 pub mod Runs
 pub mod Agreement
 pub mod Promise
+pub mod LastSave
 pub mod Claim
 pub mod Frame
 pub mod OtherRules

@@ -13,7 +13,7 @@ use Rattle.daybook.specs.declared.Opening.{Opening}
 use Rattle.daybook.specs.declared.Facts.{Facts}
 use Rattle.daybook.specs.Book.{Point, Book}
 use Rattle.daybook.specs.Notices.{isRange, outcomeOf}
-use Rattle.daybook.specs.Calls.{open!, Call, notice! }
+use Rattle.daybook.specs.Calls.{open!, restore!, Call, notice!, state! }
 use Rattle.lists.specs.Lists.{Lists}
 use Rattle.layout.specs.Places.{pointsPlace, operatorPlace, regCount, offCount, recCount, pendingUser, regsPlace, offsPlace, recsPlace, regPlace, offPlace, recPlace}
 use Rattle.layout.specs.Layout.{tableLength, placeOf, editionOf, partOf, numAt, pointFrom, pointsFrom, tableBook}
@@ -82,17 +82,20 @@ ofOperator1 B = each (λ (p : Point). eqb (p .facts .operator) 1) (B .points)
 
 pub record OlderRegisters : Type 0 where
   -- The registers that were sound before g are the sound ones with 0 for every operator; their points are operator 1's.
-  -- Each call but open, whose rules g changed, leaves such a register again.
+  -- Each call but open, whose rules g changed, and restore, which gives another register, leaves such a register again.
   pub soundG : (t : List ℤ) → beforeG t ≡ (sound (editionOf t) t && unnamed (editionOf t) t)
   pub operator1 : (t : List ℤ) → beforeG t ≡ true → ofOperator1 (tableBook (editionOf t) t) ≡ true
   pub runsOnG :
       (L : Lent) (c : Call) → beforeG (L .table) ≡ true → ((n : Opening) → ¬ (c ≡ notice! (open! n)))
+      → ((n : ℤ) (lent : ℕ) → ¬ (c ≡ state! (restore! n lent)))
       → beforeG (lentStep c L .1 .table) ≡ true
-  -- Of those, the registers that were sound before a are the ones with all points in section 0. Such a one runs on: each
-  -- call answers what it did and leaves what it left, and unless it opens a point in section 1, all points are in section
-  -- 0 again. (Before, a call tested soundness as it was, which holds here. Open is as it is now.)
+  -- Of those, the registers that were sound before a are the ones with all points in section 0. Such a one runs on:
+  -- each call answers what it did and leaves what it left, and unless it opens a point in section 1 or restores another
+  -- register, all points are in section 0 again. (Before, a call tested soundness as it was, which holds here. Open is
+  -- as it is now.)
   pub soundA : (t : List ℤ) → beforeA t ≡ (beforeG t && inSection0 (tableBook (editionOf t) t))
   pub asBeforeA : (L : Lent) (c : Call) → section0 (L .table) ≡ true → lentStep c L ≡ lentStepBy noSection c L
   pub runsOnA :
       (L : Lent) (c : Call) → section0 (L .table) ≡ true → ((n : Opening) → c ≡ notice! (open! n) → n .section ≡ pos 0)
+      → ((n : ℤ) (lent : ℕ) → ¬ (c ≡ state! (restore! n lent)))
       → section0 (lentStep c L .1 .table) ≡ true

@@ -8,7 +8,7 @@ use Rattle.daybook.specs.declared.Edition.{Edition}
 use Rattle.daybook.specs.declared.EnergyNotice.{EnergyNotice}
 use Rattle.daybook.specs.Book.{Entry, Pending, Point, Book, latest}
 use Rattle.daybook.specs.Notices.{Numbers, onPoint, Which, which, entryOf, energyEarly, energyRowsAt, Outcome, entered}
-use Rattle.daybook.specs.Calls.{Notice, fresh!, open!, energy!, status!, request!, withdraw!, correct!, Call, notice!, query!, Answer}
+use Rattle.daybook.specs.Calls.{Notice, fresh!, open!, energy!, status!, request!, withdraw!, correct!, Call, notice!, query!, state!, Answer}
 use Rattle.layout.specs.Calls.{onTable}
 use Rattle.history.specs.Runs.{Lent, noticeCall, lentStep}
 
@@ -39,5 +39,7 @@ noticeCallBy rule (correct! n) t = noticeCall (correct! n) t
 
 unfoldable pub lentStepBy : Rule → Call → Lent → Answer × Lent
 lentStepBy rule (notice! c) L =
-    let w : Numbers × List ℤ = noticeCallBy rule c (L .table) in ((w .0, []), record { table = w .1 })
+    let w : Numbers × List ℤ = noticeCallBy rule c (L .table) in
+    ((w .0, []), record { table = w .1; images = L .images })
 lentStepBy rule (query! q) L = lentStep (query! q) L
+lentStepBy rule (state! c) L = lentStep (state! c) L

@@ -1,6 +1,6 @@
 -- A refusal is a row of "Notices sent back", so at most the highest.
 use mathlib.Core.Path.{_≡_, refl}
-use mathlib.Core.Bool.{Bool, true, false, cond}
+use mathlib.Core.Bool.{Bool, true, false, not, cond}
 use mathlib.Core.Option.{Option, none, some}
 use mathlib.Core.List.{List, [], _∷_, _++_}
 use Prim.Native.Nat.{ℕ, zero, suc, _≤_}
@@ -8,8 +8,10 @@ use native.Mathlib.Omega.{arith}
 use lib.Dec.{leb}
 use lib.IntN.{ℤ, pos}
 use lib.ListN.{length, replicate}
+use borrow.Author.Tests.{leb-true}
 use Rattle.numbers.specs.Naturals.{natOf}
 use Rattle.numbers.specs.Search.{maybe}
+use Rattle.numbers.proofs.Bools.{both}
 use Rattle.calendar.specs.Calendar.{dayOf, isDate, dateCall}
 use Rattle.daybook.specs.declared.Edition.{Edition}
 use Rattle.daybook.specs.declared.Ranges.{Ranges}
@@ -25,6 +27,7 @@ use Rattle.daybook.specs.Book.{Book, Point}
 use Rattle.daybook.specs.Notices.{Row, highestRefusal, Numbers, decide, find, onPoint, freshRows, fresh, operatorsIn, openingRows, opening, energyEarly, energyRows, energyRowsAt, energy, statusEarly, statusRows, status, requestEarly, requestRows, request, withdrawEarly, withdrawRows, withdraw}
 use Rattle.daybook.specs.Corrections.{correctEarly, correctRows, correctRowsAt, correct}
 use Rattle.daybook.specs.Queries.{accountRows, account, allocateRows, allocate}
+use Rattle.daybook.specs.States.{stateRow, firstRow}
 use Rattle.lists.proofs.Rows.{upTo, up-to-append, up-to-least}
 use Rattle.layout.specs.Layout.{tableLength, editionOf, tableBook}
 use Rattle.layout.specs.Sound.{sound}
@@ -36,6 +39,7 @@ use Rattle.transfer.specs.Transfer.{requestCall, withdrawCall}
 use Rattle.correction.specs.Correction.{correctCall}
 use Rattle.account.specs.Account.{accountCall}
 use Rattle.allocate.specs.Allocate.{allocateCall}
+use Rattle.images.specs.Images.{saveCall, restoreRow, restoreCall}
 use Rattle.buffers.proofs.Ends.{refusalOf}
 
 decided : {X : Type 0} (r k : ℕ) (x : X) (w : Numbers × X) → refusalOf (decide r k x w .0) ≡ r
@@ -125,3 +129,22 @@ allocate-small t q room = go (sound (editionOf t) t)
     go : (s : Bool) → refusalOf (cond s (allocate q room (tableBook (editionOf t) t)) (pos 1 ∷ replicate 17 (pos 0), []) .0) ≤ highestRefusal
     go true = rw decided (up-to-least highestRefusal (allocateRows q room (tableBook (editionOf t) t)) refl)
     go false = omega arith
+
+pub save-small : (t : List ℤ) (n : ℤ) (image : List ℕ) → refusalOf (saveCall t n image .0) ≤ highestRefusal
+unfolding saveCall upTo
+save-small t n image =
+    rw decided (up-to-least highestRefusal ((1, not (sound (editionOf t) t)) ∷ stateRow n (length image) ∷ []) refl)
+
+first-small : (n : ℕ) (rs : List Row) → upTo n rs ≡ true → firstRow rs ≤ n
+unfolding upTo firstRow
+first-small n [] h = omega arith
+first-small n (r ∷ rs) h =
+    let (low, rest) = both (leb (r .0) n) (upTo n rs) h in go (r .1) (leb-true (r .0) n low) (first-small n rs rest)
+  where
+    go : (b : Bool) → r .0 ≤ n → firstRow rs ≤ n → cond b (r .0) (firstRow rs) ≤ n
+    go true l k = l
+    go false l k = k
+
+pub restore-small : (t : List ℤ) (n : ℤ) (image : List ℕ) → refusalOf (restoreCall t n image .0) ≤ highestRefusal
+unfolding restoreCall restoreRow upTo
+restore-small t n image = rw decided (first-small highestRefusal _ refl)

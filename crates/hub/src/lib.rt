@@ -11,7 +11,8 @@ ghost use Rattle.transfer.specs.Transfer.{requestCall, withdrawCall};
 ghost use Rattle.correction.specs.Correction.{correctCall};
 ghost use Rattle.account.specs.Account.{accountCall};
 ghost use Rattle.allocate.specs.Allocate.{allocateCall};
-ghost use Rattle.buffers.specs.Buffers.{tableIn, holidaysIn, replied, written};
+ghost use Rattle.images.specs.Images.{saveCall, restoreCall};
+ghost use Rattle.buffers.specs.Buffers.{tableIn, holidaysIn, replied, writtenBytes, written, imageIn};
 use calendar::YearMonthDay;
 use daybook::AccountQuery;
 use daybook::AllocationQuery;
@@ -232,6 +233,40 @@ pub extern "C" fn petlumas_allocate(
     let a = allocate::allocate(table, q, room);
     let numbers = daybook::allocation_numbers(a);
     buffers::finish(shares, answer, room, &numbers)
+}
+
+#[no_mangle]
+pub extern "C" fn petlumas_save(
+    register: &[u8],
+    answer: &mut [u8],
+    image: &mut [u8],
+    state: i64,
+) -> i64
+    ensures { λ r. ⌜ (r, (now (image .exit), now (answer .exit))) ≡ writtenBytes (saveCall (tableIn (now (register .entry))) state (imageIn (now (image .entry)) (now (answer .entry)))) (now (image .entry)) (now (answer .entry)) ⌝ }
+{
+    let mut t = [0i64; places::TABLE_LENGTH];
+    let table = buffers::table_in(register, &mut t);
+    let n = buffers::image_room(image, answer);
+    let a = images::save(table, state, &mut image[..n]);
+    let numbers = daybook::notice_numbers(a);
+    numbers::integer(buffers::reply(answer, &numbers))
+}
+
+#[no_mangle]
+pub extern "C" fn petlumas_restore(
+    register: &mut [u8],
+    answer: &mut [u8],
+    image: &[u8],
+    state: i64,
+) -> i64
+    ensures { λ r. ⌜ (r, (now (register .exit), now (answer .exit))) ≡ written (restoreCall (tableIn (now (register .entry))) state (imageIn (now (image .entry)) (now (answer .entry)))) (now (register .entry)) (now (answer .entry)) ⌝ }
+{
+    let mut t = [0i64; places::TABLE_LENGTH];
+    let table = buffers::table_in(register, &mut t);
+    let n = buffers::image_room(image, answer);
+    let a = images::restore(table, state, &image[..n]);
+    let numbers = daybook::notice_numbers(a);
+    buffers::finish(register, answer, table, &numbers)
 }
 
 #[no_mangle]

@@ -1,11 +1,12 @@
 -- A notice keeps a table sound, and leaves the book that the day book leaves. Assumes nothing.
 use mathlib.Core.Path.{_≡_, refl, sym, _∙_, ap, subst}
-use mathlib.Core.Bool.{Bool, true, false, cond}
-use mathlib.Core.List.{List}
+use mathlib.Core.Bool.{Bool, true, false, cond, false≢true}
+use mathlib.Core.List.{List, [], _++_, append-nil}
 use Prim.Native.Nat.{ℕ, _+_, _-_}
 use native.Mathlib.Omega.{arith}
 use lib.IntN.{ℤ}
-use lib.ListN.{length, drop, length-append, length-drop}
+use lib.ListN.{length, take, drop, length-append, length-drop, take-append-drop}
+use lib.Seq.{take-take}
 use Rattle.numbers.specs.Answers.{refused}
 use Rattle.daybook.specs.declared.Edition.{Edition}
 use Rattle.daybook.specs.Book.{Book}
@@ -39,6 +40,27 @@ module _ (ed : Edition) (fits : Fits ed) where
         isSound = lays-sound ed fits ok (drop tableLength t);
         book = book-of-layout ed ok (drop tableLength t);
       })
+
+  -- a sound table's register, in front of any numbers, is sound and has the same book
+  pub front-holds : (t : List ℤ) → sound ed t ≡ true → (rest : List ℤ) → Holds (take tableLength t ++ rest) (tableBook ed t)
+  unfolding tableBook
+  front-holds t s rest =
+      let (ok, laid) = sound-lays ed fits t s in
+      subst (λ u. Holds (u ++ rest) (tableBook ed t)) laid
+      (record { isSound = lays-sound ed fits ok rest; book = book-of-layout ed ok rest })
+
+  -- and so is a table exactly where its register is
+  pub front-sound : (t : List ℤ) → sound ed t ≡ sound ed (take tableLength t)
+  front-sound t = go (sound ed t) refl (sound ed (take tableLength t)) refl
+    where
+      go : (b : Bool) → sound ed t ≡ b → (c : Bool) → sound ed (take tableLength t) ≡ c → b ≡ c
+      go true e true f = refl
+      go false e false f = refl
+      go true e false f =
+          absurd (false≢true (sym f ∙ ap (sound ed) (sym (append-nil (take tableLength t))) ∙ front-holds t e [] .isSound))
+      go false e true f =
+          absurd (false≢true (sym e ∙ ap (sound ed) (sym (take-append-drop tableLength t) ∙ ap (λ u. u ++ drop tableLength t) (sym (take-take tableLength tableLength t (omega arith))))
+          ∙ front-holds (take tableLength t) f (drop tableLength t) .isSound))
 
   -- and one of a register's length stays that long
   pub written-length : {R : Register} → WellFormed ed R → (t : List ℤ) → OperatorsKept (registerOf ed t .points) (R .points)

@@ -43,10 +43,10 @@ module _ {A : Type 0} (refusal : A) (query : Book → A) (ed : Edition) (t : Lis
   query-sound e = rw e
 
 -- the equations of a call's contract: what it gives and leaves, and with them which case the answer is
-pub gives : {w : Numbers × List ℤ} {a : Numbers} {u : List ℤ} → w ≡ (a, u) → (a ≡ w .0) × (u ≡ w .1)
+pub gives : {X : Type 0} {w : Numbers × X} {a : Numbers} {u : X} → w ≡ (a, u) → (a ≡ w .0) × (u ≡ w .1)
 gives e = (ap (λ w. w .0) (sym e), ap (λ w. w .1) (sym e))
 
-pub tells : {w : Numbers × List ℤ} {a : Numbers} {u : List ℤ} {b : Bool} → w ≡ (a, u) → b ≡ refused a
+pub tells : {X : Type 0} {w : Numbers × X} {a : Numbers} {u : X} {b : Bool} → w ≡ (a, u) → b ≡ refused a
     → (a ≡ w .0) × (u ≡ w .1) × (b ≡ refused a)
 tells e f = let g = gives e in (g .0, g .1, f)
 

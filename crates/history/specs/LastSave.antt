@@ -1,0 +1,31 @@
+-- Document 02, d: in a list of calls an accepted restore takes the book back to the last accepted save of its number.
+use mathlib.Core.Path.{_≡_}
+use mathlib.Core.Bool.{Bool, true, false, not, _&&_}
+use mathlib.Core.List.{List, [], _∷_}
+use Prim.Native.Nat.{ℕ}
+use lib.IntN.{ℤ, pos}
+use Rattle.numbers.specs.Naturals.{sameZ}
+use Rattle.numbers.specs.Answers.{refused}
+use Rattle.daybook.specs.Calls.{save!, restore!, Call, notice!, query!, state!, State, step, run}
+
+-- Is the call an accepted save of the number n?
+abbrev pub saves : ℤ → Call → State → Bool
+saves n (notice! c) S = false
+saves n (query! q) S = false
+saves n (state! (save! m lent)) S = sameZ m n && not (refused (step (state! (save! m lent)) S .0 .0))
+saves n (state! (restore! m lent)) S = false
+
+-- None of these calls, from the state S on, is one.
+unfoldable pub noSave : ℤ → List Call → State → Bool
+noSave n [] S = true
+noSave n (c ∷ cs) S = not (saves n c S) && noSave n cs (step c S .1)
+
+-- An accepted save, calls of which none is an accepted save of the same number, and an accepted restore of that
+-- number: the book is the one that was saved. (Of tables and of the hub's bytes the claims about every list say that
+-- they follow the book.)
+abbrev pub BackToTheLastSave : Type 0
+BackToTheLastSave =
+    (S : State) (n : ℤ) (lent lent′ : ℕ) (cs : List Call) → saves n (state! (save! n lent)) S ≡ true
+    → let T : State = step (state! (save! n lent)) S .1 in
+    noSave n cs T ≡ true → step (state! (restore! n lent′)) (run cs T) .0 .0 ≡ pos 0 ∷ []
+    → step (state! (restore! n lent′)) (run cs T) .1 .book ≡ S .book

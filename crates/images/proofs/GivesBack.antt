@@ -1,0 +1,226 @@
+-- A restore gives back what a save wrote, zero bytes get 17, and an accepted restore holds the blocks' numbers. Assumes
+-- nothing.
+use mathlib.Core.Path.{_≡_, refl, ap, _∙_, sym, subst}
+use mathlib.Core.Bool.{Bool, true, false, not, _&&_, and-false, false≢true}
+use mathlib.Core.List.{List, [], _∷_, _++_, append-nil}
+use Prim.Native.Nat.{ℕ, zero, suc, _+_, _-_, _≤_, _<_}
+use native.Mathlib.Omega.{arith}
+use lib.Dec.{leb, ltb, eqb}
+use lib.IntN.{ℤ, pos, negsuc}
+use lib.Seq.{getD-take, take-all, take-at}
+use mir.Syntax.{w64}
+use mir.Val.{SFits}
+use lib.ListN.{length, getD, take, drop, replicate, length-replicate, replicate-append-replicate, List·getD-append}
+use borrow.Author.Tests.{le-leb, leb-true, ltb-true, ltb-false, eq-eqb, ne-eqb}
+use Rattle.numbers.specs.Naturals.{natOf}
+use Rattle.numbers.proofs.Bools.{both}
+use Rattle.lists.proofs.Bounds.{within-bounds}
+use Rattle.numbers.proofs.Rows.{all-of, all-fails}
+use Rattle.words.specs.Words.{numberAt}
+use Rattle.daybook.specs.Notices.{Numbers}
+use Rattle.daybook.specs.States.{isState, imageLength, firstRow}
+use Rattle.layout.specs.Layout.{tableLength, editionOf, tableBook}
+use Rattle.layout.specs.Sound.{sound}
+use Rattle.layout.proofs.Editions.{edition-fits, edition-front}
+use Rattle.layout.proofs.Notices.{Holds, front-holds}
+use Rattle.layout.proofs.Words.{fit-at, sound-fits}
+use Rattle.table.proofs.Laws.{sound-long}
+use Rattle.images.specs.Blocks.{blockAt, blockCount, statePlace, numberPlace, checkPlace, checkOf, withImage, intactAt, intact, ofState, imageNumbers}
+use Rattle.images.specs.Images.{saveCall, restoreCall}
+use Rattle.images.specs.NamedStates.{Restored, NamedStates}
+use Rattle.images.proofs.Blocks.{length-image}
+use Rattle.images.proofs.Alike.{number-in, state-alike, block-same, image-intact, image-numbers}
+use Rattle.images.proofs.Saved.{saved-intact, saved-state-at, saved-numbers, length-numbers, number-held}
+use Rattle.images.proofs.Calls.{save-unsound, save-out, save-entered, imageRows, restore-row, restore-unsound, restore-entered, restore-short}
+
+-- ---- an accepted save
+
+-- What is known of one.
+pub record Saves (t : List ℤ) (n : ℤ) (image : List ℕ) : Type 0 where
+  pub isSound : sound (editionOf t) t ≡ true
+  pub isNumber : isState n ≡ true
+  pub enough : imageLength ≤ length image
+  pub left : saveCall t n image .1 ≡ withImage (natOf n) t image
+
+answers-differ : (a b : ℕ) → _≡_ {A = Numbers} (pos a ∷ []) (pos b ∷ []) → a ≡ b
+answers-differ a b e = ap (λ (l : Numbers). natOf (getD l 0 (pos 0))) e
+
+pub saves : (t : List ℤ) (n : ℤ) (image : List ℕ) → saveCall t n image .0 ≡ pos 0 ∷ [] → Saves t n image
+saves t n image = go (sound (editionOf t) t) refl (isState n && leb imageLength (length image)) refl
+  where
+    go : (whole : Bool) → sound (editionOf t) t ≡ whole → (ranged : Bool) → (isState n && leb imageLength (length image)) ≡ ranged
+        → saveCall t n image .0 ≡ pos 0 ∷ [] → Saves t n image
+    go false e r f a = let z : _≡_ {A = ℕ} 1 0 = answers-differ _ _ (sym (ap (λ (w : Numbers × List ℕ). w .0) (save-unsound t n image e)) ∙ a) in absurd (omega arith)
+    go true e false f a = let z : _≡_ {A = ℕ} 2 0 = answers-differ _ _ (sym (ap (λ (w : Numbers × List ℕ). w .0) (save-out t n image e f)) ∙ a) in absurd (omega arith)
+    go true e true f a =
+        let (number, long) = both (isState n) (leb imageLength (length image)) f in
+        record {
+          isSound = e;
+          isNumber = number;
+          enough = leb-true imageLength (length image) long;
+          left = ap (λ (w : Numbers × List ℕ). w .1) (save-entered t n image e f);
+        }
+
+-- ---- bytes that begin as a save left them
+
+-- state numbers are equal where their naturals are
+pub state-same : (m n : ℤ) → isState m ≡ true → isState n ≡ true → natOf m ≡ natOf n → m ≡ n
+state-same (pos a) (pos b) h k e = ap pos e
+state-same (pos a) (negsuc b) h k e = absurd (false≢true k)
+state-same (negsuc a) n h k e = absurd (false≢true h)
+
+module _ (t t′ : List ℤ) (n : ℤ) (before image : List ℕ) (s : sound (editionOf t) t ≡ true) (number : isState n ≡ true)
+    (h : imageLength ≤ length before) (enough : imageLength ≤ length image)
+    (e : take imageLength image ≡ take imageLength (withImage (natOf n) t before)) (long : tableLength ≤ length t′) where
+  small : natOf n ≤ 4
+  small = within-bounds 1 4 n number .1
+
+  whole : intact image ≡ true
+  whole = image-intact image (withImage (natOf n) t before) e ∙ saved-intact (natOf n) t before h
+
+  held : imageNumbers image ≡ take tableLength t
+  held =
+      image-numbers image (withImage (natOf n) t before) e
+      ∙ saved-numbers (natOf n) t before h (sound-long (editionOf t) t s .0) fits
+    where
+      fits : (j : ℕ) → j < tableLength → SFits w64 (getD t j (pos 0))
+      fits j l =
+          subst (SFits w64) (getD-take tableLength t j (pos 0) l) (fit-at (sound-fits (editionOf t) (edition-fits t) t s) j)
+
+  -- its state number is n in every block, and so no other
+  state-at : (k : ℕ) → k < blockCount → numberAt image (statePlace k) 4 ≡ natOf n
+  state-at k l =
+      state-alike image (withImage (natOf n) t before) k (block-same image (withImage (natOf n) t before) e k l)
+      ∙ saved-state-at (natOf n) t before h small k l
+
+  named : (m : ℕ) → m ≡ natOf n → ofState m image ≡ true
+  unfolding ofState
+  named m q = all-of _ blockCount (λ k l. eq-eqb _ _ (state-at k l ∙ sym q))
+
+  another : (m : ℤ) → isState m ≡ true → ¬ (m ≡ n) → ofState (natOf m) image ≡ false
+  unfolding ofState
+  another m other differ =
+      all-fails _ 0 blockCount (omega arith) (ne-eqb _ _ (λ e. differ (state-same m n other number (sym e ∙ state-at 0 (omega arith)))))
+
+  pub back-same : restoreCall t′ n image ≡ (pos 0 ∷ [], take tableLength t ++ drop tableLength t′)
+  unfolding firstRow
+  back-same =
+      restore-entered t′ n image long clear
+      (ap (λ u. sound (editionOf u) u) held ∙ front-sound)
+      ∙ ap (λ u. (pos 0 ∷ [], u ++ drop tableLength t′)) held
+    where
+      clear : firstRow ((2, not (isState n && leb imageLength (length image))) ∷ (17, not (intact image)) ∷ (18, not (ofState (natOf n) image)) ∷ []) ≡ 0
+      clear = rw (number, le-leb imageLength (length image) enough, whole, named (natOf n) refl)
+
+      front-sound : sound (editionOf (take tableLength t)) (take tableLength t) ≡ true
+      front-sound =
+          subst (λ u. sound (editionOf u) u ≡ true) (append-nil (take tableLength t))
+          (ap (λ ed. sound ed (take tableLength t ++ [])) (edition-front t []) ∙ front-holds (editionOf t) (edition-fits t) t s [] .isSound)
+
+  pub back-other : (m : ℤ) → isState m ≡ true → ¬ (m ≡ n) → restoreCall t′ m image ≡ (pos 18 ∷ [], t′)
+  unfolding firstRow
+  back-other m other differ =
+      restore-row t′ m image long 17
+      (rw (other, le-leb imageLength (length image) enough, whole, another m other differ))
+
+-- ---- zero bytes
+
+zeros-at : (m k : ℕ) → getD {A = ℕ} (replicate m 0) k 0 ≡ 0
+zeros-at zero k = refl
+zeros-at (suc m) zero = refl
+zeros-at (suc m) (suc k) = zeros-at m k
+
+zeros-number : (m at w : ℕ) → numberAt (replicate m 0) at w ≡ 0
+unfolding numberAt
+zeros-number m at zero = refl
+zeros-number m at (suc w) = rw (zeros-at m at, zeros-number m (at + 1) w)
+
+pub zero-image : (t : List ℤ) (n : ℤ) (image : List ℕ) → tableLength ≤ length t → isState n ≡ true → imageLength ≤ length image
+    → take imageLength image ≡ replicate imageLength 0 → restoreCall t n image ≡ (pos 17 ∷ [], t)
+unfolding firstRow intact intactAt
+zero-image t n image long number enough e =
+    restore-row t n image long 16
+    (rw (number, le-leb imageLength (length image) enough, broken))
+  where
+    -- the block number of block 1 is 0
+    zero-number : numberAt image (numberPlace 1) 4 ≡ 0
+    zero-number =
+        number-in image (replicate imageLength 0) (blockAt 1) 512 500 4 (omega arith)
+        (block-same image (replicate imageLength 0) (e ∙ sym (take-all imageLength _ (omega (arith, length-replicate {A = ℕ} imageLength 0)))) 1 (omega arith))
+        ∙ zeros-number imageLength (numberPlace 1) 4
+
+    broken : intact image ≡ false
+    broken =
+        all-fails (intactAt image) 1 blockCount (omega arith) (ap (λ b. eqb (numberAt image (checkPlace 1) 8) (checkOf image 1) && b) (ne-eqb _ _ (λ (q : numberAt image (numberPlace 1) 4 ≡ 1). absurd (omega (arith, zero-number)))) ∙ and-false (eqb (numberAt image (checkPlace 1) 8) (checkOf image 1)))
+
+-- ---- an accepted restore
+
+record Accepts (t : List ℤ) (n : ℤ) (image : List ℕ) : Type 0 where
+  isSound : sound (editionOf (imageNumbers image)) (imageNumbers image) ≡ true
+  left : restoreCall t n image .1 ≡ imageNumbers image ++ drop tableLength t
+
+accepts : (t : List ℤ) (n : ℤ) (image : List ℕ) → restoreCall t n image .0 ≡ pos 0 ∷ [] → Accepts t n image
+accepts t n image a = short (ltb (length t) tableLength) refl
+  where
+    given : (r : ℕ) (u : List ℤ) → restoreCall t n image ≡ (pos r ∷ [], u) → r ≡ 0
+    given r u e = answers-differ r 0 (sym (ap (λ (w : Numbers × List ℤ). w .0) e) ∙ a)
+
+    whole : tableLength ≤ length t → firstRow (imageRows n image) ≡ 0 → (b : Bool) → sound (editionOf (imageNumbers image)) (imageNumbers image) ≡ b → Accepts t n image
+    whole l z true s = record { isSound = s; left = ap (λ (w : Numbers × List ℤ). w .1) (restore-entered t n image l z s) }
+    whole l z false s = absurd (omega (arith, given 1 t (restore-unsound t n image l z s)))
+
+    row : tableLength ≤ length t → (r : ℕ) → firstRow (imageRows n image) ≡ r → Accepts t n image
+    row l zero z = whole l z (sound (editionOf (imageNumbers image)) (imageNumbers image)) refl
+    row l (suc r) z = absurd (omega (arith, given (suc r) t (restore-row t n image l r z)))
+
+    short : (b : Bool) → ltb (length t) tableLength ≡ b → Accepts t n image
+    short true e = absurd (omega (arith, given 1 t (restore-short t n image (ltb-true (length t) tableLength e))))
+    short false e = row (ltb-false (length t) tableLength e) (firstRow (imageRows n image)) refl
+
+restored : (t : List ℤ) (n : ℤ) (image : List ℕ) → restoreCall t n image .0 ≡ pos 0 ∷ [] → Restored (restoreCall t n image .1) image
+restored t n image a =
+    let z = accepts t n image a in
+    record {
+      number = λ j l.
+          ap (λ u. getD u j (pos 0)) (z .left) ∙ List·getD-append held (drop tableLength t) (pos 0) j (omega (arith, length-numbers image))
+          ∙ number-held image j l;
+      isSound = subst (λ u. sound (editionOf u) u ≡ true) (sym (z .left)) (ap (λ ed. sound ed (held ++ drop tableLength t)) same ∙ front .isSound);
+      book = ap (λ u. tableBook (editionOf u) u) (z .left) ∙ ap (λ ed. tableBook ed (held ++ drop tableLength t)) same ∙ front .book;
+    }
+  where
+    held : List ℤ
+    held = imageNumbers image
+
+    all : take tableLength held ≡ held
+    all = take-all tableLength held (omega (arith, length-numbers image))
+
+    same : editionOf (held ++ drop tableLength t) ≡ editionOf held
+    same = subst (λ u. editionOf (u ++ drop tableLength t) ≡ editionOf held) all (edition-front held (drop tableLength t))
+
+    front : Holds (editionOf held) (edition-fits held) (held ++ drop tableLength t) (tableBook (editionOf held) held)
+    front =
+        subst (λ u. Holds (editionOf held) (edition-fits held) (u ++ drop tableLength t) (tableBook (editionOf held) held)) all
+        (front-holds (editionOf held) (edition-fits held) held (accepts t n image a .isSound) (drop tableLength t))
+
+pub take-zeros : (lent : ℕ) → imageLength ≤ lent → take {A = ℕ} imageLength (replicate lent 0) ≡ replicate imageLength 0
+take-zeros lent h =
+    let e : imageLength + (lent - imageLength) ≡ lent = omega arith in
+    ap (λ k. take imageLength (replicate {A = ℕ} k 0)) (sym e)
+    ∙ ap (take imageLength) (sym (replicate-append-replicate imageLength (lent - imageLength) 0))
+    ∙ take-at (replicate imageLength 0) (replicate (lent - imageLength) 0) imageLength (length-replicate {A = ℕ} imageLength 0)
+
+left-enough : (t : List ℤ) (n : ℤ) (image : List ℕ) → Saves t n image → imageLength ≤ length (saveCall t n image .1)
+left-enough t n image s = omega (arith, ap length (s .left) ∙ length-image (natOf n) t image, s .enough)
+
+pub named-states : NamedStates
+named-states =
+    record {
+      givesBack = λ t t′ n image a long.
+          let s = saves t n image a in
+          back-same t t′ n image (saveCall t n image .1) (s .isSound) (s .isNumber) (s .enough) (left-enough t n image s) (ap (take imageLength) (s .left)) long;
+      anotherNumber = λ t t′ n m image a long other differ.
+          let s = saves t n image a in
+          back-other t t′ n image (saveCall t n image .1) (s .isSound) (s .isNumber) (s .enough) (left-enough t n image s) (ap (take imageLength) (s .left)) long m other differ;
+      zeroBytes = λ t n lent long number enough. zero-image t n (replicate lent 0) long number (omega (arith, length-replicate {A = ℕ} lent 0)) (take-zeros lent enough);
+      accepted = restored;
+    }
