@@ -10,8 +10,10 @@ use Rattle.journal.specs.declared.TransferWord.the-variants as Transfer�
 use Rattle.journal.specs.declared.QueryWord.{QueryWord}
 use Rattle.journal.specs.declared.QueryWord.the-variants as Query·
 use Rattle.journal.specs.declared.CallWord.the-variants as Call·
+use Rattle.journal.specs.declared.ImageWord.{ImageWord}
+use Rattle.journal.specs.declared.ImageWord.the-variants as Image·
 use Rattle.journal.specs.declared.Command.{Command}
-use Rattle.journal.specs.declared.Command.the-variants.{Call, Look, Table, Poke, Lend, Room, Hub, Unknown}
+use Rattle.journal.specs.declared.Command.the-variants.{Call, Look, Table, Poke, Lend, Room, Hub, Unknown, Image}
 
 unfoldable pub sameBytes : List ℕ → List ℕ → Bool
 sameBytes [] [] = true
@@ -32,6 +34,9 @@ transfer w name is other = notice w name (Notice·.Transfer is) other
 
 abbrev pub query : List ℕ → List ℕ → QueryWord → Command → Command
 query w name is other = pick (sameBytes w name) (Call (Call·.Query is)) other
+
+abbrev pub image : List ℕ → List ℕ → ImageWord → Command → Command
+image w name is other = pick (sameBytes w name) (Image is) other
 
 -- correct, withdraw, request
 unfoldable pub transferOr : List ℕ → Command → Command
@@ -58,19 +63,29 @@ queryOr w other =
     (query w (97 ∷ 99 ∷ 99 ∷ 111 ∷ 117 ∷ 110 ∷ 116 ∷ []) Query·.Account
     other)))
 
--- a transfer, another notice, a query; hub, alen, tlen, poke, table, look
+-- image, imgpoke, restore, save
+unfoldable pub imageOr : List ℕ → Command → Command
+imageOr w other =
+    (image w (105 ∷ 109 ∷ 97 ∷ 103 ∷ 101 ∷ []) Image·.Sums
+    (image w (105 ∷ 109 ∷ 103 ∷ 112 ∷ 111 ∷ 107 ∷ 101 ∷ []) Image·.Poke
+    (image w (114 ∷ 101 ∷ 115 ∷ 116 ∷ 111 ∷ 114 ∷ 101 ∷ []) Image·.Restore
+    (image w (115 ∷ 97 ∷ 118 ∷ 101 ∷ []) Image·.Save
+    other))))
+
+-- a transfer, another notice, a query, a line on images; hub, alen, tlen, poke, table, look
 unfoldable pub commandNamed : List ℕ → Command
 commandNamed w =
     transferOr w
     (noticeOr w
     (queryOr w
+    (imageOr w
     (pick (sameBytes w (104 ∷ 117 ∷ 98 ∷ [])) Hub
     (pick (sameBytes w (97 ∷ 108 ∷ 101 ∷ 110 ∷ [])) Room
     (pick (sameBytes w (116 ∷ 108 ∷ 101 ∷ 110 ∷ [])) Lend
     (pick (sameBytes w (112 ∷ 111 ∷ 107 ∷ 101 ∷ [])) Poke
     (pick (sameBytes w (116 ∷ 97 ∷ 98 ∷ 108 ∷ 101 ∷ [])) Table
     (pick (sameBytes w (108 ∷ 111 ∷ 111 ∷ 107 ∷ [])) Look
-    Unknown))))))))
+    Unknown)))))))))
 
 -- energy, allocate, account: the words that may follow `hub`
 unfoldable pub namedOnBytes : List ℕ → Command

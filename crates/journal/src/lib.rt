@@ -4,7 +4,7 @@ ghost use Prim.Native.Nat.{_+_, _*_, _<_, _≤_};
 ghost use lib.ListN.{length, drop};
 ghost use Rattle.journal.specs.Text.{isDigit, valueOfDigits, nonNegative, negative as Text·negative, numberOf, valueOf, wordsOf, numbersOf, readInto, takenCount};
 ghost use Rattle.journal.specs.InnerText.{capped, Skipped, Ended};
-ghost use Rattle.journal.specs.Names.{sameBytes, pick as Names·pick, noticeOr, transferOr, queryOr, commandNamed, namedOnBytes};
+ghost use Rattle.journal.specs.Names.{sameBytes, pick as Names·pick, noticeOr, transferOr, queryOr, imageOr, commandNamed, namedOnBytes};
 
 // The notices, which may change a register.
 pub enum NoticeWord {
@@ -34,6 +34,14 @@ pub enum CallWord {
     Query(QueryWord),
 }
 
+// The lines on the images of states. Poke is `imgpoke`, and Sums is `image`.
+pub enum ImageWord {
+    Save,
+    Restore,
+    Poke,
+    Sums,
+}
+
 // What a word of a journal asks for: a call, or a line of the journal's own. Lend is `tlen`, and Room is `alen`; the
 // word after `hub` names a call on bytes.
 pub enum Command {
@@ -45,6 +53,7 @@ pub enum Command {
     Room,
     Hub,
     Unknown,
+    Image(ImageWord),
 }
 
 // What a word stands for.
@@ -205,18 +214,15 @@ fn notice_or(w: &[u8], other: Command) -> Command
     pick_notice(w, b"status", NoticeWord::Status, c)
 }
 
-fn pick_transfer(w: &[u8], name: &[u8], is: TransferWord, other: Command) -> Command
-    ensures { λ r. ⌜ r ≡ Names·pick (sameBytes (now (w .entry)) (now (name .entry))) (Command.Call (CallWord.Notice (NoticeWord.Transfer is))) other ⌝ }
-{
-    pick_notice(w, name, NoticeWord::Transfer(is), other)
-}
-
 fn transfer_or(w: &[u8], other: Command) -> Command
     ensures { λ r. ⌜ r ≡ transferOr (now (w .entry)) other ⌝ }
 {
-    let c = pick_transfer(w, b"request", TransferWord::Request, other);
-    let c = pick_transfer(w, b"withdraw", TransferWord::Withdraw, c);
-    pick_transfer(w, b"correct", TransferWord::Correct, c)
+    let request = NoticeWord::Transfer(TransferWord::Request);
+    let withdraw = NoticeWord::Transfer(TransferWord::Withdraw);
+    let correct = NoticeWord::Transfer(TransferWord::Correct);
+    let c = pick_notice(w, b"request", request, other);
+    let c = pick_notice(w, b"withdraw", withdraw, c);
+    pick_notice(w, b"correct", correct, c)
 }
 
 fn query_or(w: &[u8], other: Command) -> Command
@@ -225,6 +231,15 @@ fn query_or(w: &[u8], other: Command) -> Command
     let c = pick_query(w, b"account", QueryWord::Account, other);
     let c = pick_query(w, b"allocate", QueryWord::Allocate, c);
     pick_query(w, b"date", QueryWord::Date, c)
+}
+
+fn image_or(w: &[u8], other: Command) -> Command
+    ensures { λ r. ⌜ r ≡ imageOr (now (w .entry)) other ⌝ }
+{
+    let c = pick(w, b"save", Command::Image(ImageWord::Save), other);
+    let c = pick(w, b"restore", Command::Image(ImageWord::Restore), c);
+    let c = pick(w, b"imgpoke", Command::Image(ImageWord::Poke), c);
+    pick(w, b"image", Command::Image(ImageWord::Sums), c)
 }
 
 // What a word asks for.
@@ -237,7 +252,7 @@ pub fn named(w: &[u8]) -> Command
     let c = pick(w, b"tlen", Command::Lend, c);
     let c = pick(w, b"alen", Command::Room, c);
     let c = pick(w, b"hub", Command::Hub, c);
-    transfer_or(w, notice_or(w, query_or(w, c)))
+    transfer_or(w, notice_or(w, query_or(w, image_or(w, c))))
 }
 
 // What the word after `hub` asks for.

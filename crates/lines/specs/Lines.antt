@@ -95,7 +95,7 @@ tableLine b xs =
     let past : ℕ × ℕ = sumsOf (bitsOf (drop tableLength (numbersHeld b))) in
     taking 0 xs (pos 0 ∷ pos (s .0) ∷ pos (s .1) ∷ pos (past .1) ∷ [], b)
 
--- ---- any line but tlen, alen and those on bytes
+-- ---- any line but tlen, alen, those on bytes and those on images
 
 -- The outcome on the first bytes of a buffer is one on the buffer: the others stay.
 abbrev pub onLent : List ℕ → ℕ → LineResult → LineResult
@@ -111,6 +111,7 @@ lineOf Command·.Lend b lent room xs = none
 lineOf Command·.Room b lent room xs = none
 lineOf Command·.Hub b lent room xs = none
 lineOf Command·.Unknown b lent room xs = none
+lineOf (Command·.Image w) b lent room xs = none
 
 -- ---- a call on buffers whose lengths the line says
 

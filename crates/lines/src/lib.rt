@@ -155,7 +155,7 @@ fn poke(register: &mut [u8], nums: &[i64], out: &mut [u8], at: usize) -> usize
     row(out, at, &[0])
 }
 
-// Any line but tlen, alen and those on bytes. Table and poke reach the whole buffer.
+// Any line but tlen, alen, those on bytes and those on images. Table and poke reach the whole buffer.
 pub fn answer(
     command: Command,
     register: &mut [u8],

@@ -6,6 +6,7 @@ use lib.IntN.{ℤ}
 use lib.ListN.{length}
 use Rattle.printing.specs.Rows.{rowBytes}
 use Rattle.lines.specs.Lines.{bufferNumbers, bufferBytes, lineNumbers, mostRoom}
+use Rattle.imagelines.specs.ImageLines.{imagesBytes}
 use Rattle.player.specs.declared.Standing.{Standing}
 
 -- The bytes of a line and those of the output.
@@ -28,9 +29,10 @@ pub record Answered (s r : Standing) : Type 0 where
   pub room : r .room ≤ mostRoom
   pub row : r .at ≤ s .at + rowBytes
 
--- The buffers: the register's, a line's, that of a line's numbers and the output's.
-pub record Sized (register line : List ℕ) (nums : List ℤ) (out : List ℕ) : Type 0 where
+-- The buffers: the register's, the images', a line's, that of a line's numbers and the output's.
+pub record Sized (register images line : List ℕ) (nums : List ℤ) (out : List ℕ) : Type 0 where
   pub of-register : length register ≡ bufferBytes
+  pub of-images : length images ≡ imagesBytes
   pub of-line : length line ≡ lineBytes
   pub of-nums : length nums ≡ lineNumbers
   pub of-out : length out ≡ outBytes

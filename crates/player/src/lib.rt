@@ -3,6 +3,7 @@ ghost use mathlib.Core.Path.{_≡_};
 ghost use Prim.Native.Nat.{_+_, _≤_};
 ghost use lib.ListN.{length};
 ghost use Rattle.lines.specs.Lines.{bufferBytes, lineNumbers};
+ghost use Rattle.imagelines.specs.ImageLines.{imagesBytes};
 ghost use Rattle.player.specs.InnerReady.{lineBytes, outBytes, Ready, Answered, Sized};
 use journal::Command;
 use journal::Taken;
@@ -68,21 +69,26 @@ fn set_room(nums: &[i64], out: &mut [u8], s: Standing) -> Standing
 fn obey(
     command: Command,
     register: &mut [u8],
+    images: &mut [u8],
     nums: &[i64],
     out: &mut [u8],
     s: Standing,
 ) -> Standing
-    requires { ⌜ Ready s × (length (now register) ≡ bufferBytes) × (length (now nums) ≤ lineNumbers) × (length (now out) ≡ outBytes) ⌝ }
+    requires { ⌜ Ready s × (length (now register) ≡ bufferBytes) × (length (now images) ≡ imagesBytes) × (length (now nums) ≤ lineNumbers) × (length (now out) ≡ outBytes) ⌝ }
     ensures { λ r. ⌜ Answered s r ⌝ }
 {
+    let lent = s.lent;
+    let room = s.room;
+    let at = s.at;
+    let mut r = s;
     match command {
         Command::Lend => set_lent(nums, out, s),
         Command::Room => set_room(nums, out, s),
+        Command::Image(w) => {
+            r.at = imagelines::answer(w, register, lent, images, nums, out, at);
+            r
+        }
         _ => {
-            let lent = s.lent;
-            let room = s.room;
-            let at = s.at;
-            let mut r = s;
             r.at = lines::answer(command, register, lent, room, nums, out, at);
             r
         }
@@ -132,8 +138,15 @@ fn on_bytes(
 }
 
 // A line that has a word. It is left alone, with no row, where it is no call.
-fn call(register: &mut [u8], line: &[u8], nums: &mut [i64], out: &mut [u8], s: Standing) -> Standing
-    requires { ⌜ Ready s × (length (now register) ≡ bufferBytes) × (length (now line) ≤ lineBytes) × (length (now nums) ≡ lineNumbers) × (length (now out) ≡ outBytes) ⌝ }
+fn call(
+    register: &mut [u8],
+    images: &mut [u8],
+    line: &[u8],
+    nums: &mut [i64],
+    out: &mut [u8],
+    s: Standing,
+) -> Standing
+    requires { ⌜ Ready s × (length (now register) ≡ bufferBytes) × (length (now images) ≡ imagesBytes) × (length (now line) ≤ lineBytes) × (length (now nums) ≡ lineNumbers) × (length (now out) ≡ outBytes) ⌝ }
     ensures { λ r. ⌜ Answered s r ⌝ }
 {
     let word = first_word(line, 0);
@@ -146,12 +159,19 @@ fn call(register: &mut [u8], line: &[u8], nums: &mut [i64], out: &mut [u8], s: S
     let Taken::Count(n) = journal::take_numbers(line, end, nums) else {
         return s;
     };
-    obey(command, register, &nums[0..n], out, s)
+    obey(command, register, images, &nums[0..n], out, s)
 }
 
 // A line of at most LINE_BYTES, which is the next after those that have ended.
-fn play(register: &mut [u8], line: &[u8], nums: &mut [i64], out: &mut [u8], s: Standing) -> Standing
-    requires { ⌜ Ready s × (length (now register) ≡ bufferBytes) × (length (now line) ≤ lineBytes) × (length (now nums) ≡ lineNumbers) × (length (now out) ≡ outBytes) ⌝ }
+fn play(
+    register: &mut [u8],
+    images: &mut [u8],
+    line: &[u8],
+    nums: &mut [i64],
+    out: &mut [u8],
+    s: Standing,
+) -> Standing
+    requires { ⌜ Ready s × (length (now register) ≡ bufferBytes) × (length (now images) ≡ imagesBytes) × (length (now line) ≤ lineBytes) × (length (now nums) ≡ lineNumbers) × (length (now out) ≡ outBytes) ⌝ }
     ensures { λ r. ⌜ Answered s r ⌝ }
 {
     if journal::skip(line, 0) == line.len() {
@@ -160,7 +180,7 @@ fn play(register: &mut [u8], line: &[u8], nums: &mut [i64], out: &mut [u8], s: S
     if line[0] == b'#' {
         return s;
     }
-    let played = call(register, line, nums, out, s);
+    let played = call(register, images, line, nums, out, s);
     if played.at == s.at {
         return unknown(out, s);
     }
@@ -195,33 +215,35 @@ fn flush(out: &[u8], s: Standing) -> Standing
 // The line that the buffer holds.
 fn play_filled(
     register: &mut [u8],
+    images: &mut [u8],
     line: &[u8],
     nums: &mut [i64],
     out: &mut [u8],
     s: Standing,
 ) -> Standing
-    requires { ⌜ Ready s × Sized (now register) (now line) (now nums) (now out) ⌝ }
+    requires { ⌜ Ready s × Sized (now register) (now images) (now line) (now nums) (now out) ⌝ }
     ensures { λ r. ⌜ Answered s r ⌝ }
 {
     let filled = s.filled;
     if LINE_BYTES < filled {
         return unknown(out, s);
     }
-    play(register, &line[0..filled], nums, out, s)
+    play(register, images, &line[0..filled], nums, out, s)
 }
 
 // The line has ended.
 fn end_line(
     register: &mut [u8],
+    images: &mut [u8],
     line: &[u8],
     nums: &mut [i64],
     out: &mut [u8],
     s: Standing,
 ) -> Standing
-    requires { ⌜ Ready s × Sized (now register) (now line) (now nums) (now out) ⌝ }
+    requires { ⌜ Ready s × Sized (now register) (now images) (now line) (now nums) (now out) ⌝ }
     ensures { λ r. ⌜ Ready r ⌝ }
 {
-    let mut r = play_filled(register, line, nums, out, s);
+    let mut r = play_filled(register, images, line, nums, out, s);
     r.lines = std::num::wrapping_add_u64(s.lines, 1);
     r.filled = 0;
     if OUT_BYTES - printing::ROW_BYTES < r.at {
@@ -248,36 +270,38 @@ fn keep(line: &mut [u8], s: Standing, b: u8) -> Standing
 
 fn byte(
     register: &mut [u8],
+    images: &mut [u8],
     line: &mut [u8],
     nums: &mut [i64],
     out: &mut [u8],
     s: Standing,
     b: u8,
 ) -> Standing
-    requires { ⌜ Ready s × Sized (now register) (now line) (now nums) (now out) ⌝ }
+    requires { ⌜ Ready s × Sized (now register) (now images) (now line) (now nums) (now out) ⌝ }
     ensures { λ r. ⌜ Ready r ⌝ }
 {
     if b == b'\n' {
-        return end_line(register, line, nums, out, s);
+        return end_line(register, images, line, nums, out, s);
     }
     keep(line, s, b)
 }
 
 fn walk(
     register: &mut [u8],
+    images: &mut [u8],
     line: &mut [u8],
     nums: &mut [i64],
     out: &mut [u8],
     s: Standing,
     chunk: &[u8],
 ) -> Standing
-    requires { ⌜ Ready s × Sized (now register) (now line) (now nums) (now out) ⌝ }
+    requires { ⌜ Ready s × Sized (now register) (now images) (now line) (now nums) (now out) ⌝ }
     ensures { λ r. ⌜ Ready r ⌝ }
 {
     let mut r = s;
     let mut i = 0;
     while i < chunk.len() {
-        r = byte(register, line, nums, out, r, chunk[i]);
+        r = byte(register, images, line, nums, out, r, chunk[i]);
         i += 1;
     }
     r
@@ -286,12 +310,13 @@ fn walk(
 // Reads once, plays the lines that end, and writes their rows: who types a line sees its row.
 fn turn(
     register: &mut [u8],
+    images: &mut [u8],
     line: &mut [u8],
     nums: &mut [i64],
     out: &mut [u8],
     s: Standing,
 ) -> Standing
-    requires { ⌜ Ready s × Sized (now register) (now line) (now nums) (now out) ⌝ }
+    requires { ⌜ Ready s × Sized (now register) (now images) (now line) (now nums) (now out) ⌝ }
     ensures { λ r. ⌜ Ready r ⌝ }
 {
     let mut chunk = io::large_buffer();
@@ -302,7 +327,7 @@ fn turn(
         return r;
     }
     let n = io::count(got, &chunk);
-    let r = walk(register, line, nums, out, s, &chunk[..n]);
+    let r = walk(register, images, line, nums, out, s, &chunk[..n]);
     flush(out, r)
 }
 
@@ -310,18 +335,19 @@ fn turn(
 // no run uses up.
 fn follow(
     register: &mut [u8],
+    images: &mut [u8],
     line: &mut [u8],
     nums: &mut [i64],
     out: &mut [u8],
     s: Standing,
 ) -> Standing
-    requires { ⌜ Ready s × Sized (now register) (now line) (now nums) (now out) ⌝ }
+    requires { ⌜ Ready s × Sized (now register) (now images) (now line) (now nums) (now out) ⌝ }
     ensures { λ r. ⌜ Ready r ⌝ }
 {
     let mut r = s;
     let mut turns = u64::MAX;
     while turns > 0 {
-        r = turn(register, line, nums, out, r);
+        r = turn(register, images, line, nums, out, r);
         if !r.more {
             return r;
         }
@@ -343,6 +369,7 @@ fn mark(register: &mut [u8])
 
 pub fn run() {
     let mut register = [0u8; lines::BUFFER_BYTES];
+    let mut images = [0u8; imagelines::IMAGES_BYTES];
     let mut line = [0u8; LINE_BYTES];
     let mut nums = [0i64; lines::LINE_NUMBERS];
     let mut out = [0u8; OUT_BYTES];
@@ -355,9 +382,16 @@ pub fn run() {
         at: 0,
         more: true,
     };
-    let s = follow(&mut register, &mut line, &mut nums, &mut out, start);
+    let s = follow(
+        &mut register,
+        &mut images,
+        &mut line,
+        &mut nums,
+        &mut out,
+        start,
+    );
     if 0 < s.filled {
-        let last = end_line(&mut register, &line, &mut nums, &mut out, s);
+        let last = end_line(&mut register, &mut images, &line, &mut nums, &mut out, s);
         flush(&out, last);
     }
 }

@@ -1,24 +1,16 @@
--- Sums, number by number. Assumes nothing.
+-- Sums, word by word. Assumes nothing.
 use mathlib.Core.Path.{_≡_}
 use mathlib.Core.List.{List}
 use Prim.Native.Nat.{ℕ, _+_, _%_, _^_, _≤_, _<_}
 use native.Mathlib.Numerals.{add-one}
-use lib.IntN.{ℤ, pos}
-use lib.ListN.{length, drop, getD, length-map, drop-of-length-le, List·getD-map}
+use lib.ListN.{length, drop, getD, drop-of-length-le}
 use lib.Seq.{drop-cons}
-use mir.Syntax.{w64}
-use mir.Val.{ofZ}
 use Rattle.words.specs.Sums.{sumsFrom}
-use Rattle.words.specs.Words.{bitsOf}
 
-pub sums-more : (t : List ℤ) (i s1 s2 b a s : ℕ) → i < length t → b ≡ ofZ w64 (getD t i (pos 0)) → a ≡ (s1 + b) % 2 ^ 64 → s ≡ (s2 + a) % 2 ^ 64 → sumsFrom a s (drop (i + 1) (bitsOf t)) ≡ sumsFrom s1 s2 (drop i (bitsOf t))
+pub sums-more : (ws : List ℕ) (i s1 s2 b a s : ℕ) → i < length ws → b ≡ getD ws i 0 → a ≡ (s1 + b) % 2 ^ 64 → s ≡ (s2 + a) % 2 ^ 64 → sumsFrom a s (drop (i + 1) ws) ≡ sumsFrom s1 s2 (drop i ws)
 unfolding sumsFrom
-sums-more t i s1 s2 b a s h x y z =
-    let l : i < length (bitsOf t) = rw length-map h in
-    rw (z, y, x, add-one i, drop-cons (bitsOf t) i 0 l, List·getD-map (ofZ w64) t i (pos 0))
+sums-more ws i s1 s2 b a s h x y z = rw (z, y, x, add-one i, drop-cons ws i 0 h)
 
-pub sums-end : (t : List ℤ) (i s1 s2 : ℕ) → length t ≤ i → sumsFrom s1 s2 (drop i (bitsOf t)) ≡ (s1, s2)
+pub sums-end : (ws : List ℕ) (i s1 s2 : ℕ) → length ws ≤ i → sumsFrom s1 s2 (drop i ws) ≡ (s1, s2)
 unfolding sumsFrom
-sums-end t i s1 s2 h =
-    let l : length (bitsOf t) ≤ i = rw length-map h in
-    rw (drop-of-length-le (bitsOf t) l)
+sums-end ws i s1 s2 h = rw (drop-of-length-le ws h)

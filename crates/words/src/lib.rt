@@ -145,3 +145,21 @@ pub fn sums(t: &[i64]) -> Checksum
     }
     Checksum { s1, s2 }
 }
+
+// The sums of bytes, each a word.
+pub fn byte_sums(b: &[u8]) -> Checksum
+    ensures { λ r. ⌜ (r .s1 ≡ sumsOf (now (b .entry)) .0) × (r .s2 ≡ sumsOf (now (b .entry)) .1) ⌝ }
+{
+    let mut sum: u64 = 0;
+    let mut of_sums: u64 = 0;
+    let mut at = 0;
+    while at < b.len() {
+        sum = std::num::wrapping_add_u64(sum, wide(b[at]));
+        of_sums = std::num::wrapping_add_u64(of_sums, sum);
+        at += 1;
+    }
+    Checksum {
+        s1: sum,
+        s2: of_sums,
+    }
+}

@@ -8,7 +8,7 @@ unfolding transferOr
 returns c =
     let withdraw = c .before .before in
     let request = withdraw .before .before in
-    rw (c .pick-transfer3 .ensures, withdraw .pick-transfer2 .ensures, request .pick-transfer .ensures)
+    rw (c .pick-notice3 .ensures, withdraw .pick-notice2 .ensures, request .pick-notice .ensures)
 
 pub transfer-or-spec : {M : Type 1} → statement M
 transfer-or-spec =
