@@ -1,7 +1,9 @@
-/* Compares the library with plain C, call by call, and then times both. It fails on unequal answers
-   or tables, never on a time. The library works on bytes, plain C on a table of numbers. */
+/* Compares the library with plain C, call by call, and then times both. It fails on unequal
+   answers, tables or images, never on a time. The library works on bytes, plain C on a table of
+   numbers. */
 #define _POSIX_C_SOURCE 199309L /* clock_gettime */
 #include "chance.h"
+#include "images.h"
 #include "places.h"
 #include "plain.h"
 #include "words.h"
@@ -12,7 +14,7 @@
 #include <string.h>
 #include <time.h>
 
-enum { BYTES = PETLUMAS_REGISTER_BYTES };
+enum { BYTES = PETLUMAS_REGISTER_BYTES, IMAGE_BYTES = PETLUMAS_IMAGE_BYTES };
 
 /* Many short batches: the least time is then one that no other program disturbed. */
 enum { ROUNDS = 200, BATCH = 20, DAYS_BATCH = 2 };
@@ -20,6 +22,7 @@ enum { ROUNDS = 200, BATCH = 20, DAYS_BATCH = 2 };
 struct both {
     uint8_t bytes[BYTES];
     int64_t table[REGISTER_NUMBERS];
+    uint8_t library_image[IMAGE_BYTES], c_image[IMAGE_BYTES];
 };
 
 static void decode(const uint8_t *bytes, int64_t *table) {
@@ -32,7 +35,9 @@ static void decode(const uint8_t *bytes, int64_t *table) {
 struct compared {
     struct chance chance;
     struct both both;
-    uint64_t calls, energies, corrections, accounts, allocations; /* all, and those given of each */
+    struct both restored;
+    uint64_t calls; /* all, and those given of each */
+    uint64_t energies, corrections, accounts, allocations, saves, restores;
 };
 
 static void expect(bool holds, const char *what, const int64_t *args) {
@@ -93,6 +98,26 @@ static struct plain_allocation c_allocate(const int64_t *table, int64_t *shares,
                           a[5]);
 }
 
+static int64_t library_save(const uint8_t *bytes, uint8_t *answer, uint8_t *image,
+                            const int64_t *a) {
+    return petlumas_save(bytes, BYTES, answer, PETLUMAS_SAVE_ANSWER_BYTES, image, IMAGE_BYTES,
+                         a[0]);
+}
+
+static int64_t c_save(const int64_t *table, uint8_t *image, const int64_t *a) {
+    return plain_save(table, REGISTER_NUMBERS, image, IMAGE_BYTES, a[0]);
+}
+
+static int64_t library_restore(uint8_t *bytes, uint8_t *answer, const uint8_t *image,
+                               const int64_t *a) {
+    return petlumas_restore(bytes, BYTES, answer, PETLUMAS_RESTORE_ANSWER_BYTES, image, IMAGE_BYTES,
+                            a[0]);
+}
+
+static int64_t c_restore(int64_t *table, const uint8_t *image, const int64_t *a) {
+    return plain_restore(table, REGISTER_NUMBERS, image, IMAGE_BYTES, a[0]);
+}
+
 static void compare_energy(struct compared *c, const int64_t *a) {
     uint8_t answer[PETLUMAS_ENERGY_ANSWER_BYTES];
     int64_t result = library_energy(c->both.bytes, answer, a);
@@ -151,6 +176,35 @@ static void compare_allocate(struct compared *c, const int64_t *a) {
     c->allocations += result == 0;
 }
 
+static void compare_save(struct compared *c, const int64_t *a) {
+    uint8_t answer[PETLUMAS_SAVE_ANSWER_BYTES];
+    int64_t result = library_save(c->both.bytes, answer, c->both.library_image, a);
+    int64_t plain = c_save(c->both.table, c->both.c_image, a);
+    expect(result == plain && get_number(answer, 0) == plain, "save", a);
+    expect(memcmp(c->both.library_image, c->both.c_image, IMAGE_BYTES) == 0, "save, image", a);
+    c->calls++;
+    c->saves += result == 0;
+}
+
+/* From the image saved last, often damaged, over the register restored last or any bytes. */
+static void compare_restore(struct compared *c, const int64_t *a) {
+    uint8_t answer[PETLUMAS_RESTORE_ANSWER_BYTES];
+    uint8_t *image = c->restored.library_image;
+    memcpy(image, c->both.library_image, IMAGE_BYTES);
+    for (uint64_t damages = below(&c->chance, 3); damages > 0; damages--)
+        damage_image(&c->chance, image);
+    if (one_in(&c->chance, 4)) {
+        memset(c->restored.bytes, (int)below(&c->chance, 256), BYTES);
+        decode(c->restored.bytes, c->restored.table);
+    }
+    int64_t result = library_restore(c->restored.bytes, answer, image, a);
+    int64_t plain = c_restore(c->restored.table, image, a);
+    expect(result == plain && get_number(answer, 0) == plain, "restore", a);
+    expect(same_table(&c->restored), "restore, table", a);
+    c->calls++;
+    c->restores += result == 0;
+}
+
 /* These calls on the register that arguments are chosen for, or on a damaged copy of it. */
 static void compare_calls(struct compared *c, uint64_t damages) {
     int64_t args[ARGS_MOST] = {0};
@@ -158,6 +212,11 @@ static void compare_calls(struct compared *c, uint64_t damages) {
     for (; damages > 0; damages--)
         damage_number(&c->chance, c->both.bytes);
     decode(c->both.bytes, c->both.table);
+    choose_state(&c->chance, args);
+    compare_save(c, args);
+    if (one_in(&c->chance, 8))
+        choose_state(&c->chance, args);
+    compare_restore(c, args);
     choose_account(&c->chance, args);
     compare_account(c, args);
     choose_allocate(&c->chance, args);
@@ -194,9 +253,11 @@ static void compare(struct compared *c, uint64_t lists, uint64_t length) {
             enter_others(c);
         }
     }
-    printf("equal answers and tables in %" PRIu64 " calls; given: %" PRIu64 " energy, %" PRIu64
-           " correct, %" PRIu64 " account, %" PRIu64 " allocate\n\n",
-           c->calls, c->energies, c->corrections, c->accounts, c->allocations);
+    printf("equal answers, tables and images in %" PRIu64 " calls; given: %" PRIu64
+           " energy, %" PRIu64 " correct, %" PRIu64 " account, %" PRIu64 " allocate, %" PRIu64
+           " save, %" PRIu64 " restore\n\n",
+           c->calls, c->energies, c->corrections, c->accounts, c->allocations, c->saves,
+           c->restores);
 }
 
 /* ---- registers to time on */
@@ -236,19 +297,29 @@ static void fill_point(uint8_t *reg, int64_t mirn, int64_t kind, int64_t days, b
     }
 }
 
+static const int64_t saved_state[ARGS_MOST] = {1};
+
+/* The same table and images for both sides. */
+static void share(struct both *both) {
+    uint8_t answer[PETLUMAS_SAVE_ANSWER_BYTES];
+    decode(both->bytes, both->table);
+    must_enter(library_save(both->bytes, answer, both->library_image, saved_state), "image");
+    must_enter(c_save(both->table, both->c_image, saved_state), "image in C");
+}
+
 /* Every eighth point is daily, the others have records over nearly all days. */
 static void make_full(struct both *both, bool spans) {
     uint8_t answer[PETLUMAS_FRESH_ANSWER_BYTES];
     must_enter(petlumas_fresh(both->bytes, BYTES, answer, sizeof answer, -1, -1), "start");
     for (int64_t mirn = 1; mirn <= POINTS; mirn++)
         fill_point(both->bytes, mirn, mirn % 8 == 0, mirn % 8 == 0 ? 1 : 832, spans);
-    decode(both->bytes, both->table);
+    share(both);
 }
 
 static void make_empty(struct both *both) {
     uint8_t answer[PETLUMAS_FRESH_ANSWER_BYTES];
     must_enter(petlumas_fresh(both->bytes, BYTES, answer, sizeof answer, -1, -1), "start");
-    decode(both->bytes, both->table);
+    share(both);
 }
 
 /* ---- times */
@@ -287,6 +358,24 @@ static void time_library_allocate(struct both *both, const int64_t *args) {
 static void time_c_allocate(struct both *both, const int64_t *args) {
     int64_t shares[POINTS];
     c_allocate(both->table, shares, args);
+}
+
+static void time_library_save(struct both *both, const int64_t *args) {
+    uint8_t answer[PETLUMAS_SAVE_ANSWER_BYTES];
+    library_save(both->bytes, answer, both->library_image, args);
+}
+
+static void time_c_save(struct both *both, const int64_t *args) {
+    c_save(both->table, both->c_image, args);
+}
+
+static void time_library_restore(struct both *both, const int64_t *args) {
+    uint8_t answer[PETLUMAS_RESTORE_ANSWER_BYTES];
+    library_restore(both->bytes, answer, both->library_image, args);
+}
+
+static void time_c_restore(struct both *both, const int64_t *args) {
+    c_restore(both->table, both->c_image, args);
 }
 
 /* Processor time, so that other programs count for little. */
@@ -346,6 +435,10 @@ static void time_against_c(const char *which, struct both *both) {
               time_pair(time_library_account, account, time_c_account, account, both, BATCH));
     print_row("  allocate over 400 days",
               time_pair(time_library_allocate, allocate, time_c_allocate, allocate, both, BATCH));
+    print_row("  save",
+              time_pair(time_library_save, saved_state, time_c_save, saved_state, both, BATCH));
+    print_row("  restore", time_pair(time_library_restore, saved_state, time_c_restore, saved_state,
+                                     both, BATCH));
     putchar('\n');
 }
 

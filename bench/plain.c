@@ -11,6 +11,13 @@ enum {
     USERS = 16,
     DAYS = LAST_DAY + 2, /* a registration may start on the day after the last */
     PERIOD = 425,
+    STATES = 4,
+    BLOCKS = 124,
+    BLOCK_NUMBERS = 62,
+    LABEL_AT = 8 * BLOCK_NUMBERS, /* state and block number, as one word */
+    CHECK_AT = LABEL_AT + 8,
+    BLOCK_BYTES = CHECK_AT + 8,
+    IMAGE_BYTES = BLOCKS * BLOCK_BYTES,
 };
 
 static const int64_t MIRN_MOST = 9999999999;
@@ -515,4 +522,75 @@ struct plain_allocation plain_allocate(const int64_t *table, size_t length, int6
     answer.nsl = most(tdq - daily - uag - clp, 0);
     split(table, weights, total, gasday, &answer, shares);
     return answer;
+}
+
+/* ---- save and restore */
+
+/* Words go in and out of an image as they lie in memory. */
+_Static_assert(__BYTE_ORDER__ == __ORDER_LITTLE_ENDIAN__, "images are little endian");
+
+struct check {
+    uint64_t sum, sums;
+};
+
+static void add(struct check *check, uint64_t word) {
+    check->sum += word;
+    check->sums += check->sum;
+}
+
+static void save_block(const int64_t *numbers, uint64_t label, uint8_t *block) {
+    struct check check = {0, 0};
+    for (size_t k = 0; k < BLOCK_NUMBERS; k++) {
+        add(&check, (uint64_t)numbers[k]);
+        memcpy(block + 8 * k, &numbers[k], 8);
+    }
+    add(&check, label);
+    memcpy(block + LABEL_AT, &label, 8);
+    memcpy(block + CHECK_AT, &check.sums, 8);
+}
+
+/* False if the check is wrong. */
+static bool load_block(const uint8_t *block, int64_t *numbers, uint64_t *label) {
+    struct check check = {0, 0};
+    for (size_t k = 0; k < BLOCK_NUMBERS; k++) {
+        memcpy(&numbers[k], block + 8 * k, 8);
+        add(&check, (uint64_t)numbers[k]);
+    }
+    memcpy(label, block + LABEL_AT, 8);
+    add(&check, *label);
+    return memcmp(block + CHECK_AT, &check.sums, 8) == 0;
+}
+
+int64_t plain_save(const int64_t *table, size_t length, uint8_t *image, size_t image_length,
+                   int64_t state) {
+    if (!plain_sound(table, length))
+        return 1;
+    if (!within(state, 1, STATES) || image_length < IMAGE_BYTES)
+        return 2;
+    for (uint64_t b = 0; b < BLOCKS; b++)
+        save_block(table + BLOCK_NUMBERS * b, (uint64_t)state | b << 32, image + BLOCK_BYTES * b);
+    return 0;
+}
+
+int64_t plain_restore(int64_t *table, size_t length, const uint8_t *image, size_t image_length,
+                      int64_t state) {
+    int64_t held[REGISTER_NUMBERS];
+    bool other = false;
+    if (length < REGISTER_NUMBERS)
+        return 1;
+    if (!within(state, 1, STATES) || image_length < IMAGE_BYTES)
+        return 2;
+    for (uint64_t b = 0; b < BLOCKS; b++) {
+        uint64_t label;
+        if (!load_block(image + BLOCK_BYTES * b, held + BLOCK_NUMBERS * b, &label) ||
+            label >> 32 != b)
+            return 17;
+        other = other || (label & UINT32_MAX) != (uint64_t)state;
+    }
+    if (other)
+        return 18;
+    if (!plain_sound(held, REGISTER_NUMBERS))
+        return 1;
+    memcpy(table, held, sizeof held);
+    return 0;
 }

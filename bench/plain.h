@@ -43,4 +43,10 @@ struct plain_allocation plain_allocate(const int64_t *table, size_t length, int6
                                        size_t shares_length, int64_t gasday, int64_t from,
                                        int64_t to, int64_t tdq, int64_t uag, int64_t clp);
 
+/* These give the refusal. */
+int64_t plain_save(const int64_t *table, size_t length, uint8_t *image, size_t image_length,
+                   int64_t state);
+int64_t plain_restore(int64_t *table, size_t length, const uint8_t *image, size_t image_length,
+                      int64_t state);
+
 #endif

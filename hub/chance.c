@@ -177,6 +177,16 @@ void choose_allocate(struct chance *c, int64_t *args) {
     args[5] = mostly(c, between(c, -1000000, 1000000));
 }
 
+/* Now and then the first number that is no state's, or one with a state's low four bytes. */
+void choose_state(struct chance *c, int64_t *args) {
+    int64_t state = between(c, 1, 4);
+    if (one_in(c, 20))
+        state = 5 * between(c, 0, 1);
+    else if (one_in(c, 20))
+        state += INT64_C(1) << 32;
+    args[0] = mostly(c, state);
+}
+
 void choose_date(struct chance *c, int64_t *args) {
     args[0] = mostly(c, between(c, 1969, 2080));
     args[1] = mostly(c, between(c, 0, 13));

@@ -35,6 +35,7 @@ void choose_withdraw(struct chance *c, int64_t *args);
 void choose_correct(struct chance *c, int64_t *args);
 void choose_account(struct chance *c, int64_t *args);
 void choose_allocate(struct chance *c, int64_t *args);
+void choose_state(struct chance *c, int64_t *args); /* of save and restore */
 void choose_date(struct chance *c, int64_t *args);
 
 #endif

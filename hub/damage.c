@@ -1,8 +1,8 @@
-/* Calls every function on damaged registers and on buffers of odd lengths and looks at what it left
-   in every buffer. A buffer has its exact size on the heap, or it ends or begins at a page that
-   nobody may touch, so that an access outside ends the program or is seen by a memory checker. */
-#define _DEFAULT_SOURCE /* MAP_ANONYMOUS */
+/* Calls every function on damaged registers and images and on buffers of odd lengths and looks at
+   what it left in every buffer. */
 #include "chance.h"
+#include "images.h"
+#include "lent.h"
 #include "petlumas.h"
 #include "words.h"
 
@@ -10,24 +10,14 @@
 #include <stdio.h>
 #include <stdlib.h>
 #include <string.h>
-#include <sys/mman.h>
 
 enum {
     REGISTER_BYTES = PETLUMAS_REGISTER_BYTES,
-    PAST_BYTES = 128, /* lent behind a register at most */
+    PAST_BYTES = 128, /* lent behind a register or an image at most */
+    IMAGE_BYTES = PETLUMAS_IMAGE_BYTES,
     SHARES_BYTES = PETLUMAS_ALLOCATE_TABLE_BYTES,
-    PAGE_BYTES = 4096,
-    ARENA_BYTES = 16 * PAGE_BYTES,
     REFUSALS = 22,
     CASES_PER_REGISTER = 250,
-};
-
-struct lent {
-    uint8_t *arena; /* ARENA_BYTES between two forbidden pages */
-    uint8_t *block; /* on the heap, if any */
-    uint8_t *at;
-    size_t length;
-    uint8_t before[ARENA_BYTES]; /* what it held when it was lent */
 };
 
 struct test {
@@ -36,7 +26,8 @@ struct test {
     uint64_t calls;
     uint64_t failures;
     uint8_t work[REGISTER_BYTES + PAST_BYTES]; /* the chance's register, perhaps damaged */
-    struct lent reg, answer, table, holidays;
+    uint8_t copy[IMAGE_BYTES + PAST_BYTES];    /* what is lent as an image or expected of a call */
+    struct lent reg, answer, table, holidays, image;
 };
 
 struct function {
@@ -49,52 +40,10 @@ struct function {
 
 /* ---- lent buffers */
 
-static void out_of_memory(void) {
-    perror("damage");
-    exit(2);
-}
-
-static void make_arena(struct lent *lent) {
-    uint8_t *pages =
-        mmap(NULL, ARENA_BYTES + 2 * PAGE_BYTES, PROT_NONE, MAP_PRIVATE | MAP_ANONYMOUS, -1, 0);
-    if (pages == MAP_FAILED)
-        out_of_memory();
-    lent->arena = pages + PAGE_BYTES;
-    if (mprotect(lent->arena, ARENA_BYTES, PROT_READ | PROT_WRITE) != 0)
-        out_of_memory();
-}
-
-static void lend(struct test *t, struct lent *lent, const uint8_t *bytes, size_t length) {
-    uint64_t way = below(&t->chance, 3);
-    lent->block = NULL;
-    lent->length = length;
-    if (way == 0) {
-        size_t unused = length == 0 ? 1 : 0; /* so that the pointer is one */
-        lent->block = malloc(length + unused);
-        if (lent->block == NULL)
-            out_of_memory();
-        lent->at = lent->block + unused;
-    } else {
-        lent->at = way == 1 ? lent->arena : lent->arena + ARENA_BYTES - length;
-    }
-    memcpy(lent->before, bytes, length);
-    memcpy(lent->at, bytes, length);
-}
-
-static void take_back(struct lent *lent) {
-    free(lent->block);
-    lent->block = NULL;
-}
-
-static bool unchanged_from(const struct lent *lent, size_t place) {
-    return lent->length <= place ||
-           memcmp(lent->at + place, lent->before + place, lent->length - place) == 0;
-}
-
 static void lend_filled(struct test *t, struct lent *lent, size_t length) {
     uint8_t fill[512];
     memset(fill, (int)below(&t->chance, 256), sizeof fill);
-    lend(t, lent, fill, length);
+    lend(&t->chance, lent, fill, length);
 }
 
 /* Often what is needed, else a few bytes less or more, or none. */
@@ -135,7 +84,22 @@ static void lend_holidays(struct test *t) {
         put_number(list, k, one_in(&t->chance, 200) ? wild(&t->chance) : day);
         day += between(&t->chance, 1, 40);
     }
-    lend(t, &t->holidays, list, 8 * count + (size_t)below(&t->chance, 8));
+    lend(&t->chance, &t->holidays, list, 8 * count + (size_t)below(&t->chance, 8));
+}
+
+/* For restore an image of the case's register, which may be unsound, or of a sound one, as it is or
+   damaged; for save, and sometimes for restore, no image. */
+static void lend_image(struct test *t, bool restores, int64_t state) {
+    struct chance *c = &t->chance;
+    memset(t->copy, one_in(c, 2) ? 0 : (int)below(c, 256), sizeof t->copy);
+    if (restores && !one_in(c, 20)) {
+        const uint8_t *reg = one_in(c, 2) ? t->work : c->reg;
+        write_image(t->copy, reg, one_in(c, 10) ? (uint32_t)below(c, 6) : (uint32_t)state);
+        if (one_in(c, 2))
+            for (uint64_t k = 1 + below(c, 3); k > 0; k--)
+                damage_image(c, t->copy);
+    }
+    lend(c, &t->image, t->copy, choose_length(t, IMAGE_BYTES));
 }
 
 /* ---- calls */
@@ -183,6 +147,16 @@ static int64_t call_allocate(struct test *t, const int64_t *a) {
                              t->table.length, a[0], a[1], a[2], a[3], a[4], a[5]);
 }
 
+static int64_t call_save(struct test *t, const int64_t *a) {
+    return petlumas_save(t->reg.at, t->reg.length, t->answer.at, t->answer.length, t->image.at,
+                         t->image.length, a[0]);
+}
+
+static int64_t call_restore(struct test *t, const int64_t *a) {
+    return petlumas_restore(t->reg.at, t->reg.length, t->answer.at, t->answer.length, t->image.at,
+                            t->image.length, a[0]);
+}
+
 static int64_t call_date(struct test *t, const int64_t *a) {
     return petlumas_date(t->answer.at, t->answer.length, a[0], a[1], a[2]);
 }
@@ -197,6 +171,8 @@ enum {
     CORRECT,
     ACCOUNT,
     ALLOCATE,
+    SAVE,
+    RESTORE,
     DATE,
     FUNCTIONS
 };
@@ -211,6 +187,8 @@ static const struct function functions[FUNCTIONS] = {
     [CORRECT] = {"correct", 17, true, choose_correct, call_correct},
     [ACCOUNT] = {"account", 2, false, choose_account, call_account},
     [ALLOCATE] = {"allocate", 18, false, choose_allocate, call_allocate},
+    [SAVE] = {"save", 1, false, choose_state, call_save},
+    [RESTORE] = {"restore", 1, true, choose_state, call_restore},
     [DATE] = {"date", 2, false, choose_date, call_date},
 };
 
@@ -256,6 +234,45 @@ static void check_others(struct test *t, const struct function *f, int64_t resul
            "the answer table changed where it may not");
 }
 
+/* An account with good numbers is refused only for a short or unsound register. */
+static bool is_sound(const uint8_t *reg, size_t length) {
+    uint8_t answer[16];
+    return petlumas_account(reg, length, answer, sizeof answer, 1, 0, 0) == 0;
+}
+
+static void check_save(struct test *t, int64_t state, bool sound, int64_t result) {
+    const struct function *f = &functions[SAVE];
+    bool good = 1 <= state && state <= 4 && t->image.length >= IMAGE_BYTES && t->answer.length >= 8;
+    expect(t, result == (!sound ? 1 : good ? 0 : 2), f, "not the refusal that the bytes get");
+    expect(t, unchanged_from(&t->image, result == 0 ? IMAGE_BYTES : 0), f,
+           "the image changed where it may not");
+    if (result != 0)
+        return;
+    write_image(t->copy, t->reg.before, (uint32_t)state);
+    expect(t, memcmp(t->image.at, t->copy, IMAGE_BYTES) == 0, f, "not the register's image");
+}
+
+/* The refusal that the lent bytes get; the image's register is copied where it is looked at. */
+static int64_t judge_restore(struct test *t, int64_t state) {
+    if (t->reg.length < REGISTER_BYTES)
+        return 1;
+    if (t->answer.length < 8)
+        return 2;
+    int64_t refusal = judge_image(t->image.before, t->image.length, state);
+    if (refusal != 0)
+        return refusal;
+    read_image(t->image.before, t->copy);
+    return is_sound(t->copy, REGISTER_BYTES) ? 0 : 1;
+}
+
+static void check_restore(struct test *t, int64_t state, int64_t result) {
+    const struct function *f = &functions[RESTORE];
+    expect(t, result == judge_restore(t, state), f, "not the refusal that the bytes get");
+    expect(t, unchanged_from(&t->image, 0), f, "the image changed");
+    if (result == 0)
+        expect(t, memcmp(t->reg.at, t->copy, REGISTER_BYTES) == 0, f, "not the image's register");
+}
+
 /* ---- cases */
 
 /* The current register, as it is, with a few numbers damaged, or all noise. */
@@ -270,39 +287,66 @@ static void make_work(struct test *t) {
             damage_number(&t->chance, t->work);
 }
 
-/* An account with good numbers is refused only for a short or unsound register. */
-static bool is_sound(const uint8_t *reg, size_t length) {
-    uint8_t answer[16];
-    return petlumas_account(reg, length, answer, sizeof answer, 1, 0, 0) == 0;
+/* The case's register, or for restore any bytes, so that it shows what is not written. */
+static void lend_register(struct test *t, bool restores, size_t length) {
+    bool any = restores && one_in(&t->chance, 2);
+    if (any)
+        memset(t->copy, (int)below(&t->chance, 256), length);
+    lend(&t->chance, &t->reg, any ? t->copy : t->work, length);
+}
+
+static void lend_buffers(struct test *t, const struct function *f, size_t length, int64_t state) {
+    lend_register(t, f == &functions[RESTORE], length);
+    lend_filled(t, &t->answer, choose_length(t, 8 * f->fields));
+    lend_filled(t, &t->table, choose_length(t, SHARES_BYTES));
+    lend_holidays(t);
+    if (f == &functions[SAVE] || f == &functions[RESTORE])
+        lend_image(t, f == &functions[RESTORE], state);
+}
+
+static void take_all_back(struct test *t) {
+    take_back(&t->reg);
+    take_back(&t->answer);
+    take_back(&t->table);
+    take_back(&t->holidays);
+    take_back(&t->image);
+}
+
+/* Whether the soundness of the lent register is asked for. */
+static bool asks_sound(const struct function *f) {
+    return f != &functions[FRESH] && f != &functions[RESTORE] && f != &functions[DATE];
+}
+
+static void check_call(struct test *t, const struct function *f, const int64_t *args, bool sound,
+                       int64_t result) {
+    expect(t, 0 <= result && result < REFUSALS, f, "no such refusal");
+    check_answer(t, f, result);
+    check_register(t, f, result);
+    check_others(t, f, result);
+    if (f == &functions[SAVE])
+        check_save(t, args[0], sound, result);
+    if (f == &functions[RESTORE])
+        check_restore(t, args[0], result);
+    if (asks_sound(f))
+        expect(t, (result == 1) == !sound, f, "1 is not for what is short or unsound alone");
+    if (f->writes && result == 0)
+        expect(t, is_sound(t->reg.at, t->reg.length), f, "an unsound register was left");
 }
 
 static void try_function(struct test *t, const struct function *f, size_t length, bool sound,
                          uint64_t *refusals) {
     int64_t args[ARGS_MOST] = {0};
-    lend(t, &t->reg, t->work, length);
-    lend_filled(t, &t->answer, choose_length(t, 8 * f->fields));
-    lend_filled(t, &t->table, choose_length(t, SHARES_BYTES));
-    lend_holidays(t);
     f->choose(&t->chance, args);
+    lend_buffers(t, f, length, args[0]);
     int64_t result = f->call(t, args);
     t->calls++;
-    expect(t, 0 <= result && result < REFUSALS, f, "no such refusal");
+    check_call(t, f, args, sound, result);
     if (0 <= result && result < REFUSALS)
         refusals[result]++;
-    check_answer(t, f, result);
-    check_register(t, f, result);
-    check_others(t, f, result);
-    if (f != &functions[FRESH] && f != &functions[DATE])
-        expect(t, (result == 1) == !sound, f, "1 is not for what is short or unsound alone");
-    if (f->writes && result == 0) {
-        expect(t, is_sound(t->reg.at, t->reg.length), f, "an unsound register was left");
-        if (f != &functions[FRESH])
-            memcpy(t->chance.reg, t->reg.at, REGISTER_BYTES);
-    }
-    take_back(&t->reg);
-    take_back(&t->answer);
-    take_back(&t->table);
-    take_back(&t->holidays);
+    /* Fresh and restore would undo what other calls entered. */
+    if (f->writes && result == 0 && asks_sound(f))
+        memcpy(t->chance.reg, t->reg.at, REGISTER_BYTES);
+    take_all_back(t);
 }
 
 static void run_case(struct test *t, uint64_t refusals[FUNCTIONS][REFUSALS]) {
@@ -339,6 +383,7 @@ int main(int argc, char **argv) {
     make_arena(&test.answer);
     make_arena(&test.table);
     make_arena(&test.holidays);
+    make_arena(&test.image);
     for (test.number = 0; test.number < cases && test.failures < 20; test.number++)
         run_case(&test, refusals);
     print_counts(refusals);

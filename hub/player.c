@@ -27,6 +27,7 @@ void start_player(struct player *player, FILE *out) {
     memset(player->buffer, 0, sizeof player->buffer);
     for (size_t k = 0; k < PAST_NUMBERS; k++)
         put_number(player->buffer, REGISTER_NUMBERS + k, 1000 + (int64_t)k);
+    memset(player->images, 0, sizeof player->images);
     player->lent = REGISTER_NUMBERS;
     player->shares = POINTS;
     player->out = out;
@@ -34,6 +35,14 @@ void start_player(struct player *player, FILE *out) {
 
 static size_t lent_bytes(const struct player *player) {
     return 8 * player->lent;
+}
+
+static bool is_length(int64_t n, int64_t most) {
+    return 0 <= n && n <= most;
+}
+
+static bool is_image(int64_t n) {
+    return 0 <= n && n < IMAGES;
 }
 
 /* ---- rows */
@@ -63,6 +72,16 @@ static struct sums sum_numbers(const uint8_t *bytes, size_t count) {
     struct sums sums = {0, 0};
     for (size_t k = 0; k < count; k++) {
         sums.s1 += (uint64_t)get_number(bytes, k);
+        sums.s2 += sums.s1;
+    }
+    return sums;
+}
+
+/* The same of bytes, each a number. */
+static struct sums sum_bytes(const uint8_t *bytes, size_t count) {
+    struct sums sums = {0, 0};
+    for (size_t k = 0; k < count; k++) {
+        sums.s1 += bytes[k];
         sums.s2 += sums.s1;
     }
     return sums;
@@ -142,13 +161,36 @@ static bool play_allocate(struct player *p, struct numbers n) {
     return print_answer(p, table, p->shares);
 }
 
+/* Save's and restore's numbers: the state, the image's buffer, how many of its bytes are lent. */
+static bool lends_image(struct numbers n) {
+    return is_image(n.at[1]) && is_length(n.at[2], IMAGE_BUFFER_BYTES);
+}
+
+static bool play_save(struct player *p, struct numbers n) {
+    uint8_t answer[PETLUMAS_SAVE_ANSWER_BYTES];
+    if (!lends_image(n))
+        return false;
+    petlumas_save(p->buffer, lent_bytes(p), answer, sizeof answer, p->images[n.at[1]],
+                  (size_t)n.at[2], n.at[0]);
+    return print_answer(p, answer, sizeof answer / 8);
+}
+
+static bool play_restore(struct player *p, struct numbers n) {
+    uint8_t answer[PETLUMAS_RESTORE_ANSWER_BYTES];
+    if (!lends_image(n))
+        return false;
+    petlumas_restore(p->buffer, lent_bytes(p), answer, sizeof answer, p->images[n.at[1]],
+                     (size_t)n.at[2], n.at[0]);
+    return print_answer(p, answer, sizeof answer / 8);
+}
+
 static bool play_date(struct player *p, struct numbers n) {
     uint8_t answer[PETLUMAS_DATE_ANSWER_BYTES];
     petlumas_date(answer, sizeof answer, n.at[0], n.at[1], n.at[2]);
     return print_answer(p, answer, sizeof answer / 8);
 }
 
-/* ---- lines that look at the buffer */
+/* ---- lines that look at the buffers */
 
 /* An account with good numbers is refused only where the register is short or unsound. */
 static bool is_sound(const struct player *p) {
@@ -205,6 +247,22 @@ static bool play_table(struct player *p, struct numbers n) {
     return true;
 }
 
+static bool play_imgpoke(struct player *p, struct numbers n) {
+    if (!is_image(n.at[0]) || n.at[1] < 0 || n.at[1] >= IMAGE_BUFFER_BYTES || n.at[2] < 0 ||
+        n.at[2] > 255)
+        return false;
+    p->images[n.at[0]][n.at[1]] = (uint8_t)n.at[2];
+    return print_done(p);
+}
+
+static bool play_image(struct player *p, struct numbers n) {
+    if (!is_image(n.at[0]))
+        return false;
+    struct sums sums = sum_bytes(p->images[n.at[0]], IMAGE_BUFFER_BYTES);
+    fprintf(p->out, "0 %" PRIu64 " %" PRIu64 "\n", sums.s1, sums.s2);
+    return true;
+}
+
 /* ---- hub lines: buffers of any length, each of its own exact size on the heap, so that a memory
    checker sees every access outside */
 
@@ -227,10 +285,6 @@ static void print_hex(const struct player *p, struct bytes b) {
     fputs(b.length == 0 ? " -" : " ", p->out);
     for (size_t k = 0; k < b.length; k++)
         fprintf(p->out, "%02x", b.at[k]);
-}
-
-static bool is_length(int64_t n, int64_t most) {
-    return 0 <= n && n <= most;
 }
 
 static struct bytes copy_register(const struct player *p, int64_t length) {
@@ -296,10 +350,12 @@ static const struct call calls[] = {
     {"energy", 6, play_energy},     {"status", 3, play_status},
     {"request", ANY, play_request}, {"withdraw", 2, play_withdraw},
     {"correct", 4, play_correct},   {"account", 3, play_account},
-    {"allocate", 6, play_allocate}, {"date", 3, play_date},
+    {"allocate", 6, play_allocate}, {"save", 3, play_save},
+    {"restore", 3, play_restore},   {"date", 3, play_date},
     {"look", 1, play_look},         {"poke", 2, play_poke},
     {"tlen", 1, play_tlen},         {"alen", 1, play_alen},
-    {"table", 0, play_table},       {NULL, 0, NULL},
+    {"table", 0, play_table},       {"imgpoke", 3, play_imgpoke},
+    {"image", 1, play_image},       {NULL, 0, NULL},
 };
 
 static const struct call hub_calls[] = {

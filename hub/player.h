@@ -1,4 +1,4 @@
-/* One register of bytes and the calls of a journal on it. */
+/* One register of bytes, its images and the calls of a journal on them. */
 #ifndef HUB_PLAYER_H
 #define HUB_PLAYER_H
 
@@ -12,12 +12,15 @@ enum {
     BUFFER_BYTES = 8 * BUFFER_NUMBERS,
     SHARES_MOST = 64,  /* numbers of the longest answer table */
     REPLY_BYTES = 300, /* the longest answer or answer table of a hub line */
+    IMAGES = 5,
+    IMAGE_BUFFER_BYTES = 63504, /* 16 more than an image; no call may touch them */
 };
 
 struct player {
     uint8_t buffer[BUFFER_BYTES];
     size_t lent;   /* numbers of the buffer that calls are lent */
     size_t shares; /* numbers of allocate's answer table */
+    uint8_t images[IMAGES][IMAGE_BUFFER_BYTES];
     FILE *out;
 };
 

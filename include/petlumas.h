@@ -4,12 +4,21 @@
  * caller keeps, saves and copies as it likes: 7,688 signed numbers of 8 bytes,
  * little endian. petlumas_fresh makes a register of any bytes.
  *
+ * An image is a register saved under a state number, in a buffer of
+ * PETLUMAS_IMAGE_BYTES bytes or more: 124 blocks of 512 bytes. A block has 62
+ * of the register's numbers in order, 8 bytes each, then the state number and
+ * the block's number from 0, 4 bytes each, then its check of 8 bytes, all
+ * little endian. For the check keep a sum of the block's first 63 words of 8
+ * bytes and a sum of those sums, both modulo 2^64 and from 0: it is the second.
+ *
  * Each function returns a refusal: 0 where the call was entered or answered,
  * else the first number of its own list, under "Refusals", that applies: the
- * lowest, but for petlumas_correct, which tests 16 last. After a refusal the
- * register is as it was.
+ * lowest, but for petlumas_correct, which tests 16 last, and petlumas_restore,
+ * which tests last whether the image's register is sound. After a refusal the
+ * register and the image are as they were.
  *
- *    1  the register is too short or (petlumas_fresh aside) unsound
+ *    1  the register is too short or (petlumas_fresh and petlumas_restore
+ *       aside) unsound, or the register in an image to restore is unsound
  *    2  a number out of range, no such date, from after to (for an allocation
  *       after to + 1), to not before the gas day, more than 400 days, or a
  *       buffer other than the register too short
@@ -29,6 +38,8 @@
  *   15  there is nothing to split the load by
  *   16  no room: 33rd point, 49th record, 9th off span, 9th registration, or an
  *       8th beside a request that stays pending
+ *   17  a block of the image has a wrong check or a wrong block number
+ *   18  an intact image has another state number in some block
  *   19  the points left would not cover the other operators' unfilled reserves
  *   20  the correction day is after the notice day or more than 425 days before
  *       it, or before install
@@ -38,22 +49,24 @@
  * each, little endian. It is written on a refusal too, with every field 0. An
  * answer buffer shorter than the function's PETLUMAS_.._ANSWER_BYTES is the one
  * exception: then no buffer is written, and the result is 2, or 1 where the
- * register gets 1.
+ * lent register gets 1, whatever an image holds.
  *
  * Bytes of a buffer past those named here are never read or written.
  *
  * A day is 0 to 39,999, from 1 January 1970 to 7 July 2079. A MIRN is 1 to
  * 9,999,999,999, a User 1 to 16, a kind 0 (non-daily) or 1 (daily metered), a
  * type 0 (actual), 1 (estimated) or 2 (substituted), a section 1 (Wagga Wagga
- * and Tamworth) or 0 (the rest), an operator 1 to 4, a yes 1 and a no 0. Energy
- * is in whole MJ, -1,000,000 to 1,000,000. Any other number gets its refusal.
+ * and Tamworth) or 0 (the rest), an operator 1 to 4, a state number 1 to 4, a
+ * yes 1 and a no 0. Energy is in whole MJ, -1,000,000 to 1,000,000. Any other
+ * number gets its refusal.
  *
  * What the caller owes, since no proof can see it:
  *   - A pointer is not null and has as many bytes behind it as its length says.
  *   - The buffers of one call do not overlap, and no other thread touches them
  *     meanwhile. There are no globals, so calls on different buffers may run at
  *     the same time.
- *   - The thread has 80 KiB of stack left. Nothing is allocated.
+ *   - The thread has 80 KiB of stack left, for petlumas_restore 144 KiB.
+ *     Nothing is allocated.
  */
 #ifndef PETLUMAS_H
 #define PETLUMAS_H
@@ -62,6 +75,7 @@
 #include <stdint.h>
 
 #define PETLUMAS_REGISTER_BYTES 61504
+#define PETLUMAS_IMAGE_BYTES 63488
 
 #define PETLUMAS_FRESH_ANSWER_BYTES 8
 #define PETLUMAS_OPEN_ANSWER_BYTES 8
@@ -72,6 +86,8 @@
 #define PETLUMAS_CORRECT_ANSWER_BYTES 136
 #define PETLUMAS_ACCOUNT_ANSWER_BYTES 16
 #define PETLUMAS_ALLOCATE_ANSWER_BYTES 144
+#define PETLUMAS_SAVE_ANSWER_BYTES 8
+#define PETLUMAS_RESTORE_ANSWER_BYTES 8
 #define PETLUMAS_DATE_ANSWER_BYTES 16
 
 #define PETLUMAS_ALLOCATE_TABLE_BYTES 256
@@ -194,6 +210,29 @@ int64_t petlumas_allocate(const uint8_t *PETLUMAS_RESTRICT reg, size_t reg_len,
                           uint8_t *PETLUMAS_RESTRICT table, size_t table_len,
                           int64_t gasday, int64_t from, int64_t to,
                           int64_t tdq, int64_t uag, int64_t clp);
+
+/* Saves the register as an image.
+ * image: PETLUMAS_IMAGE_BYTES bytes or more. Where the result is 0 its first
+ *   PETLUMAS_IMAGE_BYTES bytes are the image; else it is as it was.
+ * state: the state number.
+ * Answer: no field.
+ * Refusals: 1, 2 (an image too short included). */
+int64_t petlumas_save(const uint8_t *PETLUMAS_RESTRICT reg, size_t reg_len,
+                      uint8_t *PETLUMAS_RESTRICT answer, size_t answer_len,
+                      uint8_t *PETLUMAS_RESTRICT image, size_t image_len,
+                      int64_t state);
+
+/* Restores the register that an image holds, over any bytes.
+ * image: PETLUMAS_IMAGE_BYTES bytes or more.
+ * state: the state number that the image was saved under.
+ * Answer: no field.
+ * Refusals: 1 (too short only), 2 (an image too short included), 17, 18,
+ *   1 (the register in the image is unsound). */
+int64_t petlumas_restore(uint8_t *PETLUMAS_RESTRICT reg, size_t reg_len,
+                         uint8_t *PETLUMAS_RESTRICT answer, size_t answer_len,
+                         const uint8_t *PETLUMAS_RESTRICT image,
+                         size_t image_len,
+                         int64_t state);
 
 /* Turns a date into a day. It needs no register.
  * year, month, day: a date from 1 January 1970 to 7 July 2079.
