@@ -3,12 +3,12 @@
 use mathlib.Core.Path.{_≡_, refl, sym, _∙_, ap, subst, fun-ext}
 use mathlib.Core.Bool.{Bool, true, false, not, cond, and-false, false≢true}
 use mathlib.Core.List.{List, [], _∷_, _++_}
-use Prim.Native.Nat.{ℕ, zero, suc, _*_, _≤_}
+use Prim.Native.Nat.{ℕ, _*_, _≤_}
 use native.Mathlib.Omega.{arith}
 use lib.Dec.{leb, eqb}
 use lib.IntN.{ℤ, pos}
 use lib.ListN.{length, getD, take, drop, take-append-drop, length-append, length-drop}
-use borrow.Author.Tests.{eqb-true, ne-eqb}
+use borrow.Author.Tests.{eqb-true}
 use Rattle.numbers.specs.Naturals.{natOf, sameZ}
 use Rattle.numbers.specs.Answers.{refused}
 use Rattle.numbers.proofs.Bools.{cond-same}
@@ -26,13 +26,14 @@ use Rattle.layout.proofs.Notices.{notice-length}
 use Rattle.images.specs.Blocks.{imageNumbers}
 use Rattle.images.specs.Images.{saveCall, restoreCall}
 use Rattle.images.proofs.Saved.{length-numbers}
-use Rattle.images.proofs.Calls.{asked, Kept, save-kept, save-out, restore-kept, restore-out}
+use Rattle.images.proofs.Calls.{asked, save-kept, save-out, restore-kept, restore-out}
 use Rattle.history.specs.Runs.{noticeCall, queryCall, stateCall, lentStep}
 use Rattle.history.specs.Agreement.{StandsFor}
 use Rattle.history.proofs.Steps as OnTables
 use Rattle.history.proofs.States.{own-sound}
 use Rattle.history.proofs.Steps.{notice-is, call-agrees}
 use Rattle.buffers.specs.Buffers.{withNumbers, tableIn, replied, writtenBytes, written, imageIn}
+use Rattle.buffers.proofs.Images.{bytes-left, bytes-short}
 use Rattle.bytelists.specs.ByteLists.{HubState, HubCall, hub-notice, hub-query, hub-state, petlumas-save, petlumas-restore, Reply, noticeIn, queryIn, stateIn, callIn, LentBytes, lentIn, stateStep, byteStep, bookStep}
 use Rattle.bytelists.proofs.Back.{bytes-length, table-whole, table-back}
 
@@ -146,8 +147,8 @@ module _ (L : LentBytes) (S : State) (r : Holds L S) (second answer : List ℕ) 
   -- an answer of one number that has no room
   one-short : (row : ℕ) (ns : Numbers) → ns ≡ pos row ∷ [] → eqb row 1 ≡ false → leb 8 (length answer) ≡ false
       → (buffer : List ℕ) (xs : List ℤ) → written (ns, xs) buffer answer ≡ (pos 2, (buffer, answer))
-  unfolding written replied
-  one-short row ns a d e buffer xs = rw (a, e, d)
+  unfolding written
+  one-short row ns a d e buffer xs = bytes-short row (ns, withNumbers xs buffer) a d buffer answer e
 
   -- the book's row is never 1
   record Rowed (w : Numbers × State) : Type 0 where
@@ -253,18 +254,6 @@ module _ (L : LentBytes) (S : State) (r : Holds L S) (second answer : List ℕ) 
         let w : ℤ × (List ℕ × List ℕ) = writtenBytes (saveCall t n i) first answer in
         ((w .0, (second, w .1 .1)), record { register = b; images = under (natOf n) (w .1 .0 ++ drop lent image) (L .images) })
 
-    kept-left : (row : ℕ) (u : Numbers × List ℕ) → u .0 ≡ pos row ∷ [] → (refused (u .0) ≡ true → u .1 ≡ first) → leb 8 (length answer) ≡ true
-        → cond (sameZ (replied (u .0) answer .0) (pos 0)) (u .1) first ≡ u .1
-    unfolding replied
-    kept-left zero u a f e = rw (a, e)
-    kept-left (suc row) u a f e =
-        let ne : eqb (suc row) 0 ≡ false = ne-eqb (suc row) 0 (λ (z : suc row ≡ 0). omega arith) in
-        rw (a, e, ne) (sym (f (ap refused a ∙ ap not ne)))
-
-    kept-short : leb 8 (length answer) ≡ false → writtenBytes (pos 2 ∷ [], []) first answer ≡ (pos 2, (first, answer))
-    unfolding replied
-    kept-short e = rw e
-
     -- an image written back as it was
     same-images : under (natOf n) (first ++ drop lent image) (L .images) ≡ L .images
     same-images = fun-ext (λ k. go k (eqb k (natOf n)) refl)
@@ -280,9 +269,6 @@ module _ (L : LentBytes) (S : State) (r : Holds L S) (second answer : List ℕ) 
         h : HubCall
         h = hub-state (petlumas-save n lent)
 
-        k : Kept first (saveCall t n first)
-        k = save-kept t n first
-
         with-image : List ℕ → LentBytes
         with-image i = record { register = b; images = under (natOf n) (i ++ drop lent image) (L .images) }
 
@@ -293,13 +279,13 @@ module _ (L : LentBytes) (S : State) (r : Holds L S) (second answer : List ℕ) 
         go true e =
             subst (λ i. Follows (saves i) (bookStep h second answer S)) (sym (lent-bytes true e))
             (follows h (saves first) (second-kept _ second answer)
-            (subst (λ i. Holds (with-image i) (cond (fits (saveCall t n first .0)) (step (state! (save! n lent)) S .1) S)) (sym (kept-left (k .row) (saveCall t n first) (k .answer) (k .sentBack) e))
+            (subst (λ i. Holds (with-image i) (cond (fits (saveCall t n first .0)) (step (state! (save! n lent)) S .1) S)) (sym (bytes-left (saveCall t n first) first answer (save-kept t n first) e))
             (subst (λ x. Holds (with-image (saveCall t n first .1)) (cond x (step (state! (save! n lent)) S .1) S)) (sym (state-fits (save! n lent) true e))
             (record { long = r .long; standsFor = call-agrees (lentIn L) S (r .standsFor) (state! (save! n lent)) .standsFor }))))
         go false e =
             sent-back (petlumas-save n lent) _ e
             (ap saves (lent-bytes false e) ∙ ap (λ u. out (writtenBytes u first answer)) (save-out t n [] t-sound no-bytes)
-            ∙ ap out (kept-short e) ∙ ap (λ is. ((pos 2, (second, answer)), record { register = b; images = is })) same-images)
+            ∙ ap out (bytes-short 2 (pos 2 ∷ [], []) refl refl first answer e) ∙ ap (λ is. ((pos 2, (second, answer)), record { register = b; images = is })) same-images)
 
   each : (h : HubCall) → Follows (byteStep h second answer L) (bookStep h second answer S)
   unfolding byteStep lentStep written step

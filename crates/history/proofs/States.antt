@@ -36,7 +36,7 @@ pub own-sound : {ed : Edition} {B : Book} {t : List ℤ} → TableOf ed B t → 
 own-sound r = rw (r .edition) (r .isSound)
 
 -- Of a whole image as many bytes are lent as are said, up to its length.
-pub lent-enough : (image : List ℕ) (lent : ℕ) → imageLength ≤ length image → leb imageLength (length (take lent image)) ≡ leb imageLength lent
+lent-enough : (image : List ℕ) (lent : ℕ) → imageLength ≤ length image → leb imageLength (length (take lent image)) ≡ leb imageLength lent
 lent-enough image lent h = go (leb imageLength lent) refl
   where
     go : (b : Bool) → leb imageLength lent ≡ b → leb imageLength (length (take lent image)) ≡ b

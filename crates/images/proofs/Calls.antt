@@ -1,6 +1,6 @@
 -- What the two calls give, row by row. Assumes nothing.
 use mathlib.Core.Path.{_≡_, refl, ap, ap₂, _∙_, sym}
-use mathlib.Core.Bool.{Bool, true, false, not, _&&_, cond, false≢true}
+use mathlib.Core.Bool.{Bool, true, false, not, _&&_, cond}
 use mathlib.Core.List.{List, [], _∷_, _++_}
 use Prim.Native.Nat.{ℕ, zero, suc, _≤_, _<_}
 use native.Mathlib.Omega.{arith}
@@ -9,10 +9,10 @@ use lib.IntN.{ℤ, pos}
 use lib.ListN.{length, drop}
 use borrow.Author.Tests.{lt-ltb, le-ltb, leb-true}
 use Rattle.numbers.specs.Naturals.{natOf}
-use Rattle.numbers.specs.Answers.{refused}
 use Rattle.numbers.proofs.Bools.{both}
 use Rattle.daybook.specs.Notices.{Row, least, Numbers, decide}
 use Rattle.daybook.specs.States.{isState, imageLength, stateRow, firstRow}
+use Rattle.daybook.proofs.Kept.{Kept, kept-by}
 use Rattle.lists.proofs.Rows.{decide-keeps}
 use Rattle.layout.specs.Layout.{tableLength, editionOf}
 use Rattle.layout.specs.Sound.{sound}
@@ -23,17 +23,6 @@ use Rattle.images.proofs.Blocks.{length-image}
 -- Row 2's test.
 abbrev pub asked : ℤ → List ℕ → Bool
 asked n image = isState n && leb imageLength (length image)
-
--- An answer with no field, and what is left: on a refusal what was there.
-pub record Kept {X : Type 0} (x : X) (w : Numbers × X) : Type 0 where
-  pub row : ℕ
-  pub answer : w .0 ≡ pos row ∷ []
-  pub sentBack : refused (w .0) ≡ true → w .1 ≡ x
-
-kept-by : {X : Type 0} (r : ℕ) (x y : X) → Kept x (decide r 0 x ([], y))
-unfolding decide
-kept-by zero x y = record { row = 0; answer = refl; sentBack = λ e. absurd (false≢true e) }
-kept-by (suc r) x y = record { row = suc r; answer = refl; sentBack = λ e. refl }
 
 -- ---- save
 
@@ -74,7 +63,7 @@ module _ (t : List ℤ) (n : ℤ) (image : List ℕ) where
 -- ---- restore
 
 -- a row that applies comes before all rows behind it
-pub first-row : (rs ss : List Row) (r : ℕ) → firstRow rs ≡ suc r → firstRow (rs ++ ss) ≡ suc r
+first-row : (rs ss : List Row) (r : ℕ) → firstRow rs ≡ suc r → firstRow (rs ++ ss) ≡ suc r
 unfolding firstRow
 first-row [] ss r e = absurd (omega arith)
 first-row (x ∷ rs) ss r e = go (x .1) (first-row rs ss r) e

@@ -1,8 +1,8 @@
 -- A restore gives back what a save wrote, zero bytes get 17, and an accepted restore holds the blocks' numbers. Assumes
 -- nothing.
 use mathlib.Core.Path.{_≡_, refl, ap, _∙_, sym, subst}
-use mathlib.Core.Bool.{Bool, true, false, not, _&&_, and-false, false≢true}
-use mathlib.Core.List.{List, [], _∷_, _++_, append-nil}
+use mathlib.Core.Bool.{Bool, true, false, _&&_, and-false, false≢true}
+use mathlib.Core.List.{List, [], _∷_, _++_}
 use Prim.Native.Nat.{ℕ, zero, suc, _+_, _-_, _≤_, _<_}
 use native.Mathlib.Omega.{arith}
 use lib.Dec.{leb, ltb, eqb}
@@ -21,8 +21,8 @@ use Rattle.daybook.specs.Notices.{Numbers}
 use Rattle.daybook.specs.States.{isState, imageLength, firstRow}
 use Rattle.layout.specs.Layout.{tableLength, editionOf, tableBook}
 use Rattle.layout.specs.Sound.{sound}
-use Rattle.layout.proofs.Editions.{edition-fits, edition-front}
-use Rattle.layout.proofs.Notices.{Holds, front-holds}
+use Rattle.layout.proofs.Editions.{edition-fits, edition-front, edition-take}
+use Rattle.layout.proofs.Notices.{Holds, front-holds, front-sound}
 use Rattle.layout.proofs.Words.{fit-at, sound-fits}
 use Rattle.table.proofs.Laws.{sound-long}
 use Rattle.images.specs.Blocks.{blockAt, blockCount, statePlace, numberPlace, checkPlace, checkOf, withImage, intactAt, intact, ofState, imageNumbers}
@@ -31,7 +31,7 @@ use Rattle.images.specs.NamedStates.{Restored, NamedStates}
 use Rattle.images.proofs.Blocks.{length-image}
 use Rattle.images.proofs.Alike.{number-in, state-alike, block-same, image-intact, image-numbers}
 use Rattle.images.proofs.Saved.{saved-intact, saved-state-at, saved-numbers, length-numbers, number-held}
-use Rattle.images.proofs.Calls.{save-unsound, save-out, save-entered, imageRows, restore-row, restore-unsound, restore-entered, restore-short}
+use Rattle.images.proofs.Calls.{asked, save-unsound, save-out, save-entered, imageRows, image-broken, image-other, image-clear, restore-row, restore-unsound, restore-entered, restore-short}
 
 -- ---- an accepted save
 
@@ -46,9 +46,9 @@ answers-differ : (a b : ℕ) → _≡_ {A = Numbers} (pos a ∷ []) (pos b ∷ [
 answers-differ a b e = ap (λ (l : Numbers). natOf (getD l 0 (pos 0))) e
 
 pub saves : (t : List ℤ) (n : ℤ) (image : List ℕ) → saveCall t n image .0 ≡ pos 0 ∷ [] → Saves t n image
-saves t n image = go (sound (editionOf t) t) refl (isState n && leb imageLength (length image)) refl
+saves t n image = go (sound (editionOf t) t) refl (asked n image) refl
   where
-    go : (whole : Bool) → sound (editionOf t) t ≡ whole → (ranged : Bool) → (isState n && leb imageLength (length image)) ≡ ranged
+    go : (whole : Bool) → sound (editionOf t) t ≡ whole → (ranged : Bool) → asked n image ≡ ranged
         → saveCall t n image .0 ≡ pos 0 ∷ [] → Saves t n image
     go false e r f a = let z : _≡_ {A = ℕ} 1 0 = answers-differ _ _ (sym (ap (λ (w : Numbers × List ℕ). w .0) (save-unsound t n image e)) ∙ a) in absurd (omega arith)
     go true e false f a = let z : _≡_ {A = ℕ} 2 0 = answers-differ _ _ (sym (ap (λ (w : Numbers × List ℕ). w .0) (save-out t n image e f)) ∙ a) in absurd (omega arith)
@@ -62,6 +62,10 @@ saves t n image = go (sound (editionOf t) t) refl (isState n && leb imageLength 
         }
 
 -- ---- bytes that begin as a save left them
+
+-- row 2 is passed
+all-asked : (n : ℤ) (image : List ℕ) → isState n ≡ true → imageLength ≤ length image → asked n image ≡ true
+all-asked n image number enough = rw (number, le-leb imageLength (length image) enough)
 
 -- state numbers are equal where their naturals are
 pub state-same : (m n : ℤ) → isState m ≡ true → isState n ≡ true → natOf m ≡ natOf n → m ≡ n
@@ -93,9 +97,9 @@ module _ (t t′ : List ℤ) (n : ℤ) (before image : List ℕ) (s : sound (edi
       state-alike image (withImage (natOf n) t before) k (block-same image (withImage (natOf n) t before) e k l)
       ∙ saved-state-at (natOf n) t before h small k l
 
-  named : (m : ℕ) → m ≡ natOf n → ofState m image ≡ true
+  named : ofState (natOf n) image ≡ true
   unfolding ofState
-  named m q = all-of _ blockCount (λ k l. eq-eqb _ _ (state-at k l ∙ sym q))
+  named = all-of _ blockCount (λ k l. eq-eqb _ _ (state-at k l))
 
   another : (m : ℤ) → isState m ≡ true → ¬ (m ≡ n) → ofState (natOf m) image ≡ false
   unfolding ofState
@@ -103,25 +107,17 @@ module _ (t t′ : List ℤ) (n : ℤ) (before image : List ℕ) (s : sound (edi
       all-fails _ 0 blockCount (omega arith) (ne-eqb _ _ (λ e. differ (state-same m n other number (sym e ∙ state-at 0 (omega arith)))))
 
   pub back-same : restoreCall t′ n image ≡ (pos 0 ∷ [], take tableLength t ++ drop tableLength t′)
-  unfolding firstRow
   back-same =
-      restore-entered t′ n image long clear
-      (ap (λ u. sound (editionOf u) u) held ∙ front-sound)
+      restore-entered t′ n image long (image-clear n image (all-asked n image number enough) whole named)
+      (ap (λ u. sound (editionOf u) u) held ∙ own)
       ∙ ap (λ u. (pos 0 ∷ [], u ++ drop tableLength t′)) held
     where
-      clear : firstRow ((2, not (isState n && leb imageLength (length image))) ∷ (17, not (intact image)) ∷ (18, not (ofState (natOf n) image)) ∷ []) ≡ 0
-      clear = rw (number, le-leb imageLength (length image) enough, whole, named (natOf n) refl)
-
-      front-sound : sound (editionOf (take tableLength t)) (take tableLength t) ≡ true
-      front-sound =
-          subst (λ u. sound (editionOf u) u ≡ true) (append-nil (take tableLength t))
-          (ap (λ ed. sound ed (take tableLength t ++ [])) (edition-front t []) ∙ front-holds (editionOf t) (edition-fits t) t s [] .isSound)
+      own : sound (editionOf (take tableLength t)) (take tableLength t) ≡ true
+      own = ap (λ ed. sound ed (take tableLength t)) (sym (edition-take t)) ∙ sym (front-sound (editionOf t) (edition-fits t) t) ∙ s
 
   pub back-other : (m : ℤ) → isState m ≡ true → ¬ (m ≡ n) → restoreCall t′ m image ≡ (pos 18 ∷ [], t′)
-  unfolding firstRow
   back-other m other differ =
-      restore-row t′ m image long 17
-      (rw (other, le-leb imageLength (length image) enough, whole, another m other differ))
+      restore-row t′ m image long 17 (image-other m image (all-asked m image other enough) whole (another m other differ))
 
 -- ---- zero bytes
 
@@ -137,10 +133,9 @@ zeros-number m at (suc w) = rw (zeros-at m at, zeros-number m (at + 1) w)
 
 pub zero-image : (t : List ℤ) (n : ℤ) (image : List ℕ) → tableLength ≤ length t → isState n ≡ true → imageLength ≤ length image
     → take imageLength image ≡ replicate imageLength 0 → restoreCall t n image ≡ (pos 17 ∷ [], t)
-unfolding firstRow intact intactAt
+unfolding intact intactAt
 zero-image t n image long number enough e =
-    restore-row t n image long 16
-    (rw (number, le-leb imageLength (length image) enough, broken))
+    restore-row t n image long 16 (image-broken n image (all-asked n image number enough) broken)
   where
     -- the block number of block 1 is 0
     zero-number : numberAt image (numberPlace 1) 4 ≡ 0

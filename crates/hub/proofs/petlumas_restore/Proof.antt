@@ -10,7 +10,7 @@ use Rattle.words.specs.Words.{bitsOf}
 use Rattle.buffers.specs.Buffers.{tableIn, imageIn}
 use Rattle.buffers.proofs.Ends.{first-small, ended}
 use Rattle.hub.proofs.Refusals.{restore-small}
-use Rattle.hub.proofs.Images.{image-lent}
+use Rattle.buffers.proofs.Images.{image-lent}
 use Rattle.hub.proofs.petlumas_restore.Statement.{statement}
 use Rattle.hub.proofs.petlumas_restore.Tie as tie
 

@@ -15,7 +15,7 @@ use Rattle.words.specs.Words.{bitsOf}
 use Rattle.buffers.specs.Buffers.{tableIn, replied, imageIn}
 use Rattle.buffers.proofs.Ends.{first-small, ended-reply}
 use Rattle.hub.proofs.Refusals.{save-small}
-use Rattle.hub.proofs.Images.{image-lent, image-left}
+use Rattle.buffers.proofs.Images.{image-lent, image-left}
 use Rattle.hub.proofs.petlumas_save.Statement.{statement}
 use Rattle.hub.proofs.petlumas_save.Tie as tie
 
