@@ -17,6 +17,7 @@ use Rattle.daybook.specs.declared.Edition.{Edition}
 use Rattle.daybook.specs.Notices.{decide, least, isUser}
 use Rattle.daybook.specs.Queries.{ownShare, accountOf, accountRows, account}
 use Rattle.daybook.specs.Book.{Book}
+use Rattle.daybook.specs.Editions.{editions}
 use Rattle.lists.proofs.Bounds.{within-bounds}
 use Rattle.lists.proofs.Rows.{above, least-first, least-skip}
 use Rattle.layout.specs.Layout.{editionOf, partOf, numAt, tableBook}
@@ -57,27 +58,27 @@ module _ (ed : Edition) (t : List ℤ) (own : ed ≡ editionOf t) (n : AccountQu
   B = tableBook ed t
 
   -- the call is the query of the table's own edition
-  call-is : ofEdition (pos 1 ∷ pos 0 ∷ []) (account n) ed t ≡ accountCall t n
+  call-is : ofEdition (pos 1 ∷ pos 0 ∷ []) (account n) ed t ≡ accountCall editions t n
   unfolding accountCall
   call-is = ap (λ ed. ofEdition (pos 1 ∷ pos 0 ∷ []) (account n) ed t) own
 
-  pub unsound-ends : sound ed t ≡ false → pos 1 ∷ pos 0 ∷ [] ≡ accountCall t n
+  pub unsound-ends : sound ed t ≡ false → pos 1 ∷ pos 0 ∷ [] ≡ accountCall editions t n
   unsound-ends e = sym (query-unsound _ (account n) ed t e) ∙ call-is
 
   module _ (s : sound ed t ≡ true) where
     decided : (r : ℕ) → least (accountRows n) ≡ r
-        → decide r 1 B (accountOf (natOf (n .user)) (natOf (n .from)) (natOf (n .to)) B ∷ [], B) .0 ≡ accountCall t n
+        → decide r 1 B (accountOf (natOf (n .user)) (natOf (n .from)) (natOf (n .to)) B ∷ [], B) .0 ≡ accountCall editions t n
     unfolding account
     decided r e =
         ap (λ r. decide r 1 B (accountOf (natOf (n .user)) (natOf (n .from)) (natOf (n .to)) B ∷ [], B) .0) (sym e)
         ∙ sym (query-sound _ (account n) ed t s) ∙ call-is
 
-    pub range-ends : inRange n ≡ false → pos 2 ∷ pos 0 ∷ [] ≡ accountCall t n
+    pub range-ends : inRange n ≡ false → pos 2 ∷ pos 0 ∷ [] ≡ accountCall editions t n
     unfolding accountRows decide above
     range-ends e = decided 2 (least-first 2 _ [] refl (ap not e))
 
     pub given-ends : inRange n ≡ true → (u a b : ℕ) → u ≡ natOf (n .user) → a ≡ natOf (n .from) → b ≡ natOf (n .to)
-        → pos 0 ∷ accountOf u a b B ∷ [] ≡ accountCall t n
+        → pos 0 ∷ accountOf u a b B ∷ [] ≡ accountCall editions t n
     unfolding accountRows decide least
     given-ends i u a b e f g =
         rw (e, f, g) (decided 0 (least-skip 2 _ [] (ap not i)))

@@ -15,6 +15,7 @@ ghost use Rattle.daybook.specs.Book.{dayShare};
 ghost use Rattle.daybook.specs.Calls.{accountNumbers, accountRefused};
 ghost use Rattle.daybook.specs.Notices.{isUser};
 ghost use Rattle.daybook.specs.Queries.{ownShare, accountOf};
+ghost use Rattle.daybook.specs.Editions.{editions};
 ghost use Rattle.layout.specs.Places.{regCount};
 ghost use Rattle.layout.specs.Layout.{Fits, numAt, tableBook};
 ghost use Rattle.layout.specs.Sound.{sound};
@@ -101,7 +102,7 @@ fn table_energy(t: &[i64], ed: Edition, user: u64, a: u64, b: u64) -> i64
 
 // On any table and any numbers.
 pub fn account(t: &[i64], n: AccountQuery) -> AccountAnswer
-    ensures { λ r. ⌜ (accountNumbers r ≡ accountCall (now (t .entry)) n) × (accountRefused r ≡ refused (accountNumbers r)) ⌝ }
+    ensures { λ r. ⌜ (accountNumbers r ≡ accountCall editions (now (t .entry)) n) × (accountRefused r ≡ refused (accountNumbers r)) ⌝ }
 {
     let ed = table::edition(t);
     if !table::sound(t, ed) {

@@ -12,6 +12,7 @@ use Rattle.daybook.specs.declared.Edition.{Edition}
 use Rattle.daybook.specs.Notices.{Numbers, least, decide}
 use Rattle.daybook.specs.Queries.{allocationInRange, weights, total, allocateRows, allocate}
 use Rattle.daybook.specs.Book.{Book}
+use Rattle.daybook.specs.Editions.{editions}
 use Rattle.lists.proofs.Rows.{above, least-first, least-skip, decide-taken, decide-refused}
 use Rattle.layout.specs.Layout.{editionOf, tableBook}
 use Rattle.layout.specs.Sound.{sound}
@@ -37,21 +38,21 @@ module _ (ed : Edition) (t : List ℤ) (own : ed ≡ editionOf t) (q : Allocatio
   B = tableBook ed t
 
   -- the call is the query of the table's own edition
-  call-is : allocateCall t q room ≡ ofEdition (refusal 1) (allocate q room) ed t
+  call-is : allocateCall editions t q room ≡ ofEdition (refusal 1) (allocate q room) ed t
   unfolding allocateCall
   call-is = ap (λ ed. ofEdition (refusal 1) (allocate q room) ed t) (sym own)
 
-  pub call-unsound : sound ed t ≡ false → allocateCall t q room ≡ refusal 1
+  pub call-unsound : sound ed t ≡ false → allocateCall editions t q room ≡ refusal 1
   call-unsound e = call-is ∙ query-unsound (refusal 1) (allocate q room) ed t e
 
   module _ (s : sound ed t ≡ true) where
     -- by the row that applies, 0 for none
-    by-row : (r : ℕ) → least (allocateRows q room B) ≡ r → allocateCall t q room ≡ decide r 17 [] (givenOf q B)
+    by-row : (r : ℕ) → least (allocateRows q room B) ≡ r → allocateCall editions t q room ≡ decide r 17 [] (givenOf q B)
     unfolding allocate givenOf
     by-row r e =
         call-is ∙ query-sound (refusal 1) (allocate q room) ed t s ∙ ap (λ r. decide r 17 [] (givenOf q B)) e
 
-    pub call-range : allocationInRange q room ≡ false → allocateCall t q room ≡ refusal 2
+    pub call-range : allocationInRange q room ≡ false → allocateCall editions t q room ≡ refusal 2
     unfolding allocateRows above
     call-range e = by-row 2 (least-first 2 (not (allocationInRange q room)) _ refl (ap not e)) ∙ decide-refused 17 [] (givenOf q B) 1
 
@@ -60,13 +61,13 @@ module _ (ed : Edition) (t : List ℤ) (own : ed ≡ editionOf t) (q : Allocatio
       unfolding allocateRows
       no-two = least-skip 2 (not (allocationInRange q room)) _ (ap not e)
 
-      pub call-weightless : total (weights q B) ≡ 0 → allocateCall t q room ≡ refusal 15
+      pub call-weightless : total (weights q B) ≡ 0 → allocateCall editions t q room ≡ refusal 15
       unfolding above
       call-weightless z =
           by-row 15 (no-two ∙ least-first 15 (eqb (total (weights q B)) 0) [] refl (eq-eqb (total (weights q B)) 0 z))
           ∙ decide-refused 17 [] (givenOf q B) 14
 
-      pub call-given : (total (weights q B) ≡ 0 → ⊥) → allocateCall t q room ≡ (pos 0 ∷ givenOf q B .0, givenOf q B .1)
+      pub call-given : (total (weights q B) ≡ 0 → ⊥) → allocateCall editions t q room ≡ (pos 0 ∷ givenOf q B .0, givenOf q B .1)
       unfolding least
       call-given n =
           by-row 0 (no-two ∙ least-skip 15 (eqb (total (weights q B)) 0) [] (ne-eqb (total (weights q B)) 0 n))

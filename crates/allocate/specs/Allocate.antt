@@ -6,12 +6,13 @@ use lib.ListN.{length, drop, replicate}
 use Rattle.daybook.specs.declared.AllocationQuery.{AllocationQuery}
 use Rattle.daybook.specs.Notices.{Numbers}
 use Rattle.daybook.specs.Queries.{allocate}
+use Rattle.daybook.specs.Editions.{Editions}
 use Rattle.layout.specs.Calls.{ofTable}
 
 -- Seventeen fields, the net section load and the sixteen totals, and numbers for the first places of an answer table of
 -- `room` numbers, none on a refusal.
-unfoldable pub allocateCall : List ℤ → AllocationQuery → ℕ → Numbers × List ℤ
-allocateCall t n room = ofTable (pos 1 ∷ replicate 17 (pos 0), []) (allocate n room) t
+unfoldable pub allocateCall : Editions → List ℤ → AllocationQuery → ℕ → Numbers × List ℤ
+allocateCall E t n room = ofTable E (pos 1 ∷ replicate 17 (pos 0), []) (allocate n room) t
 
 -- The answer table with these numbers in its first places; all others are as they were.
 unfoldable pub placed : List ℤ → List ℤ → List ℤ

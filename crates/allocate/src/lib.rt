@@ -14,6 +14,7 @@ ghost use Rattle.calendar.specs.Calendar.{within};
 ghost use Rattle.daybook.specs.Notices.{users};
 ghost use Rattle.daybook.specs.Queries.{allocationInRange, atLeast0, tdmOf, weight, total as totalWeight, split};
 ghost use Rattle.daybook.specs.Calls.{allocationNumbers};
+ghost use Rattle.daybook.specs.Editions.{editions};
 ghost use Rattle.layout.specs.Places.{pointsPlace};
 ghost use Rattle.layout.specs.Layout.{Fits, numAt, tableBook};
 ghost use Rattle.layout.specs.Sound.{sound};
@@ -227,7 +228,7 @@ fn apportion(
 
 // On any table, any numbers and an answer table of any length.
 pub fn allocate(t: &[i64], q: AllocationQuery, out: &mut [i64]) -> AllocationAnswer
-    ensures { λ r. ⌜ (allocationNumbers r ≡ allocateCall (now (t .entry)) q (length (now (out .entry))) .0) × (now (out .exit) ≡ placed (allocateCall (now (t .entry)) q (length (now (out .entry))) .1) (now (out .entry))) ⌝ }
+    ensures { λ r. ⌜ (allocationNumbers r ≡ allocateCall editions (now (t .entry)) q (length (now (out .entry))) .0) × (now (out .exit) ≡ placed (allocateCall editions (now (t .entry)) q (length (now (out .entry))) .1) (now (out .entry))) ⌝ }
 {
     let ed = table::edition(t);
     if !table::sound(t, ed) {

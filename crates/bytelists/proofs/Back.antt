@@ -1,19 +1,21 @@
 -- A sound register's numbers, written over bytes, are read back from them. Assumes nothing.
-use mathlib.Core.Path.{_≡_, sym, _∙_, subst}
-use mathlib.Core.Bool.{true}
+use mathlib.Core.Path.{_≡_, refl, sym, _∙_, subst}
+use mathlib.Core.Bool.{Bool, true, false}
 use mathlib.Core.List.{List}
 use Prim.Native.Nat.{ℕ, _+_, _*_, _≤_, _<_}
 use native.Mathlib.Nat.{zero-add}
 use native.Mathlib.Omega.{arith}
+use lib.Dec.{leb}
 use lib.IntN.{ℤ, pos}
 use lib.ListN.{length, getD, replicate, length-replicate}
 use lib.Seq.{ext-getD, take-all}
+use borrow.Author.Tests.{leb-true, leb-false}
 use Rattle.words.specs.Tables.{decodedInto, encodedInto}
 use Rattle.words.proofs.Tables.{length-decoded, length-encoded}
 use Rattle.words.proofs.Back.{decoded-encoded-at}
-use Rattle.layout.specs.Layout.{tableLength, editionOf}
+use Rattle.daybook.specs.declared.Edition.{Edition}
+use Rattle.layout.specs.Layout.{tableLength, Fits}
 use Rattle.layout.specs.Sound.{sound}
-use Rattle.layout.proofs.Editions.{edition-fits}
 use Rattle.layout.proofs.Words.{AllFit, fit-at, sound-fits}
 use Rattle.buffers.specs.Buffers.{numbersIn, withNumbers, tableIn}
 use Rattle.buffers.proofs.Bytes.{numbers-length, table-short, table-long}
@@ -50,10 +52,18 @@ table-whole b h = subst (λ t. length t ≡ tableLength) (table-long b h) (numbe
 pub table-none : (b : List ℕ) → length b < 61504 → length (tableIn b) ≡ 0
 table-none b h = subst (λ t. length t ≡ 0) (table-short b h) (numbers-length b 0)
 
-pub table-back : (t : List ℤ) (b : List ℕ) → sound (editionOf t) t ≡ true → length t ≡ tableLength → 61504 ≤ length b → tableIn (withNumbers t b) ≡ t
-table-back t b s e h =
+-- so that a table of that many numbers has enough bytes
+pub table-enough : (b : List ℕ) → tableLength ≤ length (tableIn b) → 61504 ≤ length b
+table-enough b k = go (leb 61504 (length b)) refl
+  where
+    go : (x : Bool) → leb 61504 (length b) ≡ x → 61504 ≤ length b
+    go true e = leb-true 61504 (length b) e
+    go false e = absurd (omega (arith, k, table-none b (leb-false 61504 (length b) e)))
+
+pub table-back : (ed : Edition) → Fits ed → (t : List ℤ) (b : List ℕ) → sound ed t ≡ true → length t ≡ tableLength → 61504 ≤ length b → tableIn (withNumbers t b) ≡ t
+table-back ed f t b s e h =
     sym (table-long (withNumbers t b) (omega (arith, bytes-length t b)))
     ∙ subst (λ n. numbersIn (withNumbers t b) n ≡ t) e (numbers-back t b fits (omega arith))
   where
     fits : AllFit t
-    fits = subst AllFit (take-all tableLength t (omega arith)) (sound-fits (editionOf t) (edition-fits t) t s)
+    fits = subst AllFit (take-all tableLength t (omega arith)) (sound-fits ed f t s)

@@ -3,61 +3,77 @@
 use mathlib.Core.Path.{_≡_, refl, sym, _∙_, ap, subst, fun-ext}
 use mathlib.Core.Bool.{Bool, true, false, not, cond, and-false, false≢true}
 use mathlib.Core.List.{List, [], _∷_, _++_}
-use Prim.Native.Nat.{ℕ, _*_, _≤_}
+use Prim.Native.Nat.{ℕ, zero, suc, _*_, _≤_}
 use native.Mathlib.Omega.{arith}
-use lib.Dec.{leb, eqb}
+use lib.Dec.{leb, ltb, eqb, eqb·suc-zero}
 use lib.IntN.{ℤ, pos}
 use lib.ListN.{length, getD, take, drop, take-append-drop, length-append, length-drop}
-use borrow.Author.Tests.{eqb-true}
+use borrow.Author.Tests.{ltb-false, eqb-true}
 use Rattle.numbers.specs.Naturals.{natOf, sameZ}
 use Rattle.numbers.specs.Answers.{refused}
 use Rattle.numbers.proofs.Bools.{cond-same}
 use Rattle.words.specs.Tables.{encodedInto}
 use Rattle.numbers.specs.Search.{isSome}
-use Rattle.daybook.specs.Notices.{least, Numbers, decide}
+use Rattle.daybook.specs.declared.Edition.{Edition}
+use Rattle.daybook.specs.declared.NewRegister.{NewRegister}
+use Rattle.daybook.specs.Book.{Book}
+use Rattle.daybook.specs.Notices.{least, Numbers, decide, freshRows}
 use Rattle.daybook.specs.States.{isState, stateRow, under}
-use Rattle.daybook.specs.Calls.{Notice, StateCall, save!, restore!, state!, State, Answer, noted, stated, step}
-use Rattle.lists.proofs.Rows.{decide-keeps}
-use Rattle.layout.specs.Layout.{tableLength, editionOf, tableBook, withBook}
+use Rattle.daybook.specs.Editions.{Editions, editionNo, otherThan, convertRows}
+use Rattle.daybook.specs.Calls.{Notice, StateCall, save!, restore!, fresh!, state!, convert!, State, Answer, noted, stated, step}
+use Rattle.daybook.proofs.Kept.{kept-by}
+use Rattle.lists.specs.Lists.{bookOf}
+use Rattle.lists.proofs.Rows.{least-none, decide-keeps}
+use Rattle.lists.proofs.OpenStep.{no-points}
+use Rattle.layout.specs.Layout.{tableLength, BothFit, editionIn, tableBook, withBook, withNewBook}
 use Rattle.layout.specs.Sound.{sound}
 use Rattle.layout.specs.Calls.{answerAndTable}
-use Rattle.layout.proofs.Editions.{edition-fits}
+use Rattle.layout.proofs.Editions.{number-fits, edition-fits}
 use Rattle.layout.proofs.Notices.{notice-length}
+use Rattle.layout.proofs.NewBooks.{new-length}
+use Rattle.opening.specs.Opening.{freshCall}
 use Rattle.images.specs.Blocks.{imageNumbers}
 use Rattle.images.specs.Images.{saveCall, restoreCall}
 use Rattle.images.proofs.Saved.{length-numbers}
 use Rattle.images.proofs.Calls.{asked, save-kept, save-out, restore-kept, restore-out}
-use Rattle.history.specs.Runs.{noticeCall, queryCall, stateCall, lentStep}
+use Rattle.conversion.specs.Conversion.{convertCall}
+use Rattle.conversion.proofs.Calls.{convert-rows}
+use Rattle.conversion.proofs.SameBook.{in-length}
+use Rattle.history.specs.Runs.{noticeCall, queryCall, stateCall, goesOn, lentStep}
 use Rattle.history.specs.Agreement.{StandsFor}
 use Rattle.history.proofs.Steps as OnTables
 use Rattle.history.proofs.States.{own-sound}
 use Rattle.history.proofs.Steps.{notice-is, call-agrees}
 use Rattle.buffers.specs.Buffers.{withNumbers, tableIn, replied, writtenBytes, written, imageIn}
 use Rattle.buffers.proofs.Images.{bytes-left, bytes-short}
-use Rattle.bytelists.specs.ByteLists.{HubState, HubCall, hub-notice, hub-query, hub-state, petlumas-save, petlumas-restore, Reply, noticeIn, queryIn, stateIn, callIn, LentBytes, lentIn, stateStep, byteStep, bookStep}
-use Rattle.bytelists.proofs.Back.{bytes-length, table-whole, table-back}
+use Rattle.bytelists.specs.ByteLists.{HubState, HubCall, petlumas-fresh, hub-notice, hub-query, hub-state, petlumas-convert, petlumas-save, petlumas-restore, Reply, noticeIn, queryIn, stateIn, callIn, LentBytes, lentIn, stateStep, withRegister, byteStep, bookStep}
+use Rattle.bytelists.proofs.Back.{bytes-length, table-whole, table-enough, table-back}
 
 -- Bytes of a register that stands for the state S, beside images.
-pub record Holds (L : LentBytes) (S : State) : Type 0 where
+pub record Holds (E : Editions) (L : LentBytes) (S : State) : Type 0 where
   pub long : 61504 ≤ length (L .register)
-  pub standsFor : StandsFor (lentIn L) S
+  pub standsFor : StandsFor E (lentIn L) S
 
 -- A reply and what is left, v, beside the book's reply and state, w.
-pub record Follows (v : Reply × LentBytes) (w : Reply × State) : Type 0 where
+pub record Follows (E : Editions) (v : Reply × LentBytes) (w : Reply × State) : Type 0 where
   pub reply : v .0 ≡ w .0
-  pub holds : Holds (v .1) (w .1)
+  pub holds : Holds E (v .1) (w .1)
 
 refused-is : (ns : Numbers) → sameZ (getD ns 0 (pos 0)) (pos 0) ≡ false → refused ns ≡ true
 refused-is [] e = absurd (false≢true (sym e))
 refused-is (r ∷ ns) e = ap not e
 
+given-is : (ns : Numbers) → sameZ (getD ns 0 (pos 0)) (pos 0) ≡ true → refused ns ≡ false
+given-is [] e = refl
+given-is (r ∷ ns) e = ap not e
+
 -- a table that stands for a book, written over a register's bytes
-pub table-put : (t : List ℤ) (b : List ℕ) (images : ℕ → List ℕ) (S : State) → StandsFor (record { table = t; images = images }) S
-    → length t ≡ tableLength → 61504 ≤ length b → Holds (record { register = withNumbers t b; images = images }) S
-table-put t b images S r e h =
+pub table-put : (E : Editions) → BothFit E → (t : List ℤ) (b : List ℕ) (images : ℕ → List ℕ) (S : State) → StandsFor E (record { table = t; images = images }) S
+    → length t ≡ tableLength → 61504 ≤ length b → Holds E (record { register = withNumbers t b; images = images }) S
+table-put E fit t b images S r e h =
     record {
       long = omega (arith, bytes-length t b, h);
-      standsFor = subst (λ u. StandsFor (record { table = u; images = images }) S) (sym (table-back t b (own-sound (r .table)) e h)) r;
+      standsFor = subst (λ u. StandsFor E (record { table = u; images = images }) S) (sym (table-back (editionIn E t) (edition-fits E fit t) t b (own-sound (r .table)) e h)) r;
     }
 
 -- a call with no numbers for its second buffer leaves it
@@ -68,14 +84,14 @@ second-kept ns second answer =
     let r : ℤ × List ℕ = replied ns answer in
     ap (λ s. (r .0, (s, r .1))) (sym (cond-same (sameZ (r .0) (pos 0)) second))
 
-module _ (L : LentBytes) (S : State) (r : Holds L S) (second answer : List ℕ) where
+module _ (E : Editions) (fit : BothFit E) (L : LentBytes) (S : State) (r : Holds E L S) (second answer : List ℕ) where
   abbrev b : List ℕ
   b = L .register
 
   abbrev t : List ℤ
   t = tableIn b
 
-  t-sound : sound (editionOf t) t ≡ true
+  t-sound : sound (editionIn E t) t ≡ true
   t-sound = own-sound (r .standsFor .table)
 
   abbrev fits : Numbers → Bool
@@ -88,8 +104,8 @@ module _ (L : LentBytes) (S : State) (r : Holds L S) (second answer : List ℕ) 
     long : length (w .1) ≡ tableLength
     sentBack : refused (w .0) ≡ true → w .1 ≡ t
 
-  written-leaves : (w : Numbers × List ℤ) → Left w → (T : State) → StandsFor (record { table = w .1; images = L .images }) T
-      → Holds (record { register = written w b answer .1 .0; images = L .images }) (cond (fits (w .0)) T S)
+  written-leaves : (w : Numbers × List ℤ) → Left w → (T : State) → StandsFor E (record { table = w .1; images = L .images }) T
+      → Holds E (record { register = written w b answer .1 .0; images = L .images }) (cond (fits (w .0)) T S)
   unfolding written replied
   written-leaves w l T s = go (fits (w .0))
     where
@@ -99,48 +115,48 @@ module _ (L : LentBytes) (S : State) (r : Holds L S) (second answer : List ℕ) 
       result : Bool → ℤ
       result was = cond {A = ℤ × List ℕ} was (refusal, withNumbers (w .0) answer) (cond (sameZ refusal (pos 1)) (pos 1) (pos 2), answer) .0
 
-      done : (z : Bool) → sameZ refusal (pos 0) ≡ z → Holds (record { register = cond z (withNumbers (w .1) b) b; images = L .images }) T
-      done true e = table-put (w .1) b (L .images) T s (l .long) (r .long)
+      done : (z : Bool) → sameZ refusal (pos 0) ≡ z → Holds E (record { register = cond z (withNumbers (w .1) b) b; images = L .images }) T
+      done true e = table-put E fit (w .1) b (L .images) T s (l .long) (r .long)
       done false e =
           record {
             long = r .long;
-            standsFor = subst (λ u. StandsFor (record { table = u; images = L .images }) T) (l .sentBack (refused-is (w .0) e)) s;
+            standsFor = subst (λ u. StandsFor E (record { table = u; images = L .images }) T) (l .sentBack (refused-is (w .0) e)) s;
           }
 
       short : (z : Bool)
-          → Holds (record { register = cond (sameZ (cond z (pos 1) (pos 2)) (pos 0)) (withNumbers (w .1) b) b; images = L .images }) S
+          → Holds E (record { register = cond (sameZ (cond z (pos 1) (pos 2)) (pos 0)) (withNumbers (w .1) b) b; images = L .images }) S
       short true = r
       short false = r
 
       go : (was : Bool)
-          → Holds (record { register = cond (sameZ (result was) (pos 0)) (withNumbers (w .1) b) b; images = L .images }) (cond was T S)
+          → Holds E (record { register = cond (sameZ (result was) (pos 0)) (withNumbers (w .1) b) b; images = L .images }) (cond was T S)
       go true = done (sameZ refusal (pos 0)) refl
       go false = short (sameZ refusal (pos 1))
 
   -- ---- a call, by the call on the table
 
   -- a reply and what is left
-  follows : (h : HubCall) (v : Reply × LentBytes) → v .0 ≡ written (lentStep (callIn h second) (lentIn L) .0) second answer
-      → Holds (v .1) (cond (fits (lentStep (callIn h second) (lentIn L) .0 .0)) (step (callIn h second) S .1) S)
-      → Follows v (bookStep h second answer S)
+  follows : (h : HubCall) (v : Reply × LentBytes) → v .0 ≡ written (lentStep E (callIn h second) (lentIn L) .0) second answer
+      → Holds E (v .1) (cond (fits (lentStep E (callIn h second) (lentIn L) .0 .0)) (step E (callIn h second) S .1) S)
+      → Follows E v (bookStep E h second answer S)
   unfolding bookStep
   follows h v e k =
-      let f : OnTables.Follows _ (step (callIn h second) S) = call-agrees (lentIn L) S (r .standsFor) (callIn h second) in
+      let f : OnTables.Follows E _ (step E (callIn h second) S) = call-agrees E fit (lentIn L) S (r .standsFor) (callIn h second) in
       record {
         reply = e ∙ ap (λ (a : Answer). written a second answer) (f .answer);
-        holds = subst (λ (a : Answer). Holds (v .1) (cond (fits (a .0)) (step (callIn h second) S .1) S)) (f .answer) k;
+        holds = subst (λ (a : Answer). Holds E (v .1) (cond (fits (a .0)) (step E (callIn h second) S .1) S)) (f .answer) k;
       }
 
-  notice-left : (c : Notice) → Left (noticeCall c t)
+  notice-left : (c : Notice) → Left (noticeCall E c t)
   notice-left c =
       record {
-        long = ap (λ (w : Numbers × List ℤ). length (w .1)) is ∙ notice-length (editionOf t) (edition-fits t) t t-sound c (table-whole b (r .long));
+        long = ap (λ (w : Numbers × List ℤ). length (w .1)) is ∙ notice-length (editionIn E t) (edition-fits E fit t) t t-sound c (table-whole b (r .long));
         sentBack = λ e. ap (λ (w : Numbers × List ℤ). w .1) is
-            ∙ ap (λ x. cond x t (withBook (editionOf t) t (noted c (editionOf t) (tableBook (editionOf t) t) .1))) (sym (ap (λ (w : Numbers × List ℤ). refused (w .0)) is) ∙ e);
+            ∙ ap (λ x. cond x t (withBook (editionIn E t) t (noted c (editionIn E t) (tableBook (editionIn E t) t) .1))) (sym (ap (λ (w : Numbers × List ℤ). refused (w .0)) is) ∙ e);
       }
     where
-      is : noticeCall c t ≡ answerAndTable (editionOf t) t (noted c (editionOf t) (tableBook (editionOf t) t))
-      is = notice-is t t-sound c
+      is : noticeCall E c t ≡ answerAndTable (editionIn E t) t (noted c (editionIn E t) (tableBook (editionIn E t) t))
+      is = notice-is E fit t t-sound c
 
   -- ---- a named state
 
@@ -172,23 +188,23 @@ module _ (L : LentBytes) (S : State) (r : Holds L S) (second answer : List ℕ) 
       go false false T = record { row = 0; is = refl; notOne = refl }
 
   -- by room for its answer
-  state-fits : (c : StateCall) (b : Bool) → leb 8 (length answer) ≡ b → fits (lentStep (state! c) (lentIn L) .0 .0) ≡ b
+  state-fits : (c : StateCall) (b : Bool) → leb 8 (length answer) ≡ b → fits (lentStep E (state! c) (lentIn L) .0 .0) ≡ b
   unfolding step
   state-fits c b e =
-      ap (λ (a : Answer). fits (a .0)) (call-agrees (lentIn L) S (r .standsFor) (state! c) .answer)
+      ap (λ (a : Answer). fits (a .0)) (call-agrees E fit (lentIn L) S (r .standsFor) (state! c) .answer)
       ∙ ap fits (rowed c .is) ∙ e
 
   -- a call that gets 2 and leaves everything, where there is none
   sent-back : (h : HubState) (v : Reply × LentBytes) → leb 8 (length answer) ≡ false → v ≡ ((pos 2, (second, answer)), L)
-      → Follows v (bookStep (hub-state h) second answer S)
+      → Follows E v (bookStep E (hub-state h) second answer S)
   unfolding step
   sent-back h v e is =
-      subst (λ v. Follows v (bookStep (hub-state h) second answer S)) (sym is)
+      subst (λ v. Follows E v (bookStep E (hub-state h) second answer S)) (sym is)
       (follows (hub-state h) ((pos 2, (second, answer)), L)
       (sym
-      (ap (λ (a : Answer). written a second answer) (call-agrees (lentIn L) S (r .standsFor) (state! (stateIn h)) .answer)
+      (ap (λ (a : Answer). written a second answer) (call-agrees E fit (lentIn L) S (r .standsFor) (state! (stateIn h)) .answer)
       ∙ one-short (rowed (stateIn h) .row) _ (rowed (stateIn h) .is) (rowed (stateIn h) .notOne) e second []))
-      (subst (λ b. Holds L (cond b (step (state! (stateIn h)) S .1) S)) (sym (state-fits (stateIn h) false e)) r))
+      (subst (λ b. Holds E L (cond b (step E (state! (stateIn h)) S .1) S)) (sym (state-fits (stateIn h) false e)) r))
 
   module _ (n : ℤ) (lent : ℕ) where
     abbrev image : List ℕ
@@ -209,22 +225,22 @@ module _ (L : LentBytes) (S : State) (r : Holds L S) (second answer : List ℕ) 
 
     abbrev restores : List ℕ → Reply × LentBytes
     restores i =
-        let w : ℤ × (List ℕ × List ℕ) = written (restoreCall t n i) b answer in
+        let w : ℤ × (List ℕ × List ℕ) = written (restoreCall E t n i) b answer in
         ((w .0, (second, w .1 .1)), record { register = w .1 .0; images = L .images })
 
-    restore-left : Left (restoreCall t n first)
+    restore-left : Left (restoreCall E t n first)
     unfolding restoreCall
     restore-left =
         record {
           long = decide-keeps 0 t _ (λ u. length u ≡ tableLength) _ whole (λ z.
               omega (arith, length-append (imageNumbers first) (drop tableLength t), length-numbers first, length-drop tableLength t, whole));
-          sentBack = restore-kept t n first .sentBack;
+          sentBack = restore-kept E t n first .sentBack;
         }
       where
         whole : length t ≡ tableLength
         whole = table-whole b (r .long)
 
-    restore-follows : Follows (byteStep (hub-state (petlumas-restore n lent)) second answer L) (bookStep (hub-state (petlumas-restore n lent)) second answer S)
+    restore-follows : Follows E (byteStep E (hub-state (petlumas-restore n lent)) second answer L) (bookStep E (hub-state (petlumas-restore n lent)) second answer S)
     unfolding byteStep stateStep lentStep stateCall stateIn written
     restore-follows = go (leb 8 (length answer)) refl
       where
@@ -237,21 +253,21 @@ module _ (L : LentBytes) (S : State) (r : Holds L S) (second answer : List ℕ) 
         out : ℤ × (List ℕ × List ℕ) → Reply × LentBytes
         out w = ((w .0, (second, w .1 .1)), record { register = w .1 .0; images = L .images })
 
-        go : (x : Bool) → leb 8 (length answer) ≡ x → Follows (restores (imageIn first answer)) (bookStep h second answer S)
+        go : (x : Bool) → leb 8 (length answer) ≡ x → Follows E (restores (imageIn first answer)) (bookStep E h second answer S)
         go true e =
-            subst (λ i. Follows (restores i) (bookStep h second answer S)) (sym (lent-bytes true e))
+            subst (λ i. Follows E (restores i) (bookStep E h second answer S)) (sym (lent-bytes true e))
             (follows h (restores first) (second-kept _ second answer)
-            (written-leaves (restoreCall t n first) restore-left _ (call-agrees (lentIn L) S (r .standsFor) (callIn h second) .standsFor)))
+            (written-leaves (restoreCall E t n first) restore-left _ (call-agrees E fit (lentIn L) S (r .standsFor) (callIn h second) .standsFor)))
         go false e =
             sent-back (petlumas-restore n lent) _ e
-            (ap restores (lent-bytes false e) ∙ ap (λ u. out (written u b answer)) (restore-out t n [] long no-bytes)
+            (ap restores (lent-bytes false e) ∙ ap (λ u. out (written u b answer)) (restore-out E t n [] long no-bytes)
             ∙ ap out (one-short 2 (pos 2 ∷ []) refl refl e b t))
 
     -- ---- save
 
     abbrev saves : List ℕ → Reply × LentBytes
     saves i =
-        let w : ℤ × (List ℕ × List ℕ) = writtenBytes (saveCall t n i) first answer in
+        let w : ℤ × (List ℕ × List ℕ) = writtenBytes (saveCall E t n i) first answer in
         ((w .0, (second, w .1 .1)), record { register = b; images = under (natOf n) (w .1 .0 ++ drop lent image) (L .images) })
 
     -- an image written back as it was
@@ -262,7 +278,7 @@ module _ (L : LentBytes) (S : State) (r : Holds L S) (second answer : List ℕ) 
         go k true e = take-append-drop lent image ∙ ap (L .images) (sym (eqb-true k (natOf n) e))
         go k false e = refl
 
-    save-follows : Follows (byteStep (hub-state (petlumas-save n lent)) second answer L) (bookStep (hub-state (petlumas-save n lent)) second answer S)
+    save-follows : Follows E (byteStep E (hub-state (petlumas-save n lent)) second answer L) (bookStep E (hub-state (petlumas-save n lent)) second answer S)
     unfolding byteStep stateStep lentStep stateCall stateIn
     save-follows = go (leb 8 (length answer)) refl
       where
@@ -275,28 +291,128 @@ module _ (L : LentBytes) (S : State) (r : Holds L S) (second answer : List ℕ) 
         out : ℤ × (List ℕ × List ℕ) → Reply × LentBytes
         out w = ((w .0, (second, w .1 .1)), with-image (w .1 .0))
 
-        go : (x : Bool) → leb 8 (length answer) ≡ x → Follows (saves (imageIn first answer)) (bookStep h second answer S)
+        go : (x : Bool) → leb 8 (length answer) ≡ x → Follows E (saves (imageIn first answer)) (bookStep E h second answer S)
         go true e =
-            subst (λ i. Follows (saves i) (bookStep h second answer S)) (sym (lent-bytes true e))
+            subst (λ i. Follows E (saves i) (bookStep E h second answer S)) (sym (lent-bytes true e))
             (follows h (saves first) (second-kept _ second answer)
-            (subst (λ i. Holds (with-image i) (cond (fits (saveCall t n first .0)) (step (state! (save! n lent)) S .1) S)) (sym (bytes-left (saveCall t n first) first answer (save-kept t n first) e))
-            (subst (λ x. Holds (with-image (saveCall t n first .1)) (cond x (step (state! (save! n lent)) S .1) S)) (sym (state-fits (save! n lent) true e))
-            (record { long = r .long; standsFor = call-agrees (lentIn L) S (r .standsFor) (state! (save! n lent)) .standsFor }))))
+            (subst (λ i. Holds E (with-image i) (cond (fits (saveCall E t n first .0)) (step E (state! (save! n lent)) S .1) S)) (sym (bytes-left (saveCall E t n first) first answer (save-kept E t n first) e))
+            (subst (λ x. Holds E (with-image (saveCall E t n first .1)) (cond x (step E (state! (save! n lent)) S .1) S)) (sym (state-fits (save! n lent) true e))
+            (record { long = r .long; standsFor = call-agrees E fit (lentIn L) S (r .standsFor) (state! (save! n lent)) .standsFor }))))
         go false e =
             sent-back (petlumas-save n lent) _ e
-            (ap saves (lent-bytes false e) ∙ ap (λ u. out (writtenBytes u first answer)) (save-out t n [] t-sound no-bytes)
+            (ap saves (lent-bytes false e) ∙ ap (λ u. out (writtenBytes u first answer)) (save-out E t n [] t-sound no-bytes)
             ∙ ap out (bytes-short 2 (pos 2 ∷ [], []) refl refl first answer e) ∙ ap (λ is. ((pos 2, (second, answer)), record { register = b; images = is })) same-images)
 
-  each : (h : HubCall) → Follows (byteStep h second answer L) (bookStep h second answer S)
+  -- ---- fresh
+
+  fresh-left : (n : NewRegister) → Left (freshCall E t n)
+  unfolding freshCall bookOf
+  fresh-left n =
+      record {
+        long = decide-keeps 0 t _ (λ u. length u ≡ tableLength) _ whole (λ z.
+            let to : Edition = editionNo E (natOf (n .edition)) in
+            new-length to (number-fits E fit _) (no-points to n (least-none 0 _ (freshRows n) z .1)) t whole);
+        sentBack = kept-by _ t _ .sentBack;
+      }
+    where
+      whole : length t ≡ tableLength
+      whole = table-whole b (r .long)
+
+  -- ---- a conversion
+
+  -- the calls go on in the second buffer where the result is 0
+  abbrev on : Numbers × List ℤ → Bool
+  on w = sameZ (written w second answer .0) (pos 0)
+
+  convert-holds : (w : Numbers × List ℤ)
+      → (refused (w .0) ≡ false → (length (w .1) ≡ tableLength) × (61504 ≤ length second)) → (T : State)
+      → StandsFor E (record { table = goesOn t w; images = L .images }) T
+      → Holds E (withRegister L (cond (on w) (written w second answer .1 .0) b)) (cond (fits (w .0)) T S)
+  unfolding written replied
+  convert-holds w k T s = go (fits (w .0))
+    where
+      refusal : ℤ
+      refusal = getD (w .0) 0 (pos 0)
+
+      result : Bool → ℤ
+      result was = cond {A = ℤ × List ℕ} was (refusal, withNumbers (w .0) answer) (cond (sameZ refusal (pos 1)) (pos 1) (pos 2), answer) .0
+
+      left : ℤ → List ℕ
+      left z = cond (sameZ z (pos 0)) (cond (sameZ z (pos 0)) (withNumbers (w .1) second) second) b
+
+      done : (z : Bool) → sameZ refusal (pos 0) ≡ z → Holds E (withRegister L (cond z (cond z (withNumbers (w .1) second) second) b)) T
+      done true e =
+          let given : refused (w .0) ≡ false = given-is (w .0) e in
+          let stands = subst (λ x. StandsFor E (record { table = cond x t (w .1); images = L .images }) T) given s in
+          table-put E fit (w .1) second (L .images) T stands (k given .0) (k given .1)
+      done false e =
+          let stands = subst (λ x. StandsFor E (record { table = cond x t (w .1); images = L .images }) T) (refused-is (w .0) e) s in
+          record { long = r .long; standsFor = stands }
+
+      go : (was : Bool) → Holds E (withRegister L (left (result was))) (cond was T S)
+      go true = done (sameZ refusal (pos 0)) refl
+      go false = short (sameZ refusal (pos 1))
+        where
+          short : (z : Bool) → Holds E (withRegister L (left (cond z (pos 1) (pos 2)))) S
+          short true = r
+          short false = r
+
+  -- its reply has the second buffer as it was lent
+  converted-reply : (w : Numbers × List ℤ)
+      → (written w second answer .0, (cond (on w) second (written w second answer .1 .0), written w second answer .1 .1)) ≡ written (w .0, []) second answer
+  unfolding written
+  converted-reply w =
+      let v : ℤ × List ℕ = replied (w .0) answer in
+      ap (λ s. (v .0, (s, v .1))) (go (sameZ (v .0) (pos 0))) ∙ second-kept (w .0) second answer
+    where
+      go : (z : Bool) → cond z second (cond z (withNumbers (w .1) second) second) ≡ second
+      go true = refl
+      go false = refl
+
+  -- an accepted one found a second register that is long enough, and fills it
+  convert-accepted : (b′ : List ℕ) → refused (convertCall E t (tableIn b′) .0) ≡ false
+      → (length (convertCall E t (tableIn b′) .1) ≡ tableLength) × (61504 ≤ length b′)
+  unfolding convertRows decide
+  convert-accepted b′ =
+      subst (λ w. refused (w .0) ≡ false → (length (w .1) ≡ tableLength) × (61504 ≤ length b′)) (sym (convert-rows E t u t-sound))
+      (go (least (convertRows to (length u) B)) refl)
+    where
+      u : List ℤ
+      u = tableIn b′
+
+      to : Edition
+      to = otherThan E (editionIn E t)
+
+      B : Book
+      B = tableBook (editionIn E t) t
+
+      go : (x : ℕ) → least (convertRows to (length u) B) ≡ x → refused (decide x 0 u ([], withNewBook to u B) .0) ≡ false
+          → (length (decide x 0 u ([], withNewBook to u B) .1) ≡ tableLength) × (61504 ≤ length b′)
+      go zero z e =
+          let (short, room) = least-none 0 (ltb (length u) tableLength) _ z in
+          let enough : 61504 ≤ length b′ = table-enough b′ (ltb-false (length u) tableLength short) in
+          (in-length E fit t t-sound (least-none 21 _ [] room .0) u (table-whole b′ enough), enough)
+      go (suc x) z e = absurd (false≢true (sym e ∙ ap not (eqb·suc-zero x)))
+
+  each : (h : HubCall) → Follows E (byteStep E h second answer L) (bookStep E h second answer S)
   unfolding byteStep lentStep written step
+  each (petlumas-fresh n) =
+      follows (petlumas-fresh n) (byteStep E (petlumas-fresh n) second answer L) (second-kept _ second answer)
+      (written-leaves (freshCall E t n) (fresh-left n) _ (call-agrees E fit (lentIn L) S (r .standsFor) (fresh! n) .standsFor))
   each (hub-notice c) =
-      follows (hub-notice c) (byteStep (hub-notice c) second answer L) (second-kept _ second answer)
-      (written-leaves (noticeCall (noticeIn c second) t) (notice-left (noticeIn c second)) _ (call-agrees (lentIn L) S (r .standsFor) (callIn (hub-notice c) second) .standsFor))
+      follows (hub-notice c) (byteStep E (hub-notice c) second answer L) (second-kept _ second answer)
+      (written-leaves (noticeCall E (noticeIn c second) t) (notice-left (noticeIn c second)) _ (call-agrees E fit (lentIn L) S (r .standsFor) (callIn (hub-notice c) second) .standsFor))
   each (hub-query q) =
-      follows (hub-query q) (byteStep (hub-query q) second answer L) refl (rw (cond-same (fits (queryCall (queryIn q second) t .0)) S) r)
+      follows (hub-query q) (byteStep E (hub-query q) second answer L) refl (rw (cond-same (fits (queryCall E (queryIn q second) t .0)) S) r)
   each (hub-state (petlumas-save n lent)) = save-follows n lent
   each (hub-state (petlumas-restore n lent)) = restore-follows n lent
+  each petlumas-convert =
+      follows petlumas-convert (byteStep E petlumas-convert second answer L) (converted-reply (convertCall E t u))
+      (convert-holds (convertCall E t u) (convert-accepted second) _ (call-agrees E fit (lentIn L) S (r .standsFor) (convert! u) .standsFor))
+    where
+      u : List ℤ
+      u = tableIn second
 
-pub call-follows : (h : HubCall) (second answer : List ℕ) (L : LentBytes) (S : State) → Holds L S
-    → Follows (byteStep h second answer L) (bookStep h second answer S)
-call-follows h second answer L S r = each L S r second answer h
+pub call-follows : (E : Editions) → BothFit E → (h : HubCall) (second answer : List ℕ) (L : LentBytes) (S : State) → Holds E L S
+    → Follows E (byteStep E h second answer L) (bookStep E h second answer S)
+call-follows E fit h second answer L S r = each E fit L S r second answer h

@@ -5,7 +5,8 @@ use lib.IntN.{ℤ}
 use lib.ListN.{length}
 use Rattle.calendar.specs.Calendar.{dateCall}
 use Rattle.daybook.specs.Notices.{Numbers}
-use Rattle.daybook.specs.Conversions.{num, rangesOf, openingOf, energyNoticeOf, statusOf, requestOf, withdrawalOf, correctionOf, accountQueryOf, allocationQueryOf}
+use Rattle.daybook.specs.Conversions.{num, newRegisterOf, openingOf, energyNoticeOf, statusOf, requestOf, withdrawalOf, correctionOf, accountQueryOf, allocationQueryOf}
+use Rattle.daybook.specs.Editions.{editions}
 use Rattle.opening.specs.Opening.{freshCall, openCall}
 use Rattle.energy.specs.Energy.{energyCall}
 use Rattle.status.specs.Status.{statusCall}
@@ -25,21 +26,21 @@ use Rattle.journal.specs.declared.CallWord.the-variants as Call·
 
 -- A notice's answer and the table after it: one of a transfer, and any.
 abbrev pub transferred : TransferWord → List ℤ → List ℤ → List ℤ → Numbers × List ℤ
-transferred Request t xs list = requestCall t (requestOf xs) list
-transferred Withdraw t xs list = withdrawCall t (withdrawalOf xs)
-transferred Correct t xs list = correctCall t (correctionOf xs)
+transferred Request t xs list = requestCall editions t (requestOf xs) list
+transferred Withdraw t xs list = withdrawCall editions t (withdrawalOf xs)
+transferred Correct t xs list = correctCall editions t (correctionOf xs)
 
 abbrev pub noticed : NoticeWord → List ℤ → List ℤ → List ℤ → Numbers × List ℤ
-noticed Fresh t xs list = freshCall t (rangesOf xs)
-noticed Open t xs list = openCall t (openingOf xs)
-noticed Energy t xs list = energyCall t (energyNoticeOf xs)
-noticed Status t xs list = statusCall t (statusOf xs)
+noticed Fresh t xs list = freshCall editions t (newRegisterOf xs)
+noticed Open t xs list = openCall editions t (openingOf xs)
+noticed Energy t xs list = energyCall editions t (energyNoticeOf xs)
+noticed Status t xs list = statusCall editions t (statusOf xs)
 noticed (Transfer w) t xs list = transferred w t xs list
 
 -- A query's answer, and its numbers for an answer table of `room` places.
 abbrev pub asked : QueryWord → List ℤ → List ℤ → ℕ → Numbers × List ℤ
-asked Account t xs room = (accountCall t (accountQueryOf xs), [])
-asked Allocate t xs room = allocateCall t (allocationQueryOf xs) room
+asked Account t xs room = (accountCall editions t (accountQueryOf xs), [])
+asked Allocate t xs room = allocateCall editions t (allocationQueryOf xs) room
 asked Date t xs room = (dateCall (num xs 0) (num xs 1) (num xs 2), [])
 
 -- What a call leaves: its result, and the bytes of the register, of its answer and of its answer table.

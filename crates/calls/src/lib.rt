@@ -65,7 +65,7 @@ fn notify(n: NoticeWord, a: Seven, list: &[u8], register: &mut [u8], answer: &mu
     ensures { λ r. ⌜ (r, (now (register .exit), now (answer .exit))) ≡ written (noticed n (tableIn (now (register .entry))) (listed a) (holidaysIn (now (list .entry)))) (now (register .entry)) (now (answer .entry)) ⌝ }
 {
     match n {
-        NoticeWord::Fresh => hub::petlumas_fresh(register, answer, a.n0, a.n1),
+        NoticeWord::Fresh => hub::petlumas_fresh(register, answer, a.n0, a.n1, a.n2),
         NoticeWord::Open => {
             hub::petlumas_open(register, answer, a.n0, a.n1, a.n2, a.n3, a.n4, a.n5, a.n6)
         }

@@ -15,10 +15,10 @@ use Rattle.daybook.specs.declared.Edition.{Edition}
 use Rattle.daybook.specs.Book.{Entry, Pending, Point, Book}
 use Rattle.daybook.specs.Notices.{least, append, replacement, recut, Outcome, registers, lapses, stays, outcomeOf, statusRows, requestRows}
 use Rattle.daybook.specs.Queries.{active, someFilled, weight}
+use Rattle.daybook.specs.Editions.{editions}
 use Rattle.daybook.specs.Calls.{Call, State}
 use Rattle.lists.specs.Lists.{Lists, userOn, offOn, entryOn, pointOf, bookOf, withFacts, unnamedAgain}
-use Rattle.layout.specs.Layout.{standard}
-use Rattle.cases.specs.Journal.{Fresh, OpenIn, OpenBy, Open, Read, Energy, Status, Request, Withdraw, Account, Allocate, answersFrom, answersOf, naturals}
+use Rattle.cases.specs.Journal.{Fresh, OpenIn, OpenBy, Open, Read, Energy, Status, Request, Withdraw, Account, Allocate, answersFrom, answersIn, alone, answersOf, sized, naturals}
 
 -- an odd megajoule goes early, also below 0 and over the most days; 0 is shared as 0 (document 02, f)
 odd :
@@ -35,7 +35,7 @@ odd = (refl, refl, refl, refl, refl, refl, refl, refl)
 
 -- 1 point of 1 record, where only the bounds of the edition count
 abbrev small : Edition
-small = record { points = 1; records = 1; reserve = 0 }
+small = sized 1 1 0
 
 -- a full point takes a replacement and no append; a full table takes no point
 full : List Call
@@ -166,7 +166,7 @@ sectioned =
     ∷ []
 
 sectioned-answers :
-    answersOf (record { points = 1; records = 3; reserve = 0 }) sectioned
+    answersOf (sized 1 3 0) sectioned
     ≡ naturals
     ((0 ∷ [])
     ∷ (2 ∷ [])
@@ -196,7 +196,7 @@ reserves =
     ∷ (by 2 101 20 ++ by 2 121 1 ++ by 2 101 1 ++ by 1 201 5 ++ by 3 301 5 ++ by 4 401 5 ++ by 2 101 1)
 
 reserves-answers :
-    answersOf standard reserves
+    answersIn editions reserves
     ≡ naturals
     (map (λ r. r ∷ [])
     (0 ∷ 2 ∷ 2 ∷ 2 ∷ (replicate 20 0 ++ (19 ∷ 5 ∷ 0 ∷ 0 ∷ 0 ∷ 0 ∷ 19 ∷ 0 ∷ 0 ∷ 0 ∷ 0 ∷ 19 ∷ 0 ∷ 0 ∷ 0 ∷ 0 ∷ 16 ∷ 5 ∷ []))))
@@ -205,11 +205,11 @@ reserves-answers = refl
 
 -- where every reserve is filled, the last points are anybody's; with a reserve of 0 all are
 unreserved-answers :
-    (answersOf (record { points = 5; records = 1; reserve = 1 }) (by 1 1 3 ++ by 2 11 1 ++ by 3 21 1 ++ by 4 31 1 ++ by 1 41 1)
+    (answersOf (sized 5 1 1) (by 1 1 3 ++ by 2 11 1 ++ by 3 21 1 ++ by 4 31 1 ++ by 1 41 1)
     ≡ naturals (map (λ r. r ∷ []) (0 ∷ 0 ∷ 19 ∷ 0 ∷ 0 ∷ 0 ∷ 16 ∷ [])))
-    × (answersOf (record { points = 6; records = 1; reserve = 1 }) (by 1 1 1 ++ by 2 11 1 ++ by 3 21 1 ++ by 4 31 1 ++ by 1 41 3)
+    × (answersOf (sized 6 1 1) (by 1 1 1 ++ by 2 11 1 ++ by 3 21 1 ++ by 4 31 1 ++ by 1 41 3)
     ≡ naturals (map (λ r. r ∷ []) (0 ∷ 0 ∷ 0 ∷ 0 ∷ 0 ∷ 0 ∷ 16 ∷ [])))
-    × (answersOf (record { points = 3; records = 1; reserve = 0 }) (by 4 1 4) ≡ naturals (map (λ r. r ∷ []) (0 ∷ 0 ∷ 0 ∷ 16 ∷ [])))
+    × (answersOf (sized 3 1 0) (by 4 1 4) ≡ naturals (map (λ r. r ∷ []) (0 ∷ 0 ∷ 0 ∷ 16 ∷ [])))
 unfolding answersFrom by
 unreserved-answers = (refl, refl, refl)
 
@@ -226,9 +226,9 @@ older m o =
     }
 
 older-answers :
-    (answersFrom
+    (answersFrom (alone small)
     (record {
-      edition = record { points = 8; records = 1; reserve = 2 };
+      edition = sized 8 1 2;
       book = bookOf (record { nondaily = negsuc 0; daily = negsuc 0; points = older 1 0 ∷ older 2 1 ∷ [] });
       saved = λ n. none;
     }) (by 1 11 1 ++ by 2 21 3)
@@ -342,9 +342,9 @@ load : ℕ → List ℕ
 load nsl = 0 ∷ nsl ∷ 0 ∷ nsl ∷ replicate 14 0
 
 metered-answers :
-    (answersFrom (metered 6) (Allocate 6 0 1 50 ∷ Allocate 7 0 1 50 ∷ []) ≡ naturals (load 35 ∷ load 50 ∷ []))
-    × (answersFrom (metered 7) (Allocate 6 0 1 50 ∷ Allocate 7 0 1 50 ∷ Allocate 7 0 1 5 ∷ Allocate 8 0 1 50 ∷ []) ≡ naturals (load 34 ∷ load 40 ∷ load 0 ∷ load 50 ∷ []))
-    × (answersFrom (metered 7) (Allocate 9 0 1 50 ∷ Allocate 8 8 8 50 ∷ []) ≡ naturals ((15 ∷ replicate 17 0) ∷ (2 ∷ replicate 17 0) ∷ []))
+    (answersFrom (alone small) (metered 6) (Allocate 6 0 1 50 ∷ Allocate 7 0 1 50 ∷ []) ≡ naturals (load 35 ∷ load 50 ∷ []))
+    × (answersFrom (alone small) (metered 7) (Allocate 6 0 1 50 ∷ Allocate 7 0 1 50 ∷ Allocate 7 0 1 5 ∷ Allocate 8 0 1 50 ∷ []) ≡ naturals (load 34 ∷ load 40 ∷ load 0 ∷ load 50 ∷ []))
+    × (answersFrom (alone small) (metered 7) (Allocate 9 0 1 50 ∷ Allocate 8 8 8 50 ∷ []) ≡ naturals ((15 ∷ replicate 17 0) ∷ (2 ∷ replicate 17 0) ∷ []))
 unfolding answersFrom metered load
 metered-answers = (refl, refl, refl)
 
@@ -355,7 +355,7 @@ no-days g b p = let no-day : suc b - suc b ≡ 0 = omega arith in rw (no-day, mu
 
 -- it may end on the day before g, and not on g; a = b + 2 is refused, and an account with a = b + 1 as before
 no-days-answers :
-    answersFrom (metered 7) (Allocate 8 8 7 50 ∷ Allocate 8 9 8 50 ∷ Allocate 8 9 7 50 ∷ Account 2 8 7 ∷ [])
+    answersFrom (alone small) (metered 7) (Allocate 8 8 7 50 ∷ Allocate 8 9 8 50 ∷ Allocate 8 9 7 50 ∷ Account 2 8 7 ∷ [])
     ≡ naturals (load 50 ∷ (2 ∷ replicate 17 0) ∷ (2 ∷ replicate 17 0) ∷ (2 ∷ 0 ∷ []) ∷ [])
 unfolding answersFrom metered load
 no-days-answers = refl

@@ -3,3 +3,4 @@ pub mod Marked
 pub mod Boundaries
 pub mod Corrections
 pub mod States
+pub mod Editions

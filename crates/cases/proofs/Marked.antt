@@ -3,12 +3,12 @@ use mathlib.Core.Path.{_≡_, refl, ap}
 use mathlib.Core.List.{_++_}
 use lib.ListN.{take, drop}
 use Rattle.calendar.specs.Calendar.{dateCall, isDate, dayOf, newYear, daysBefore}
-use Rattle.layout.specs.Layout.{standard}
-use Rattle.cases.specs.Journal.{answersFrom, answersOf}
+use Rattle.daybook.specs.Editions.{editions}
+use Rattle.cases.specs.Journal.{answersFrom, answersIn}
 use Rattle.cases.specs.Marked.{Marked, story, accountsAnswers, recutAnswers}
 
 -- The story is computed once for both of its cases.
-whole : answersOf standard story ≡ accountsAnswers ++ recutAnswers
+whole : answersIn editions story ≡ accountsAnswers ++ recutAnswers
 unfolding answersFrom
 whole = refl
 

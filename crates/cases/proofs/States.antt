@@ -5,7 +5,7 @@ use mathlib.Core.List.{List, [], _∷_, map}
 use lib.IntN.{pos, negsuc}
 use Rattle.daybook.specs.States.{firstRow}
 use Rattle.daybook.specs.Calls.{save!, restore!, Call, state! }
-use Rattle.cases.specs.Journal.{Fresh, OpenBy, Save, Restore, answersFrom, answersOf, naturals}
+use Rattle.cases.specs.Journal.{Fresh, OpenBy, Save, Restore, answersFrom, answersOf, sized, naturals}
 
 -- restore's rows in their order, not by their numbers: 2 before 17 before 18 before 1
 order :
@@ -45,7 +45,7 @@ calls =
     ∷ []
 
 calls-answers :
-    answersOf (record { points = 4; records = 1; reserve = 0 }) calls
+    answersOf (sized 4 1 0) calls
     ≡ naturals
     (map (λ r. r ∷ [])
     (0 ∷ 17 ∷ 2 ∷ 2 ∷ 2 ∷ 2 ∷ 17 ∷ 0 ∷ 0 ∷ 0 ∷ 2 ∷ 5 ∷ 0 ∷ 0 ∷ 0 ∷ 0 ∷ 5 ∷ 0 ∷ 0 ∷ 17 ∷ 0 ∷ 5 ∷ []))

@@ -3,21 +3,32 @@ use mathlib.Core.Option.{none}
 use mathlib.Core.List.{List, [], _∷_, map}
 use Prim.Native.Nat.{ℕ}
 use lib.IntN.{ℤ, pos, negsuc}
+use lib.ListN.{replicate}
 use Rattle.numbers.specs.Rows.{all}
 use Rattle.numbers.specs.Search.{firstFrom, lastBelow}
 use Rattle.numbers.specs.Sums.{sumFrom}
 use Rattle.numbers.specs.Shares.{floorPart, ceilPart, partialEnergy, share}
 use Rattle.calendar.specs.Calendar.{allowablePeriod, businessDayBefore, businessDayAfter, listed, holidayList}
 use Rattle.daybook.specs.declared.Edition.{Edition}
-use Rattle.daybook.specs.Book.{fromOn, fill, withEntries, withOff, withFro, withPending, lastOf, gather, recordAt, records, begins, registrationAt, registrations, latest, spanAt, spans, lastFilled, appendDay, dayShare}
-use Rattle.daybook.specs.Notices.{least, Numbers, decide, find, put, withPoint, onPoint, freshRows, fresh, factsOf, opened, held, othersUnfilled, openingRows, opening, which, entryOf, energyEarly, offWithin, energyRows, laterStarts, entered, enter, energyRowsAt, energy, statusEarly, statusRows, switched, status, requestEarly, requestRows, request, withdrawEarly, withdrawRows, withdraw}
+use Rattle.daybook.specs.Book.{Book, fromOn, fill, withEntries, withOff, withFro, withPending, lastOf, gather, recordAt, records, begins, registrationAt, registrations, latest, spanAt, spans, lastFilled, appendDay, dayShare}
+use Rattle.daybook.specs.Notices.{least, Numbers, decide, find, put, withPoint, onPoint, freshRows, factsOf, opened, held, othersUnfilled, openingRows, opening, which, entryOf, energyEarly, offWithin, energyRows, laterStarts, entered, enter, energyRowsAt, energy, statusEarly, statusRows, switched, status, requestEarly, requestRows, request, withdrawEarly, withdrawRows, withdraw}
 use Rattle.daybook.specs.Corrections.{corrected, froChanged, affected, flags, correctEarly, full, correctRows, correctRowsAt, correctAt, correct}
 use Rattle.daybook.specs.Queries.{sumOf, ownShare, accountOf, accountRows, account, someFilled, allFilled, dailyGas, meteredOf, tdmOf, nslOf, weight, weights, total, split, pointShares, totalOf, allocateRows, allocate}
 use Rattle.daybook.specs.States.{imageLength, firstRow}
-use Rattle.daybook.specs.Calls.{fresh!, open!, energy!, status!, request!, withdraw!, account!, allocate!, save!, restore!, Call, notice!, query!, state!, Answer, noted, given, State, stated, step, answers}
+use Rattle.daybook.specs.Editions.{Editions, editionNo, mostRecords, noRoom, convertRows}
+use Rattle.daybook.specs.Calls.{open!, energy!, status!, request!, withdraw!, account!, allocate!, save!, restore!, Call, fresh!, notice!, query!, state!, convert!, Answer, noted, given, State, renewed, converted, stated, step, answers}
 
+-- in an edition
+abbrev pub FreshIn : ℤ → ℤ → ℤ → Call
+FreshIn e r s = fresh! (record { nondaily = r; daily = s; edition = e })
+
+-- in the standard edition
 abbrev pub Fresh : ℤ → ℤ → Call
-Fresh r s = notice! (fresh! (record { nondaily = r; daily = s }))
+Fresh r s = FreshIn (pos 0) r s
+
+-- lent a second table of so many numbers
+abbrev pub Convert : ℕ → Call
+Convert n = convert! (replicate n (pos 0))
 
 -- in a section, by an operator
 abbrev pub OpenAs : ℤ → ℤ → ℕ → ℕ → ℕ → ℕ → ℤ → Call
@@ -76,16 +87,26 @@ numbers [] = []
 numbers (a ∷ l) = a .0 ∷ numbers l
 
 -- Each call's numbers, the refusal first. To unfold this definition is to unfold the whole day book.
-unfoldable pub answersFrom : State → List Call → List Numbers
-unfolding all firstFrom lastBelow sumFrom floorPart ceilPart partialEnergy share allowablePeriod businessDayBefore businessDayAfter listed holidayList fromOn fill withEntries withOff withFro withPending lastOf gather recordAt records begins registrationAt registrations latest spanAt spans lastFilled appendDay dayShare least decide find put withPoint onPoint freshRows fresh factsOf opened held othersUnfilled openingRows opening which entryOf energyEarly offWithin energyRows laterStarts entered enter energyRowsAt energy statusEarly statusRows switched status requestEarly requestRows request withdrawEarly withdrawRows withdraw corrected froChanged affected flags correctEarly full correctRows correctRowsAt correctAt correct sumOf ownShare accountOf accountRows account someFilled allFilled dailyGas meteredOf tdmOf nslOf weight weights total split pointShares totalOf allocateRows allocate firstRow noted given stated step answers
-answersFrom S calls = numbers (answers calls S)
+unfoldable pub answersFrom : Editions → State → List Call → List Numbers
+unfolding all firstFrom lastBelow sumFrom floorPart ceilPart partialEnergy share allowablePeriod businessDayBefore businessDayAfter listed holidayList fromOn fill withEntries withOff withFro withPending lastOf gather recordAt records begins registrationAt registrations latest spanAt spans lastFilled appendDay dayShare least decide find put withPoint onPoint freshRows factsOf opened held othersUnfilled openingRows opening which entryOf energyEarly offWithin energyRows laterStarts entered enter energyRowsAt energy statusEarly statusRows switched status requestEarly requestRows request withdrawEarly withdrawRows withdraw corrected froChanged affected flags correctEarly full correctRows correctRowsAt correctAt correct sumOf ownShare accountOf accountRows account someFilled allFilled dailyGas meteredOf tdmOf nslOf weight weights total split pointShares totalOf allocateRows allocate firstRow editionNo mostRecords noRoom convertRows noted given renewed converted stated step answers
+answersFrom E S calls = numbers (answers E calls S)
 
 -- From nothing: what stands in the book before fresh does not matter, and nothing is saved.
+abbrev pub answersIn : Editions → List Call → List Numbers
+answersIn E calls =
+    let nothing : Book = record { nondaily = pos 0; daily = pos 0; points = [] } in
+    answersFrom E (record { edition = E .standard; book = nothing; saved = λ n. none }) calls
+
+-- Where there is one edition, which fresh names by 0.
+abbrev pub alone : Edition → Editions
+alone ed = record { standard = ed; long = ed }
+
 abbrev pub answersOf : Edition → List Call → List Numbers
-answersOf ed calls =
-    answersFrom
-    (record { edition = ed; book = record { nondaily = pos 0; daily = pos 0; points = [] }; saved = λ n. none })
-    calls
+answersOf ed calls = answersIn (alone ed) calls
+
+-- So many points, records of each and points reserved, by the number 0.
+abbrev pub sized : ℕ → ℕ → ℕ → Edition
+sized points records reserve = record { number = 0; points = points; records = records; reserve = reserve }
 
 -- answers of numbers that are not negative
 abbrev pub naturals : List (List ℕ) → List Numbers

@@ -7,11 +7,11 @@ use lib.IntN.{pos, negsuc}
 use lib.ListN.{take, drop}
 use Rattle.numbers.specs.Shares.{share}
 use Rattle.calendar.specs.Calendar.{dateCall, allowablePeriod}
-use Rattle.layout.specs.Layout.{standard}
 use Rattle.daybook.specs.Notices.{Numbers}
 use Rattle.daybook.specs.Queries.{split}
+use Rattle.daybook.specs.Editions.{editions}
 use Rattle.daybook.specs.Calls.{Call}
-use Rattle.cases.specs.Journal.{Fresh, Open, Energy, Request, Account, answersOf, naturals}
+use Rattle.cases.specs.Journal.{Fresh, Open, Energy, Request, Account, answersIn, naturals}
 
 -- Fresh (-1, -1); open kind 0, User 1, install 1; energy 1–3: 10; request User 2, proposed 14; energy 4–6: -10
 -- registers User 2 from 7; energy 7–10: 5. Then the accounts, the recut and what follows it.
@@ -81,8 +81,8 @@ pub record Marked : Type 0 where
   -- ● Proposed 14: 0 to 28.
   pub first-day : allowablePeriod [] 14 0 ≡ some (0, 28)
   -- ● Account of User 1 over 1–10 is 0, over 1–5 is 4; of User 2 over 8–9 is 2.
-  pub accounts : take 9 (answersOf standard story) ≡ accountsAnswers
+  pub accounts : take 9 (answersIn editions story) ≡ accountsAnswers
   -- ● Energy 4–5: 8 removes one; User 1 over 1–10 is 18, User 2 has 0; the next append day is 6, a start at 7 gets 7.
-  pub recut : drop 9 (answersOf standard story) ≡ recutAnswers
+  pub recut : drop 9 (answersIn editions story) ≡ recutAnswers
   -- ● T 1, 1, 1 and NSL 10: 3, 3, 4.
   pub thirds : split 10 3 0 (1 ∷ 1 ∷ 1 ∷ []) ≡ pos 3 ∷ pos 3 ∷ pos 4 ∷ []

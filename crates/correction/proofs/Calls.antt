@@ -11,6 +11,7 @@ use Rattle.daybook.specs.declared.Edition.{Edition}
 use Rattle.daybook.specs.declared.Correction.{Correction}
 use Rattle.daybook.specs.Notices.{isMirn, isUser, least, Numbers}
 use Rattle.daybook.specs.Corrections.{correctEarly, correctRows, correctRowsAt, correct}
+use Rattle.daybook.specs.Editions.{editions}
 use Rattle.lists.specs.InnerSteps.{withRegs, withPendingLists, correctedLists, correctListsAt, correctLists}
 use Rattle.lists.proofs.Rows.{above, upTo, least-first, least-skip}
 use Rattle.lists.proofs.CorrectStep.{CorrectNumbers, correct-numbers, correct-step, correct-keeps, correct-well}
@@ -52,7 +53,7 @@ module _ (n : Correction) where
 
 module _ (ed : Edition) (fits : Fits ed) (t : List ℤ) (g : ed ≡ editionOf t) (n : Correction) (e : ℕ)
     (is : e ≡ least (correctEarly n)) where
-  whole : correctCall t n ≡ onEdition 16 (correct n) ed t
+  whole : correctCall editions t n ≡ onEdition 16 (correct n) ed t
   unfolding correctCall
   whole = ap (λ ed. onEdition 16 (correct n) ed t) (sym g)
 
@@ -74,13 +75,13 @@ module _ (ed : Edition) (fits : Fits ed) (t : List ℤ) (g : ed ≡ editionOf t)
       }
 
   pub correct-back : (r : ℕ) → SentBack ed t (n .mirn) e r
-      → (pos r ∷ replicate 16 (pos 0) ≡ correctCall t n .0) × (t ≡ correctCall t n .1)
-  correct-back r h = let b = call-back ed fits t call (correctCall t n) whole e is r h in (b .0, b .1)
+      → (pos r ∷ replicate 16 (pos 0) ≡ correctCall editions t n .0) × (t ≡ correctCall editions t n .1)
+  correct-back r h = let b = call-back ed fits t call (correctCall editions t n) whole e is r h in (b .0, b .1)
 
   pub correct-done : {a b : ℕ} → PartFound ed t (n .mirn) e a b → (x : Numbers) (p : List ℤ)
       → (x ≡ correctPart (natOf (n .user)) (natOf (n .day)) (natOf (n .notice)) (lent t a b) .0)
       × (p ≡ correctPart (natOf (n .user)) (natOf (n .day)) (natOf (n .notice)) (lent t a b) .1)
-      → (x ≡ correctCall t n .0) × (backIn t a b p ≡ correctCall t n .1)
+      → (x ≡ correctCall editions t n .0) × (backIn t a b p ≡ correctCall editions t n .1)
   unfolding correctPart
   correct-done h x p d =
-      let f = call-done ed fits t call (correctCall t n) whole e is h x p (d .0, d .1, refl) in (f .0, f .1)
+      let f = call-done ed fits t call (correctCall editions t n) whole e is h x p (d .0, d .1, refl) in (f .0, f .1)

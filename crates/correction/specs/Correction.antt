@@ -4,8 +4,9 @@ use lib.IntN.{ℤ}
 use Rattle.daybook.specs.declared.Correction.{Correction}
 use Rattle.daybook.specs.Notices.{Numbers}
 use Rattle.daybook.specs.Corrections.{correct}
+use Rattle.daybook.specs.Editions.{Editions}
 use Rattle.layout.specs.Calls.{onTable}
 
 -- correct answers sixteen fields, the flags of the Users.
-unfoldable pub correctCall : List ℤ → Correction → Numbers × List ℤ
-correctCall t n = onTable 16 (λ ed. correct n) t
+unfoldable pub correctCall : Editions → List ℤ → Correction → Numbers × List ℤ
+correctCall E t n = onTable E 16 (λ ed. correct n) t

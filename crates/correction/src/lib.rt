@@ -14,6 +14,7 @@ ghost use Rattle.numbers.specs.Search.{isSome};
 ghost use Rattle.daybook.specs.Notices.{least, users};
 ghost use Rattle.daybook.specs.Corrections.{othersRequest, correctEarly, permitted as isPermitted, correctRows, correctRowsAt};
 ghost use Rattle.daybook.specs.Calls.{correctionNumbers};
+ghost use Rattle.daybook.specs.Editions.{editions};
 ghost use Rattle.lists.specs.Lists.{pointOf, nextAfter};
 ghost use Rattle.lists.specs.InnerSteps.{latestOf, someUser, earlier, userFrom, withRegs};
 ghost use Rattle.layout.specs.Places.{regCount};
@@ -221,7 +222,7 @@ fn correct_at(p: &mut [i64], user: u64, day: u64, notice: u64) -> CorrectionAnsw
 
 // The correct call.
 pub fn correct(t: &mut [i64], n: Correction) -> CorrectionAnswer
-    ensures { λ r. ⌜ (correctionNumbers r ≡ correctCall (now (t .entry)) n .0) × (now (t .exit) ≡ correctCall (now (t .entry)) n .1) ⌝ }
+    ensures { λ r. ⌜ (correctionNumbers r ≡ correctCall editions (now (t .entry)) n .0) × (now (t .exit) ≡ correctCall editions (now (t .entry)) n .1) ⌝ }
 {
     let ed = table::edition(t);
     let mirn = n.mirn;

@@ -4,10 +4,10 @@ use mathlib.Core.Option.{Option, some}
 use mathlib.Core.List.{List, [], _∷_, map}
 use Prim.Native.Nat.{ℕ}
 use lib.IntN.{ℤ, pos}
-use lib.ListN.{replicate}
+use lib.ListN.{length, replicate}
 use Rattle.numbers.specs.Naturals.{natOf}
 use Rattle.numbers.specs.Search.{maybe, isSome}
-use Rattle.daybook.specs.declared.Ranges.{Ranges}
+use Rattle.daybook.specs.declared.NewRegister.{NewRegister}
 use Rattle.daybook.specs.declared.Opening.{Opening}
 use Rattle.daybook.specs.declared.EnergyNotice.{EnergyNotice}
 use Rattle.daybook.specs.declared.StatusNotice.{StatusNotice}
@@ -28,10 +28,11 @@ use Rattle.daybook.specs.declared.AccountAnswer.the-variants as Account
 use Rattle.daybook.specs.declared.AllocationAnswer.{AllocationAnswer}
 use Rattle.daybook.specs.declared.Edition.{Edition}
 use Rattle.daybook.specs.Book.{Book}
-use Rattle.daybook.specs.Notices.{least, Numbers, decide, fresh, opening, energy, status, request, withdraw}
+use Rattle.daybook.specs.Notices.{least, Numbers, decide, freshRows, freshBook, opening, energy, status, request, withdraw}
 use Rattle.daybook.specs.Corrections.{correct}
 use Rattle.daybook.specs.Queries.{account, allocate}
 use Rattle.daybook.specs.States.{stateRow, under}
+use Rattle.daybook.specs.Editions.{Editions, editionNo, otherThan, convertRows}
 
 -- ---- the numbers of an answer: the refusal first, then the fields, every one 0 on a refusal
 
@@ -78,9 +79,8 @@ accountRefused (Account.Refused r) = true
 
 -- ---- calls
 
--- A call that may change the book: its numbers, and the holidays that a request lends.
+-- A call that may change the book, in its edition: its numbers, and the holidays that a request lends.
 pub data Notice : Type 0 where
-  fresh! : Ranges → Notice
   open! : Opening → Notice
   energy! : EnergyNotice → Notice
   status! : StatusNotice → Notice
@@ -98,10 +98,13 @@ pub data StateCall : Type 0 where
   save! : ℤ → ℕ → StateCall
   restore! : ℤ → ℕ → StateCall
 
+-- Any of these; fresh; and a conversion, with the second table that it is lent.
 pub data Call : Type 0 where
+  fresh! : NewRegister → Call
   notice! : Notice → Call
   query! : Query → Call
   state! : StateCall → Call
+  convert! : List ℤ → Call
 
 -- An answer's numbers, and those for the first places of the answer table.
 abbrev pub Answer : Type 0
@@ -109,7 +112,6 @@ Answer = Numbers × List ℤ
 
 -- What a notice answers and leaves of the book, in an edition of the table.
 unfoldable pub noted : Notice → Edition → Book → Numbers × Book
-noted (fresh! n) ed B = fresh n B
 noted (open! n) ed B = opening ed n B
 noted (energy! n) ed B = energy ed n B
 noted (status! n) ed B = status n B
@@ -124,35 +126,51 @@ given (allocate! n room) B = allocate n room B
 
 -- ---- lists of calls, from state to state
 
--- The book, in an edition of the table, and under each state number the book that was saved last, if one was.
+-- The book, and beside it the edition of the table; and under each state number the book that was saved last, if one
+-- was, with its edition.
 pub record State : Type 0 where
   pub edition : Edition
   pub book : Book
-  pub saved : ℕ → Option Book
+  pub saved : ℕ → Option (Edition × Book)
+
+-- The state that goes on with another book, in an edition.
+abbrev pub onWith : State → Edition × Book → State
+onWith S w = record { edition = w .0; book = w .1; saved = S .saved }
+
+-- An accepted fresh, restore or conversion sets the edition (document 02, k). A refusal changes nothing.
+unfoldable pub renewed : Editions → NewRegister → State → Numbers × State
+renewed E n S =
+    decide (least (freshRows n)) 0 S ([], onWith S (editionNo E (natOf (n .edition)), freshBook n))
+
+unfoldable pub converted : Editions → ℕ → State → Numbers × State
+converted E room S =
+    let ed : Edition = otherThan E (S .edition) in
+    decide (least (convertRows ed room (S .book))) 0 S ([], onWith S (ed, S .book))
 
 -- A save keeps the book under its number, and a restore takes the book back to that (document 02, d): 17 where nothing
--- was saved. A refusal changes nothing.
+-- was saved.
 unfoldable pub stated : StateCall → State → Numbers × State
 stated (save! n lent) S =
-    let kept : ℕ → Option Book = under (natOf n) (some (S .book)) (S .saved) in
+    let kept : ℕ → Option (Edition × Book) = under (natOf n) (some (S .edition, S .book)) (S .saved) in
     decide (least (stateRow n lent ∷ [])) 0 S ([], record { edition = S .edition; book = S .book; saved = kept })
 stated (restore! n lent) S =
-    let kept : Option Book = S .saved (natOf n) in
-    let back : State = maybe S (λ B. record { edition = S .edition; book = B; saved = S .saved }) kept in
-    decide (least (stateRow n lent ∷ (17, not (isSome kept)) ∷ [])) 0 S ([], back)
+    let kept : Option (Edition × Book) = S .saved (natOf n) in
+    decide (least (stateRow n lent ∷ (17, not (isSome kept)) ∷ [])) 0 S ([], maybe S (onWith S) kept)
 
-unfoldable pub step : Call → State → Answer × State
-step (notice! c) S =
-    let w : Numbers × Book = noted c (S .edition) (S .book) in
-    ((w .0, []), record { edition = S .edition; book = w .1; saved = S .saved })
-step (query! q) S = (given q (S .book), S)
-step (state! c) S = let w : Numbers × State = stated c S in ((w .0, []), w .1)
+-- A call, where the two editions are E.
+unfoldable pub step : Editions → Call → State → Answer × State
+step E (fresh! n) S = let w : Numbers × State = renewed E n S in ((w .0, []), w .1)
+step E (notice! c) S =
+    let w : Numbers × Book = noted c (S .edition) (S .book) in ((w .0, []), onWith S (S .edition, w .1))
+step E (query! q) S = (given q (S .book), S)
+step E (state! c) S = let w : Numbers × State = stated c S in ((w .0, []), w .1)
+step E (convert! t) S = let w : Numbers × State = converted E (length t) S in ((w .0, []), w .1)
 
 -- What a list of calls leaves, and what it answers.
-unfoldable pub run : List Call → State → State
-run [] S = S
-run (c ∷ cs) S = run cs (step c S .1)
+unfoldable pub run : Editions → List Call → State → State
+run E [] S = S
+run E (c ∷ cs) S = run E cs (step E c S .1)
 
-unfoldable pub answers : List Call → State → List Answer
-answers [] S = []
-answers (c ∷ cs) S = let r : Answer × State = step c S in r .0 ∷ answers cs (r .1)
+unfoldable pub answers : Editions → List Call → State → List Answer
+answers E [] S = []
+answers E (c ∷ cs) S = let r : Answer × State = step E c S in r .0 ∷ answers E cs (r .1)

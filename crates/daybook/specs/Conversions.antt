@@ -3,7 +3,7 @@ use mathlib.Core.List.{List}
 use Prim.Native.Nat.{ℕ}
 use lib.IntN.{ℤ, pos}
 use lib.ListN.{getD}
-use Rattle.daybook.specs.declared.Ranges.{Ranges}
+use Rattle.daybook.specs.declared.NewRegister.{NewRegister}
 use Rattle.daybook.specs.declared.Opening.{Opening}
 use Rattle.daybook.specs.declared.EnergyNotice.{EnergyNotice}
 use Rattle.daybook.specs.declared.StatusNotice.{StatusNotice}
@@ -17,8 +17,8 @@ use Rattle.daybook.specs.declared.AllocationQuery.{AllocationQuery}
 abbrev pub num : List ℤ → ℕ → ℤ
 num xs i = getD xs i (pos 0)
 
-abbrev pub rangesOf : List ℤ → Ranges
-rangesOf xs = record { nondaily = num xs 0; daily = num xs 1 }
+abbrev pub newRegisterOf : List ℤ → NewRegister
+newRegisterOf xs = record { nondaily = num xs 0; daily = num xs 1; edition = num xs 2 }
 
 abbrev pub openingOf : List ℤ → Opening
 openingOf xs =

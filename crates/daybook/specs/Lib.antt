@@ -5,5 +5,6 @@ pub mod Notices
 pub mod Corrections
 pub mod Queries
 pub mod States
+pub mod Editions
 pub mod Calls
 pub mod Conversions

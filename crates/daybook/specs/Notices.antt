@@ -10,7 +10,7 @@ use lib.Signed.{leZ}
 use Rattle.numbers.specs.Naturals.{natOf}
 use Rattle.numbers.specs.Search.{maybe, isSome, firstFrom}
 use Rattle.calendar.specs.Calendar.{within, isDay, holidayList, allowablePeriod}
-use Rattle.daybook.specs.declared.Ranges.{Ranges}
+use Rattle.daybook.specs.declared.NewRegister.{NewRegister}
 use Rattle.daybook.specs.declared.Opening.{Opening}
 use Rattle.daybook.specs.declared.Facts.{Facts}
 use Rattle.daybook.specs.declared.EnergyNotice.{EnergyNotice}
@@ -26,7 +26,7 @@ Row = ℕ × Bool
 
 -- The highest number of a row.
 abbrev pub highestRefusal : ℕ
-highestRefusal = 21
+highestRefusal = 22
 
 -- The lowest number of a row that applies; 0 if none does.
 abbrev pub smaller : ℕ → ℕ → ℕ
@@ -62,6 +62,10 @@ isFlag z = within (pos 0) (pos 1) z
 abbrev pub isRange : ℤ → Bool
 isRange z = within (negsuc 0) (pos 1000000) z
 
+-- The number of an edition: 0 standard, 1 long.
+abbrev pub isEdition : ℤ → Bool
+isEdition z = within (pos 0) (pos 1) z
+
 unfoldable pub find : ℕ → List Point → Option Point
 find m [] = none
 find m (p ∷ ps) = cond (eqb m (p .facts .mirn)) (some p) (find m ps)
@@ -82,13 +86,13 @@ onPoint k m early rows effect B =
     let after : Numbers × Book = maybe ([], B) (λ p. (effect p .0, withPoint (natOf m) (effect p .1) B)) found in
     decide (least (early ++ maybe ((4, true) ∷ []) rows found)) k B after
 
--- ---- fresh: no points
+-- ---- fresh: no points, in the edition that it names (document 02, k)
 
-unfoldable pub freshRows : Ranges → List Row
-freshRows n = (2, not (isRange (n .nondaily) && isRange (n .daily))) ∷ []
+unfoldable pub freshRows : NewRegister → List Row
+freshRows n = (2, not (isRange (n .nondaily) && isRange (n .daily) && isEdition (n .edition))) ∷ []
 
-unfoldable pub fresh : Ranges → Book → Numbers × Book
-fresh n B = decide (least (freshRows n)) 0 B ([], record { nondaily = n .nondaily; daily = n .daily; points = [] })
+abbrev pub freshBook : NewRegister → Book
+freshBook n = record { nondaily = n .nondaily; daily = n .daily; points = [] }
 
 -- ---- open
 

@@ -6,21 +6,24 @@ use calendar::Day;
 ghost use mathlib.Core.Path.{_≡_};
 ghost use Rattle.words.specs.Words.{bitsOf};
 ghost use Rattle.calendar.specs.Calendar.{dateNumbers};
-ghost use Rattle.daybook.specs.Notices.{isMirn, isUser, isFlag, isRange};
+ghost use Rattle.daybook.specs.Notices.{isMirn, isUser, isFlag, isRange, isEdition};
 ghost use Rattle.daybook.specs.States.{isState};
 ghost use Rattle.daybook.specs.Calls.{noticeNumbers, energyNumbers, requestNumbers, correctionNumbers, accountNumbers, allocationNumbers};
 
-// Beside the book stands the edition of the table: how many points it holds, how many records of each, and how many
-// points it reserves for each operator (document 02, g).
+// Beside the book stands the edition of the table: its number, how many points it holds, how many records of each, and
+// how many points it reserves for each operator (document 02, g and k).
 pub struct Edition {
+    pub number: u64,
     pub points: usize,
     pub records: usize,
     pub reserve: usize,
 }
 
-pub struct Ranges {
+// What fresh makes: a register with these two ranges, of the edition of that number (document 02, k).
+pub struct NewRegister {
     pub nondaily: i64,
     pub daily: i64,
+    pub edition: i64,
 }
 
 // The section is 1 for Wagga Wagga and Tamworth, 0 for the rest (document 02, a). The network operator is 1 to 4
@@ -97,7 +100,7 @@ pub struct AllocationQuery {
     pub clp: i64,
 }
 
-// Of fresh, open, status, withdraw, save and restore, which answer with no field.
+// Of fresh, open, status, withdraw, save, restore and convert, which answer with no field.
 pub enum NoticeAnswer {
     Entered,
     Refused(u64),
@@ -159,6 +162,13 @@ pub fn is_range(x: i64) -> bool
     ensures { λ r. ⌜ r ≡ isRange x ⌝ }
 {
     (-1 <= x) & (x <= 1000000)
+}
+
+// The number of an edition.
+pub fn is_edition(x: i64) -> bool
+    ensures { λ r. ⌜ r ≡ isEdition x ⌝ }
+{
+    (0 <= x) & (x <= 1)
 }
 
 // A state number.

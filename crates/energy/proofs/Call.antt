@@ -15,6 +15,7 @@ use Rattle.calendar.specs.Calendar.{within, isDay}
 use Rattle.daybook.specs.declared.Edition.{Edition}
 use Rattle.daybook.specs.declared.EnergyNotice.{EnergyNotice}
 use Rattle.daybook.specs.Notices.{least, Numbers, isMirn, isFlag, entryOf, energyEarly, energyRows, energy}
+use Rattle.daybook.specs.Editions.{editions}
 use Rattle.lists.specs.Lists.{Register}
 use Rattle.lists.specs.InnerSteps.{enteredLists, enterLists, energyListsRows, energyLists}
 use Rattle.lists.specs.InnerWell.{WellFormed}
@@ -59,7 +60,7 @@ module _ (n : EnergyNotice) where
 -- ---- the call
 
 module _ (ed : Edition) (fits : Fits ed) (t : List ℤ) (g : ed ≡ editionOf t) (n : EnergyNotice) (e : ℕ) (is : e ≡ least (energyEarly n)) where
-  whole : energyCall t n ≡ onEdition 4 (energy ed n) ed t
+  whole : energyCall editions t n ≡ onEdition 4 (energy ed n) ed t
   unfolding energyCall
   whole = ap (λ ed. onEdition 4 (energy ed n) ed t) (sym g)
 
@@ -84,8 +85,8 @@ module _ (ed : Edition) (fits : Fits ed) (t : List ℤ) (g : ed ≡ editionOf t)
       }
 
   pub energy-back : (r : ℕ) → SentBack ed t (n .mirn) e r
-      → (pos r ∷ replicate 4 (pos 0) ≡ energyCall t n .0) × (t ≡ energyCall t n .1) × (true ≡ refused (pos r ∷ replicate 4 (pos 0)))
-  energy-back = call-back ed fits t call (energyCall t n) whole e is
+      → (pos r ∷ replicate 4 (pos 0) ≡ energyCall editions t n .0) × (t ≡ energyCall editions t n .1) × (true ≡ refused (pos r ∷ replicate 4 (pos 0)))
+  energy-back = call-back ed fits t call (energyCall editions t n) whole e is
 
   module _ {a b : ℕ} (h : PartFound ed t (n .mirn) e a b) (nondaily daily : ℕ)
       (is-nondaily : nondaily ≡ biasOf (getD t 1 (pos 0))) (is-daily : daily ≡ biasOf (getD t 2 (pos 0))) where
@@ -115,6 +116,6 @@ module _ (ed : Edition) (fits : Fits ed) (t : List ℤ) (g : ed ≡ editionOf t)
 
       pub energy-done : (r : Numbers) (p : List ℤ) {c : Bool}
           → (r ≡ energyPart x nondaily daily (lent t a b) .0) × (p ≡ energyPart x nondaily daily (lent t a b) .1) × (c ≡ refused r)
-          → (r ≡ energyCall t n .0) × (backIn t a b p ≡ energyCall t n .1) × (c ≡ refused r)
+          → (r ≡ energyCall editions t n .0) × (backIn t a b p ≡ energyCall editions t n .1) × (c ≡ refused r)
       energy-done r p g =
-          call-done ed fits t call (energyCall t n) whole e is h r p (g .0 ∙ ap (λ w. w .0) given, g .1 ∙ ap (λ w. w .1) given, g .2)
+          call-done ed fits t call (energyCall editions t n) whole e is h r p (g .0 ∙ ap (λ w. w .0) given, g .1 ∙ ap (λ w. w .1) given, g .2)

@@ -18,7 +18,7 @@ registerWith nondaily daily = record { nondaily = energyOf nondaily; daily = ene
 
 -- An edition with room for so many records at a point.
 abbrev pub editionWith : ℕ → Edition
-editionWith room = record { points = 0; records = room; reserve = 0 }
+editionWith room = record { number = 0; points = 0; records = room; reserve = 0 }
 
 -- The rows that the point decides: of the edition they ask for the room alone, of the register for its ranges.
 unfoldable pub energyRowsOf : RaisedNotice → ℕ → ℕ → ℕ → Lists → List Row

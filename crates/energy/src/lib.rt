@@ -10,6 +10,7 @@ ghost use Rattle.numbers.specs.InnerEnergies.{energyOf};
 ghost use Rattle.numbers.specs.Answers.{refused};
 ghost use Rattle.daybook.specs.Notices.{least, energyEarly, beyond};
 ghost use Rattle.daybook.specs.Calls.{energyNumbers, energyRefused};
+ghost use Rattle.daybook.specs.Editions.{editions};
 ghost use Rattle.layout.specs.Layout.{pointFrom};
 ghost use Rattle.layout.specs.InnerParts.{roomOf, SoundPart};
 ghost use Rattle.entering.specs.InnerEntering.{raisedNotice, InRange};
@@ -128,7 +129,7 @@ fn enter(p: &mut [i64], x: RaisedNotice, nondaily: u64, daily: u64) -> EnergyAns
 
 // On any table and any numbers.
 pub fn energy(t: &mut [i64], n: EnergyNotice) -> EnergyAnswer
-    ensures { λ r. ⌜ (energyNumbers r ≡ energyCall (now (t .entry)) n .0) × (now (t .exit) ≡ energyCall (now (t .entry)) n .1) × (energyRefused r ≡ refused (energyNumbers r)) ⌝ }
+    ensures { λ r. ⌜ (energyNumbers r ≡ energyCall editions (now (t .entry)) n .0) × (now (t .exit) ≡ energyCall editions (now (t .entry)) n .1) × (energyRefused r ≡ refused (energyNumbers r)) ⌝ }
 {
     let ed = table::edition(t);
     let mirn = n.mirn;

@@ -26,7 +26,7 @@ transferForm Withdraw = shapeOf 2 1 false false
 transferForm Correct = shapeOf 4 17 false false
 
 abbrev pub noticeForm : NoticeWord → Form
-noticeForm Fresh = shapeOf 2 1 false false
+noticeForm Fresh = shapeOf 3 1 false false
 noticeForm Open = shapeOf 7 1 false false
 noticeForm Energy = shapeOf 6 5 false false
 noticeForm Status = shapeOf 3 1 false false

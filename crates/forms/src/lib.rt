@@ -47,7 +47,7 @@ fn notice_form(n: NoticeWord) -> Form
     ensures { λ r. ⌜ Formed r (noticeForm n) ⌝ }
 {
     match n {
-        NoticeWord::Fresh => shape(2, 1, false, false),
+        NoticeWord::Fresh => shape(3, 1, false, false),
         NoticeWord::Open => shape(7, 1, false, false),
         NoticeWord::Energy => shape(6, 5, false, false),
         NoticeWord::Status => shape(3, 1, false, false),

@@ -9,6 +9,7 @@ use lib.IntN.{ℤ}
 use Rattle.numbers.specs.Naturals.{natOf}
 use Rattle.numbers.specs.Search.{maybe}
 use Rattle.daybook.specs.declared.Edition.{Edition}
+use Rattle.daybook.specs.Editions.{Editions}
 use Rattle.daybook.specs.declared.EnergyNotice.{EnergyNotice}
 use Rattle.daybook.specs.Book.{Point, Book}
 use Rattle.daybook.specs.Notices.{least, Numbers, decide, find, withPoint, onPoint, entryOf, energyEarly, energyRowsAt, enter, energy}
@@ -17,7 +18,7 @@ use Rattle.lists.specs.Lists.{Lists, pointOf, bookOf}
 use Rattle.lists.specs.InnerSteps.{findLists}
 use Rattle.lists.specs.InnerWell.{Well, WellFormed}
 use Rattle.lists.proofs.Points.{find-is, find-well}
-use Rattle.layout.specs.Layout.{editionOf, registerOf, tableBook}
+use Rattle.layout.specs.Layout.{BothFit, editionIn, registerOf, tableBook}
 use Rattle.layout.specs.Sound.{sound}
 use Rattle.layout.specs.Calls.{answerAndTable, onEdition}
 use Rattle.layout.proofs.TableSound.{sound-lays}
@@ -33,9 +34,9 @@ abbrev pub stepBy : EnergyNotice → Book → (Point → Numbers × Point) → O
 stepBy n B effect found row =
     decide row 4 B (maybe ([], B) (λ p. (effect p .0, withPoint (natOf (n .mirn)) (effect p .1) B)) found)
 
-module _ (t : List ℤ) (s : sound (editionOf t) t ≡ true) where
+module _ (E : Editions) (fit : BothFit E) (t : List ℤ) (s : sound (editionIn E t) t ≡ true) where
   abbrev ed : Edition
-  ed = editionOf t
+  ed = editionIn E t
 
   abbrev B : Book
   B = tableBook ed t
@@ -46,7 +47,7 @@ module _ (t : List ℤ) (s : sound (editionOf t) t ≡ true) where
   lists-at m p e = go (findLists m (registerOf ed t .points)) refl
     where
       ok : WellFormed ed (registerOf ed t)
-      ok = sound-lays ed (edition-fits t) t s .0
+      ok = sound-lays ed (edition-fits E fit t) t s .0
 
       at : (o : Option Lists) → findLists m (registerOf ed t .points) ≡ o → maybe none (λ q. some (pointOf q)) o ≡ some p
       at o f = sym (ap (maybe none (λ q. some (pointOf q))) f) ∙ sym (find-is m _) ∙ e
@@ -63,25 +64,25 @@ module _ (t : List ℤ) (s : sound (editionOf t) t ≡ true) where
     row = least (energyEarly n ++ maybe ((4, true) ∷ []) (energyRowsAt ed n B) found)
 
     -- by today's rule, and by another
-    pub now-is : energyCall t n ≡ answerAndTable ed t (stepBy n B (enter (entryOf n)) found row)
+    pub now-is : energyCall E t n ≡ answerAndTable ed t (stepBy n B (enter (entryOf n)) found row)
     unfolding noticeCall noted energy onPoint
-    now-is = notice-is t s (energy! n)
+    now-is = notice-is E fit t s (energy! n)
 
-    pub by-is : (rule : Rule) → energyCallBy rule t n ≡ answerAndTable ed t (stepBy n B (enterBy rule (entryOf n)) found row)
+    pub by-is : (rule : Rule) → energyCallBy E rule t n ≡ answerAndTable ed t (stepBy n B (enterBy rule (entryOf n)) found row)
     unfolding energyCallBy energyBy onPoint onEdition
     by-is rule = rw s
 
     -- the table left is sound, and its book is the book after the notice
-    holds : Holds ed (edition-fits t) (answerAndTable ed t (energy ed n B) .1) (energy ed n B .1)
+    holds : Holds ed (edition-fits E fit t) (answerAndTable ed t (energy ed n B) .1) (energy ed n B .1)
     unfolding noted
-    holds = notice-holds ed (edition-fits t) t s (energy! n)
+    holds = notice-holds ed (edition-fits E fit t) t s (energy! n)
 
-    is : energyCall t n ≡ answerAndTable ed t (energy ed n B)
+    is : energyCall E t n ≡ answerAndTable ed t (energy ed n B)
     unfolding noticeCall noted
-    is = notice-is t s (energy! n)
+    is = notice-is E fit t s (energy! n)
 
-    pub left-sound : sound ed (energyCall t n .1) ≡ true
+    pub left-sound : sound ed (energyCall E t n .1) ≡ true
     left-sound = ap (λ (w : Numbers × List ℤ). sound ed (w .1)) is ∙ holds .isSound
 
-    pub left-book : tableBook ed (energyCall t n .1) ≡ energy ed n B .1
+    pub left-book : tableBook ed (energyCall E t n .1) ≡ energy ed n B .1
     left-book = ap (λ (w : Numbers × List ℤ). tableBook ed (w .1)) is ∙ holds .book

@@ -1,4 +1,4 @@
--- The facts of a book's points: a notice leaves them, but for fresh, which has no points, and open, which adds one.
+-- The facts of a book's points: a notice leaves them, but for open, which adds one.
 -- Assumes nothing.
 use mathlib.Core.Path.{_≡_, refl, sym, _∙_, ap, subst}
 use mathlib.Core.Bool.{Bool, true, false, cond}
@@ -13,9 +13,9 @@ use Rattle.daybook.specs.declared.Edition.{Edition}
 use Rattle.daybook.specs.declared.Facts.{Facts}
 use Rattle.daybook.specs.declared.Opening.{Opening}
 use Rattle.daybook.specs.Book.{Entry, Point, Book, withEntries, withOff, withFro, withPending}
-use Rattle.daybook.specs.Notices.{Row, least, Numbers, decide, find, put, withPoint, onPoint, fresh, factsOf, opened, operatorsIn, openingRows, opening, Which, Outcome, registers, lapses, stays, entered, enter, energy, switched, status, request, withdraw}
+use Rattle.daybook.specs.Notices.{Row, least, Numbers, decide, find, put, withPoint, onPoint, factsOf, opened, operatorsIn, openingRows, opening, Which, Outcome, registers, lapses, stays, entered, enter, energy, switched, status, request, withdraw}
 use Rattle.daybook.specs.Corrections.{corrected, correctAt, correct}
-use Rattle.daybook.specs.Calls.{Notice, fresh!, open!, energy!, status!, request!, withdraw!, correct!, noted}
+use Rattle.daybook.specs.Calls.{Notice, open!, energy!, status!, request!, withdraw!, correct!, noted}
 use Rattle.lists.proofs.Rows.{decide-keeps}
 
 abbrev pointFacts : Point → Facts
@@ -54,18 +54,17 @@ entered-facts x w (registers u) p = refl
 entered-facts x w lapses p = refl
 entered-facts x w stays p = refl
 
--- What holds of no facts, and of these with an opening's behind them where no row sends it back, holds after any notice.
-pub facts-after : (P : List Facts → Type 0) (c : Notice) (ed : Edition) (B : Book) → P [] → P (factsIn B)
+-- What holds of the facts, and of these with an opening's behind them where no row sends it back, holds after any notice.
+pub facts-after : (P : List Facts → Type 0) (c : Notice) (ed : Edition) (B : Book) → P (factsIn B)
     → ((n : Opening) → c ≡ open! n
     → least (openingRows ed n (isSome (find (natOf (n .mirn)) (B .points))) (operatorsIn (B .points))) ≡ 0
     → P (factsIn B ++ (factsOf n ∷ [])))
     → P (factsIn (noted c ed B .1))
-unfolding noted fresh opening energy enter status switched withOff request withdraw withPending opened correct correctAt corrected withFro
-facts-after P (fresh! n) ed B empty now more = decide-keeps 0 B _ (λ C. P (factsIn C)) _ now (λ z. empty)
-facts-after P (open! n) ed B empty now more =
+unfolding noted opening energy enter status switched withOff request withdraw withPending opened correct correctAt corrected withFro
+facts-after P (open! n) ed B now more =
     decide-keeps 0 B _ (λ C. P (factsIn C)) _ now (λ z. subst P (sym (map-append pointFacts (B .points) (opened n ∷ []))) (more n refl z))
-facts-after P (energy! n) ed B empty now more = subst P (sym (on-point-facts _ _ _ _ _ (λ p. entered-facts _ _ _ p) B)) now
-facts-after P (status! n) ed B empty now more = subst P (sym (on-point-facts _ _ _ _ _ (λ p. refl) B)) now
-facts-after P (request! n holidays) ed B empty now more = subst P (sym (on-point-facts _ _ _ _ _ (λ p. refl) B)) now
-facts-after P (withdraw! n) ed B empty now more = subst P (sym (on-point-facts _ _ _ _ _ (λ p. refl) B)) now
-facts-after P (correct! n) ed B empty now more = subst P (sym (on-point-facts _ _ _ _ _ (λ p. refl) B)) now
+facts-after P (energy! n) ed B now more = subst P (sym (on-point-facts _ _ _ _ _ (λ p. entered-facts _ _ _ p) B)) now
+facts-after P (status! n) ed B now more = subst P (sym (on-point-facts _ _ _ _ _ (λ p. refl) B)) now
+facts-after P (request! n holidays) ed B now more = subst P (sym (on-point-facts _ _ _ _ _ (λ p. refl) B)) now
+facts-after P (withdraw! n) ed B now more = subst P (sym (on-point-facts _ _ _ _ _ (λ p. refl) B)) now
+facts-after P (correct! n) ed B now more = subst P (sym (on-point-facts _ _ _ _ _ (λ p. refl) B)) now

@@ -16,16 +16,17 @@ use Rattle.numbers.specs.Answers.{refused}
 use Rattle.numbers.proofs.Bools.{neither}
 use Rattle.numbers.proofs.Search.{from-bound}
 use Rattle.daybook.specs.declared.Edition.{Edition}
+use Rattle.daybook.specs.Editions.{Editions}
 use Rattle.daybook.specs.declared.Opening.{Opening}
 use Rattle.daybook.specs.declared.Facts.{Facts}
 use Rattle.daybook.specs.Notices.{Row, Numbers, factsOf}
-use Rattle.daybook.specs.Calls.{Notice, fresh!, open!, energy!, status!, request!, withdraw!, correct! }
+use Rattle.daybook.specs.Calls.{Notice, open!, energy!, status!, request!, withdraw!, correct! }
 use Rattle.lists.specs.Lists.{Lists, Register}
 use Rattle.lists.specs.InnerSteps.{withOffs, withRegs, withPendingLists, findLists, putLists, withLists, onLists, openedLists, openingLists, enteredLists, enterLists, energyLists, statusLists, requestLists, withdrawLists, correctedLists, correctListsAt, correctLists, noticeLists}
 use Rattle.lists.specs.InnerWell.{Points, WellFormed}
 use Rattle.lists.proofs.Rows.{decide-keeps}
 use Rattle.lists.proofs.Notices.{notice-step, notice-keeps, notice-kept}
-use Rattle.layout.specs.Layout.{tableLength, stride, placeOf, editionOf, partOf, headNumbers, pointNumbers, layout, numAt, pointFrom, registerOf, tableBook}
+use Rattle.layout.specs.Layout.{tableLength, stride, placeOf, BothFit, editionIn, partOf, headNumbers, pointNumbers, layout, numAt, pointFrom, registerOf, tableBook}
 use Rattle.layout.specs.InnerWrites.{withPart, appendRegistration, openPoint, appendPoint}
 use Rattle.layout.specs.Sound.{sound}
 use Rattle.layout.specs.Calls.{answerAndTable, onEdition}
@@ -116,21 +117,21 @@ put-few {room} m q q′ (x ∷ xs) f r = go (eqb m (x .facts .mirn)) f r (put-fe
 
 -- ---- a sound table, with the register after the call laid over it
 
-module _ (t : List ℤ) (s : sound (editionOf t) t ≡ true) where
+module _ (E : Editions) (fit : BothFit E) (t : List ℤ) (s : sound (editionIn E t) t ≡ true) where
   abbrev ed : Edition
-  ed = editionOf t
+  ed = editionIn E t
 
   abbrev R : Register
   R = registerOf ed t
 
   ok : WellFormed ed R
-  ok = sound-lays ed (edition-fits t) t s .0
+  ok = sound-lays ed (edition-fits E fit t) t s .0
 
   abbrev laid : Register → List ℤ
   laid R′ = layout ed R′ ++ drop tableLength t
 
   as-found : t ≡ laid R
-  as-found = table-split ed R t (sym (sound-lays ed (edition-fits t) t s .1))
+  as-found = table-split ed R t (sym (sound-lays ed (edition-fits E fit t) t s .1))
 
   -- What is to be shown of the register that a call leaves.
   abbrev Kept : (ℕ → Bool) → Register → Type 0
@@ -140,7 +141,7 @@ module _ (t : List ℤ) (s : sound (editionOf t) t ≡ true) where
   as-is own w = subst (Framed own t) as-found (unchanged own t)
 
   ends : (i : ℕ) → i < ed .points → placeOf ed i + stride ed ≤ length t
-  ends i h = omega (arith, part-ends ed i (edition-fits t) h, sound-long ed t s .0)
+  ends i h = omega (arith, part-ends ed i (edition-fits E fit t) h, sound-long ed t s .0)
 
   -- a call on the point of a MIRN
 
@@ -150,18 +151,18 @@ module _ (t : List ℤ) (s : sound (editionOf t) t ≡ true) where
   operator-cell room q = refl
 
   point-laid : (m : ℤ) (q q′ : Lists) → findLists (natOf m) (R .points) ≡ some q → Few (ed .records) q′
-      → q′ .facts .operator ≡ q .facts .operator → Framed (ofPoint t m) t (laid (withLists (natOf m) q′ R))
+      → q′ .facts .operator ≡ q .facts .operator → Framed (ofPoint E t m) t (laid (withLists (natOf m) q′ R))
   point-laid m q q′ f g same = go (indexOf ed t (natOf m)) refl
     where
       go : (o : Option ℕ) → indexOf ed t (natOf m) ≡ o
           → Framed (λ k. maybe false (λ i. inPart ed i k && not (eqb k (placeOf ed i + 11))) o) t (laid (withLists (natOf m) q′ R))
       go none e =
-          let h : findLists (natOf m) (R .points) ≡ none = missing ed (edition-fits t) t s (natOf m) e in
+          let h : findLists (natOf m) (R .points) ≡ none = missing ed (edition-fits E fit t) t s (natOf m) e in
           let z : _≡_ {A = ℕ} 0 1 = cc in
           absurd (omega arith)
       go (some i) e =
           let low : i < 0 + numAt t 0 = unfold indexOf in from-bound (mirnAt ed t (natOf m)) 0 (numAt t 0) i e .1 in
-          let here : Found ed t (natOf m) i = found ed (edition-fits t) t s (natOf m) i e in
+          let here : Found ed t (natOf m) i = found ed (edition-fits E fit t) t s (natOf m) i e in
           let is : q ≡ pointFrom (partOf ed t i) = Option·some-injective q _ (sym f ∙ here .find) in
           subst (Framed _ t) (here .put q′ g)
           (operator-framed ed t i (pointNumbers (ed .records) q′) (length-point g) (ends i (omega (arith, low, sound-long ed t s .1)))
@@ -170,13 +171,13 @@ module _ (t : List ℤ) (s : sound (editionOf t) t ≡ true) where
 
   on-lists : (k : ℕ) (m : ℤ) (early : List Row) (rows : Lists → List Row) (effect : Lists → Numbers × Lists)
       → ((q : Lists) → effect q .1 .facts .operator ≡ q .facts .operator)
-      → Kept (ofPoint t m) (onLists k m early rows effect R .1)
+      → Kept (ofPoint E t m) (onLists k m early rows effect R .1)
   unfolding onLists withLists
   on-lists k m early rows effect same =
       decide-keeps k R _ (Kept own) _ (as-is own) (λ z. go (findLists (natOf m) (R .points)) refl)
     where
       own : ℕ → Bool
-      own = ofPoint t m
+      own = ofPoint E t m
 
       go : (o : Option Lists) → findLists (natOf m) (R .points) ≡ o
           → Kept own (maybe {B = Numbers × Register} ([], R) (λ q. (effect q .0, withLists (natOf m) (effect q .1) R)) o .1)
@@ -200,30 +201,30 @@ module _ (t : List ℤ) (s : sound (editionOf t) t ≡ true) where
       v = withPart ed t c (openPoint (partOf ed t c) f u)
 
       w : Framed (inPart ed c) t v
-      w = part-framed ed t c _ (simp length-set (part-length ed (edition-fits t) t c h (sound-long ed t s .0))) (ends c h)
+      w = part-framed ed t c _ (simp length-set (part-length ed (edition-fits E fit t) t c h (sound-long ed t s .0))) (ends c h)
 
-  on-opening : (n : Opening) → Kept (ofNewPoint t) (openingLists ed n R .1)
+  on-opening : (n : Opening) → Kept (ofNewPoint E t) (openingLists ed n R .1)
   unfolding openingLists openedLists freshPoint factsOf withPoints
-  on-opening n = decide-keeps 0 R _ (Kept (ofNewPoint t)) _ (as-is (ofNewPoint t)) (λ z. opened)
+  on-opening n = decide-keeps 0 R _ (Kept (ofNewPoint E t)) _ (as-is (ofNewPoint E t)) (λ z. opened)
     where
       u : ℕ
       u = natOf (n .user)
 
-      opened : Kept (ofNewPoint t) (withPoints (R .points ++ (openedLists n ∷ [])) R)
+      opened : Kept (ofNewPoint E t) (withPoints (R .points ++ (openedLists n ∷ [])) R)
       opened w =
           let h : length (R .points) < ed .points = omega (arith, w .pointsFew, snoc-length (R .points) (openedLists n)) in
-          subst (Framed (ofNewPoint t) t)
+          subst (Framed (ofNewPoint E t) t)
           (ap₂ (λ v c. appendPoint ed v c (factsOf n) u) as-found (sym (points-count ed t))
-          ∙ append-point ed R (drop tableLength t) (all-few-of (ok .pointsOk)) (edition-fits t) h (factsOf n) u)
+          ∙ append-point ed R (drop tableLength t) (all-few-of (ok .pointsOk)) (edition-fits E fit t) h (factsOf n) u)
           (new-point (numAt t 0) (omega (arith, h, points-count ed t)) (factsOf n) u)
 
   -- any notice
 
-  notice-framed : (c : Notice) (own : ℕ → Bool) → Kept own (noticeLists c ed R .1) → Framed own t (noticeCall c t .1)
+  notice-framed : (c : Notice) (own : ℕ → Bool) → Kept own (noticeLists c ed R .1) → Framed own t (noticeCall E c t .1)
   unfolding tableBook
   notice-framed c own f =
       subst (λ (w : Numbers × List ℤ). Framed own t (w .1))
-      (sym (notice-is t s c ∙ ap (answerAndTable ed t) (notice-step c ed R ok) ∙ leaves-is ed t (noticeLists c ed R) (notice-keeps c ed ok) (notice-kept c ed R)))
+      (sym (notice-is E fit t s c ∙ ap (answerAndTable ed t) (notice-step c ed R ok) ∙ leaves-is ed t (noticeLists c ed R) (notice-keeps c ed ok) (notice-kept c ed R)))
       (go (refused (noticeLists c ed R .0)))
     where
       go : (b : Bool) → Framed own t (cond b t (laid (noticeLists c ed R .1)))
@@ -232,44 +233,33 @@ module _ (t : List ℤ) (s : sound (editionOf t) t ≡ true) where
 
 -- ---- any table
 
--- fresh alone writes over an unsound one
-abbrev isFresh : Notice → Bool
-isFresh (fresh! n) = true
-isFresh (open! n) = false
-isFresh (energy! n) = false
-isFresh (status! n) = false
-isFresh (request! n holidays) = false
-isFresh (withdraw! n) = false
-isFresh (correct! n) = false
-
-left-alone : (t : List ℤ) → sound (editionOf t) t ≡ false → (c : Notice) → isFresh c ≡ false → noticeCall c t .1 ≡ t
+left-alone : (E : Editions) (t : List ℤ) → sound (editionIn E t) t ≡ false → (c : Notice) → noticeCall E c t .1 ≡ t
 unfolding noticeCall openCall energyCall statusCall requestCall withdrawCall correctCall onEdition
-left-alone t s (fresh! n) e = absurd (false≢true (sym e))
-left-alone t s (open! n) e = rw s refl
-left-alone t s (energy! n) e = rw s refl
-left-alone t s (status! n) e = rw s refl
-left-alone t s (request! n holidays) e = rw s refl
-left-alone t s (withdraw! n) e = rw s refl
-left-alone t s (correct! n) e = rw s refl
+left-alone E t s (open! n) = rw s refl
+left-alone E t s (energy! n) = rw s refl
+left-alone E t s (status! n) = rw s refl
+left-alone E t s (request! n holidays) = rw s refl
+left-alone E t s (withdraw! n) = rw s refl
+left-alone E t s (correct! n) = rw s refl
 
-framed : (c : Notice) → isFresh c ≡ false → (t : List ℤ) (own : ℕ → Bool)
-    → ((s : sound (editionOf t) t ≡ true) → Kept t s own (noticeLists c (editionOf t) (registerOf (editionOf t) t) .1))
-    → Framed own t (noticeCall c t .1)
-framed c e t own f = go (sound (editionOf t) t) refl
+framed : (E : Editions) (fit : BothFit E) (c : Notice) (t : List ℤ) (own : ℕ → Bool)
+    → ((s : sound (editionIn E t) t ≡ true) → Kept E fit t s own (noticeLists c (editionIn E t) (registerOf (editionIn E t) t) .1))
+    → Framed own t (noticeCall E c t .1)
+framed E fit c t own f = go (sound (editionIn E t) t) refl
   where
-    go : (b : Bool) → sound (editionOf t) t ≡ b → Framed own t (noticeCall c t .1)
-    go true s = notice-framed t s c own (f s)
-    go false s = subst (Framed own t) (sym (left-alone t s c e)) (unchanged own t)
+    go : (b : Bool) → sound (editionIn E t) t ≡ b → Framed own t (noticeCall E c t .1)
+    go true s = notice-framed E fit t s c own (f s)
+    go false s = subst (Framed own t) (sym (left-alone E t s c)) (unchanged own t)
 
-pub frames : Frames
+pub frames : (E : Editions) → BothFit E → Frames E
 unfolding noticeCall noticeLists energyLists enterLists enteredLists statusLists withOffs requestLists withdrawLists withPendingLists correctLists correctListsAt correctedLists withRegs
-frames =
+frames E fit =
     record {
-      opening = λ t n. framed (open! n) refl t (ofNewPoint t) (λ s. on-opening t s n);
-      energy = λ t n. framed (energy! n) refl t (ofPoint t (n .mirn)) (λ s. on-lists t s 4 (n .mirn) _ _ _ (λ q. refl));
-      status = λ t n. framed (status! n) refl t (ofPoint t (n .mirn)) (λ s. on-lists t s 0 (n .mirn) _ _ _ (λ q. refl));
+      opening = λ t n. framed E fit (open! n) t (ofNewPoint E t) (λ s. on-opening E fit t s n);
+      energy = λ t n. framed E fit (energy! n) t (ofPoint E t (n .mirn)) (λ s. on-lists E fit t s 4 (n .mirn) _ _ _ (λ q. refl));
+      status = λ t n. framed E fit (status! n) t (ofPoint E t (n .mirn)) (λ s. on-lists E fit t s 0 (n .mirn) _ _ _ (λ q. refl));
       request = λ t n holidays.
-          framed (request! n holidays) refl t (ofPoint t (n .mirn)) (λ s. on-lists t s 2 (n .mirn) _ _ _ (λ q. refl));
-      withdraw = λ t n. framed (withdraw! n) refl t (ofPoint t (n .mirn)) (λ s. on-lists t s 0 (n .mirn) _ _ _ (λ q. refl));
-      correct = λ t n. framed (correct! n) refl t (ofPoint t (n .mirn)) (λ s. on-lists t s 16 (n .mirn) _ _ _ (λ q. refl));
+          framed E fit (request! n holidays) t (ofPoint E t (n .mirn)) (λ s. on-lists E fit t s 2 (n .mirn) _ _ _ (λ q. refl));
+      withdraw = λ t n. framed E fit (withdraw! n) t (ofPoint E t (n .mirn)) (λ s. on-lists E fit t s 0 (n .mirn) _ _ _ (λ q. refl));
+      correct = λ t n. framed E fit (correct! n) t (ofPoint E t (n .mirn)) (λ s. on-lists E fit t s 16 (n .mirn) _ _ _ (λ q. refl));
     }

@@ -13,10 +13,12 @@ use Rattle.numbers.specs.Naturals.{natOf, sameZ}
 use Rattle.numbers.specs.Search.{maybe, isSome}
 use Rattle.numbers.specs.Answers.{refused}
 use Rattle.numbers.proofs.Bools.{both}
+use Rattle.daybook.specs.declared.Edition.{Edition}
 use Rattle.daybook.specs.Book.{Book}
 use Rattle.daybook.specs.Notices.{least, Numbers, decide}
 use Rattle.daybook.specs.States.{isState, imageLength, under}
-use Rattle.daybook.specs.Calls.{save!, restore!, Call, notice!, query!, state!, State, stated, step, run}
+use Rattle.daybook.specs.Editions.{Editions}
+use Rattle.daybook.specs.Calls.{save!, restore!, Call, fresh!, notice!, query!, state!, convert!, State, onWith, renewed, converted, stated, step, run}
 use Rattle.lists.proofs.Rows.{decide-keeps}
 use Rattle.images.proofs.GivesBack.{state-same}
 use Rattle.history.specs.LastSave.{saves, noSave, BackToTheLastSave}
@@ -34,30 +36,30 @@ ranged n lent = isState n && leb imageLength lent
 abbrev savedBy : Bool → ℤ → State → Numbers × State
 savedBy b n S =
     decide (least ((2, not b) ∷ [])) 0 S
-    ([], record { edition = S .edition; book = S .book; saved = under (natOf n) (some (S .book)) (S .saved) })
+    ([], record { edition = S .edition; book = S .book; saved = under (natOf n) (some (S .edition, S .book)) (S .saved) })
 
 -- an accepted one keeps the book under its number
 save-keeps : (S : State) (n : ℤ) (lent : ℕ) → refused (stated (save! n lent) S .0) ≡ false
-    → (isState n ≡ true) × (stated (save! n lent) S .1 .saved (natOf n) ≡ some (S .book))
+    → (isState n ≡ true) × (stated (save! n lent) S .1 .saved (natOf n) ≡ some (S .edition, S .book))
 unfolding stated least decide
 save-keeps S n lent = go (ranged n lent) refl
   where
-    go : (b : Bool) → ranged n lent ≡ b → refused (savedBy b n S .0) ≡ false → (isState n ≡ true) × (savedBy b n S .1 .saved (natOf n) ≡ some (S .book))
-    go true e a = (both (isState n) (leb imageLength lent) e .0, ap (λ x. cond x (some (S .book)) (S .saved (natOf n))) (eq-eqb (natOf n) (natOf n) refl))
+    go : (b : Bool) → ranged n lent ≡ b → refused (savedBy b n S .0) ≡ false → (isState n ≡ true) × (savedBy b n S .1 .saved (natOf n) ≡ some (S .edition, S .book))
+    go true e a = (both (isState n) (leb imageLength lent) e .0, ap (λ x. cond x (some (S .edition, S .book)) (S .saved (natOf n))) (eq-eqb (natOf n) (natOf n) refl))
     go false e a = absurd (false≢true (sym a))
 
 -- ---- calls between
 
-module _ (n : ℤ) (number : isState n ≡ true) (B : Book) where
-  -- Under the number n the book B is saved.
+module _ (E : Editions) (n : ℤ) (number : isState n ≡ true) (w : Edition × Book) where
+  -- Under the number n that book is saved, in that edition.
   abbrev Has : State → Type 0
-  Has S = S .saved (natOf n) ≡ some B
+  Has S = S .saved (natOf n) ≡ some w
 
   other-save : (S : State) (m : ℤ) (lent : ℕ) → (sameZ m n && not (refused (stated (save! m lent) S .0))) ≡ false → Has S → Has (stated (save! m lent) S .1)
   unfolding stated least decide
   other-save S m lent = go (ranged m lent) refl
     where
-      under-other : (x : Bool) → eqb (natOf n) (natOf m) ≡ x → isState m ≡ true → sameZ m n ≡ false → Has S → cond x (some (S .book)) (S .saved (natOf n)) ≡ some B
+      under-other : (x : Bool) → eqb (natOf n) (natOf m) ≡ x → isState m ≡ true → sameZ m n ≡ false → Has S → cond x (some (S .edition, S .book)) (S .saved (natOf n)) ≡ some w
       under-other true e k d h = absurd (false≢true (sym d ∙ ap (λ z. sameZ z n) (sym (state-same n m number k (eqb-true _ _ e))) ∙ same-self n))
       under-other false e k d h = h
 
@@ -69,42 +71,44 @@ module _ (n : ℤ) (number : isState n ≡ true) (B : Book) where
   unfolding stated
   restore-keeps S m lent h = decide-keeps 0 S _ Has _ h (λ z. go (S .saved (natOf m)))
     where
-      go : (o : Option Book) → Has (maybe S (λ C. record { edition = S .edition; book = C; saved = S .saved }) o)
+      go : (o : Option (Edition × Book)) → Has (maybe S (onWith S) o)
       go none = h
-      go (some C) = h
+      go (some v) = h
 
-  call-keeps : (c : Call) (S : State) → not (saves n c S) ≡ true → Has S → Has (step c S .1)
-  unfolding step
+  call-keeps : (c : Call) (S : State) → not (saves n c S) ≡ true → Has S → Has (step E c S .1)
+  unfolding step renewed converted
+  call-keeps (fresh! m) S a h = decide-keeps 0 S _ Has _ h (λ z. h)
   call-keeps (notice! c) S a h = h
   call-keeps (query! q) S a h = h
+  call-keeps (convert! t) S a h = decide-keeps 0 S _ Has _ h (λ z. h)
   call-keeps (state! (save! m lent)) S a h = other-save S m lent (not-true _ a) h
   call-keeps (state! (restore! m lent)) S a h = restore-keeps S m lent h
 
-  run-keeps : (cs : List Call) (S : State) → noSave n cs S ≡ true → Has S → Has (run cs S)
+  run-keeps : (cs : List Call) (S : State) → noSave E n cs S ≡ true → Has S → Has (run E cs S)
   unfolding noSave run
   run-keeps [] S a h = h
   run-keeps (c ∷ cs) S a h =
-      let (one, rest) = both (not (saves n c S)) (noSave n cs (step c S .1)) a in run-keeps cs (step c S .1) rest (call-keeps c S one h)
+      let (one, rest) = both (not (saves n c S)) (noSave E n cs (step E c S .1)) a in run-keeps cs (step E c S .1) rest (call-keeps c S one h)
 
   -- ---- a restore
 
-  restore-back : (S : State) (lent : ℕ) → Has S → stated (restore! n lent) S .0 ≡ pos 0 ∷ [] → stated (restore! n lent) S .1 .book ≡ B
+  restore-back : (S : State) (lent : ℕ) → Has S → stated (restore! n lent) S .0 ≡ pos 0 ∷ []
+      → (stated (restore! n lent) S .1 .edition ≡ w .0) × (stated (restore! n lent) S .1 .book ≡ w .1)
   unfolding stated least decide
   restore-back S lent h = go (ranged n lent) (S .saved (natOf n)) h
     where
-      by : Bool → Option Book → Numbers × State
-      by b o =
-          decide (least ((2, not b) ∷ (17, not (isSome o)) ∷ [])) 0 S
-          ([], maybe S (λ C. record { edition = S .edition; book = C; saved = S .saved }) o)
+      by : Bool → Option (Edition × Book) → Numbers × State
+      by b o = decide (least ((2, not b) ∷ (17, not (isSome o)) ∷ [])) 0 S ([], maybe S (onWith S) o)
 
-      go : (b : Bool) (o : Option Book) → o ≡ some B → by b o .0 ≡ pos 0 ∷ [] → by b o .1 .book ≡ B
-      go true none e a = absurd (Option·none-ne-some B e)
-      go true (some C) e a = Option·some-injective C B e
-      go false none e a = absurd (Option·none-ne-some B e)
-      go false (some C) e a = let z : _≡_ {A = ℕ} 2 0 = ap (λ (l : Numbers). natOf (getD l 0 (pos 0))) a in absurd (omega arith)
+      go : (b : Bool) (o : Option (Edition × Book)) → o ≡ some w → by b o .0 ≡ pos 0 ∷ [] → (by b o .1 .edition ≡ w .0) × (by b o .1 .book ≡ w .1)
+      go true none e a = absurd (Option·none-ne-some w e)
+      go true (some v) e a =
+          let is : v ≡ w = Option·some-injective v w e in (ap (λ (v : Edition × Book). v .0) is, ap (λ (v : Edition × Book). v .1) is)
+      go false none e a = absurd (Option·none-ne-some w e)
+      go false (some v) e a = let z : _≡_ {A = ℕ} 2 0 = ap (λ (l : Numbers). natOf (getD l 0 (pos 0))) a in absurd (omega arith)
 
 pub back-to-the-last-save : BackToTheLastSave
-unfolding step
-back-to-the-last-save S n lent lent′ cs a z r =
+back-to-the-last-save E S n lent lent′ cs a z r =
     let (number, kept) = save-keeps S n lent (not-true _ (both (sameZ n n) _ a .1)) in
-    restore-back n number (S .book) (run cs (stated (save! n lent) S .1)) lent′ (run-keeps n number (S .book) cs (stated (save! n lent) S .1) z kept) r
+    let w : Edition × Book = (S .edition, S .book) in
+    restore-back E n number w (run E cs (stated (save! n lent) S .1)) lent′ (run-keeps E n number w cs (stated (save! n lent) S .1) z kept) r

@@ -1,6 +1,7 @@
--- Registers that were made before points had sections, and before they had operators. Assumes nothing.
+-- Registers that were made before points had sections, before they had operators, and before there were two editions.
+-- Assumes nothing.
 use mathlib.Core.Path.{_≡_, refl, sym, _∙_, ap, ap₂, subst}
-use mathlib.Core.Bool.{Bool, true, false, _&&_, cond, and-true, and-false}
+use mathlib.Core.Bool.{Bool, true, false, _&&_, cond, and-true, and-false, false≢true}
 use mathlib.Core.Option.{Option, none, some, Option·none-ne-some, Option·some-injective}
 use mathlib.Core.List.{List, [], _∷_, _++_, map}
 use Prim.Native.Nat.{ℕ, _+_, _*_, _≤_}
@@ -8,37 +9,41 @@ use native.Mathlib.Omega.{arith}
 use lib.Dec.{leb, eqb}
 use lib.IntN.{ℤ, pos}
 use lib.ListN.{length, getD, drop, length-map}
-use borrow.Author.Tests.{le-leb, eqb-true}
+use borrow.Author.Tests.{le-leb, eqb-true, not-false}
 use Rattle.numbers.specs.Naturals.{natOf}
 use Rattle.numbers.specs.Rows.{all}
 use Rattle.numbers.specs.Answers.{refused}
+use Rattle.numbers.proofs.Naturals.{same-true}
 use Rattle.numbers.proofs.Bools.{both, join, iff}
-use Rattle.numbers.proofs.Rows.{all-at, all-of, all-same}
+use Rattle.numbers.proofs.Rows.{all-none, all-at, all-of, all-same}
 use Rattle.daybook.specs.declared.Edition.{Edition}
+use Rattle.daybook.specs.Editions.{Editions, editionNo}
 use Rattle.daybook.specs.declared.EnergyNotice.{EnergyNotice}
 use Rattle.daybook.specs.declared.Facts.{Facts}
+use Rattle.daybook.specs.declared.NewRegister.{NewRegister}
 use Rattle.daybook.specs.declared.Opening.{Opening}
 use Rattle.daybook.specs.Book.{Entry, Point, Book, latest}
-use Rattle.daybook.specs.Notices.{Numbers, isRange, find, which, entryOf, factsOf, outcomeOf, entered, enter}
-use Rattle.daybook.specs.Calls.{Notice, fresh!, open!, energy!, status!, request!, withdraw!, correct!, save!, restore!, Call, notice!, query!, state!, noted}
+use Rattle.daybook.specs.Notices.{Numbers, isRange, freshBook, find, which, entryOf, factsOf, outcomeOf, entered, enter}
+use Rattle.daybook.specs.Calls.{Notice, open!, energy!, status!, request!, withdraw!, correct!, save!, restore!, Call, fresh!, notice!, query!, state!, convert!, noted}
 use Rattle.lists.specs.Lists.{Lists, Register, operatorOf, pointOf, bookOf, withFacts, unnamedAgain}
 use Rattle.lists.specs.InnerSteps.{noticeLists}
 use Rattle.lists.specs.InnerWell.{WellFormed}
 use Rattle.lists.proofs.Operators.{namedLists}
 use Rattle.lists.proofs.Notices.{notice-step, notice-keeps, notice-kept}
-use Rattle.layout.specs.Layout.{tableLength, placeOf, editionOf, partOf, layout, numAt, pointFrom, pointsFrom, registerOf, tableBook}
+use Rattle.layout.specs.Layout.{tableLength, placeOf, BothFit, editionIn, partOf, layout, numAt, pointFrom, pointsFrom, registerOf, tableBook}
 use Rattle.layout.specs.Sound.{each, factsSound, regsSound, offsSound, recsSound, pendingSound, listsSound, zeros, countsSound, unusedZero, partSound, mirnsDiffer, sound}
 use Rattle.layout.specs.Calls.{answerAndTable}
 use Rattle.layout.proofs.Mirns.{each-point}
 use Rattle.layout.proofs.Editions.{edition-fits}
 use Rattle.layout.proofs.Tables.{register-back}
-use Rattle.layout.proofs.TableSound.{sound-lays}
+use Rattle.layout.proofs.TableSound.{tested, points-count, sound-lays}
 use Rattle.table.proofs.Calls.{leaves-is}
 use Rattle.energy.specs.Energy.{energyCall}
-use Rattle.history.specs.Runs.{Lent, noticeCall, stateCall, lentStep}
+use Rattle.history.specs.Runs.{Lent, noticeCall, stateCall, withTable, lentStep}
+use Rattle.history.specs.Agreement.{TableOf}
 use Rattle.history.specs.OtherRules.{enterBy, energyCallBy, noticeCallBy, lentStepBy}
-use Rattle.history.specs.Older.{unusedZeroBefore, factsSoundBefore, partSoundBefore, soundBefore, beforeG, noSection, inSection0, section0, unnamed, ofOperator1, OlderRegisters}
-use Rattle.history.proofs.Steps.{notice-is, notice-table}
+use Rattle.history.specs.Older.{unusedZeroBefore, factsSoundBefore, partSoundBefore, soundBefore, beforeG, beforeK, noSection, inSection0, section0, unnamed, ofOperator1, makesAnother, OlderRegisters}
+use Rattle.history.proofs.Steps.{notice-is, notice-table, fresh-left, convert-left}
 use Rattle.history.proofs.States.{own-sound}
 use Rattle.history.proofs.EnergyBooks.{stepBy, found, row, now-is, by-is}
 use Rattle.history.proofs.Facts.{factsIn, facts-after}
@@ -153,18 +158,43 @@ module _ (ed : Edition) (t : List ℤ) where
   unfolding pointOf pointFrom
   operators-are = book-each (λ (q : Lists). eqb (operatorOf (q .facts .operator)) 1) _ (λ q. refl)
 
-  sound-g : soundBefore 11 ed t ≡ (sound ed t && unnamed ed t)
-  unfolding soundBefore sound
+  sound-g : soundBefore (partSoundBefore 11) ed t ≡ (soundBefore partSound ed t && unnamed ed t)
+  unfolding soundBefore
   sound-g =
       with-test n (λ i. partSoundBefore 11 (partOf ed t i)) (λ i. partSound (partOf ed t i)) (λ i. eqb (numAt (partOf ed t i) 11) 0)
       (λ i. part-g (partOf ed t i)) header (mirnsDiffer (pointsFrom ed n (drop 8 t))) (zeros t (placeOf ed n) tableLength)
 
-  sound-a : soundBefore 10 ed t ≡ (soundBefore 11 ed t && inSection0 (tableBook ed t))
+  sound-a : soundBefore (partSoundBefore 10) ed t ≡ (soundBefore (partSoundBefore 11) ed t && inSection0 (tableBook ed t))
   unfolding soundBefore
   sound-a =
       rw sections-are
       (with-test n (λ i. partSoundBefore 10 (partOf ed t i)) (λ i. partSoundBefore 11 (partOf ed t i)) (λ i. eqb (numAt (partOf ed t i) 10) 0)
       (λ i. part-a (partOf ed t i)) header (mirnsDiffer (pointsFrom ed n (drop 8 t))) (zeros t (placeOf ed n) tableLength))
+
+  -- place 3 is the first of the five of the header that were unused before k
+  head-k : zeros t 3 8 ≡ (zeros t 4 8 && eqb (numAt t 3) 0)
+  unfolding zeros all
+  head-k = last-five (zero? t 3) (zero? t 7) (zero? t 6) (zero? t 5) (zero? t 4)
+
+  sound-k : ed .number ≡ 0 → soundBefore partSound ed t ≡ sound ed t
+  unfolding soundBefore sound
+  sound-k z = rw head-k (go (eqb (numAt t 3) 0) counted (zeros t 4 8) parts mirns rest) ∙ ap (λ k. counted && eqb (numAt t 3) k && zeros t 4 8 && parts && mirns && rest) (sym z)
+    where
+      counted : Bool
+      counted = leb tableLength (length t) && leb n (ed .points) && isRange (getD t 1 (pos 0)) && isRange (getD t 2 (pos 0))
+
+      parts : Bool
+      parts = all (λ i. partSound (partOf ed t i)) n
+
+      mirns : Bool
+      mirns = mirnsDiffer (pointsFrom ed n (drop 8 t))
+
+      rest : Bool
+      rest = zeros t (placeOf ed n) tableLength
+
+      go : (s x z p m r : Bool) → (x && (z && s) && p && m && r) ≡ (x && s && z && p && m && r)
+      go true x z p m r = rw (and-true z, and-true x)
+      go false x z p m r = rw (and-false z, and-false x)
 
   -- an operator that is not named is 1
   unnamed-1 : unnamed ed t ≡ true → ofOperator1 (tableBook ed t) ≡ true
@@ -190,22 +220,21 @@ step-same n B (some p) row h =
     let x : Entry = entryOf n in
     ap (λ c. stepBy n B (λ p. entered x (which p x) (outcomeOf (which p x) c x (latest p .0) (p .pending)) p) (some p) row) (h p refl)
 
-module _ (t : List ℤ) (old : section0 t ≡ true) where
+module _ (E : Editions) (fit : BothFit E) (t : List ℤ) (old : section0 E t ≡ true) where
   abbrev ed : Edition
-  ed = editionOf t
+  ed = editionIn E t
 
   now : (sound ed t ≡ true) × (inSection0 (tableBook ed t) ≡ true)
   now = both (sound ed t) (inSection0 (tableBook ed t)) old
 
-  energy-same : (n : EnergyNotice) → energyCall t n ≡ energyCallBy noSection t n
+  energy-same : (n : EnergyNotice) → energyCall E t n ≡ energyCallBy E noSection t n
   energy-same n =
-      now-is t (now .0) n
-      ∙ ap (answerAndTable ed t) (step-same n (tableBook ed t) (found t (now .0) n) (row t (now .0) n) (λ p e. eqb-true _ 0 (find-each _ (natOf (n .mirn)) p _ e (now .1))))
-      ∙ sym (by-is t (now .0) n noSection)
+      now-is E fit t (now .0) n
+      ∙ ap (answerAndTable ed t) (step-same n (tableBook ed t) (found E fit t (now .0) n) (row E fit t (now .0) n) (λ p e. eqb-true _ 0 (find-each _ (natOf (n .mirn)) p _ e (now .1))))
+      ∙ sym (by-is E fit t (now .0) n noSection)
 
-  notice-same : (c : Notice) → noticeCall c t ≡ noticeCallBy noSection c t
+  notice-same : (c : Notice) → noticeCall E c t ≡ noticeCallBy E noSection c t
   unfolding noticeCall noticeCallBy
-  notice-same (fresh! n) = refl
   notice-same (open! n) = refl
   notice-same (energy! n) = energy-same n
   notice-same (status! n) = refl
@@ -213,11 +242,13 @@ module _ (t : List ℤ) (old : section0 t ≡ true) where
   notice-same (withdraw! n) = refl
   notice-same (correct! n) = refl
 
-call-same : (L : Lent) (c : Call) → section0 (L .table) ≡ true → lentStep c L ≡ lentStepBy noSection c L
+call-same : (E : Editions) → BothFit E → (L : Lent) (c : Call) → section0 E (L .table) ≡ true → lentStep E c L ≡ lentStepBy E noSection c L
 unfolding lentStep lentStepBy
-call-same L (notice! c) old = ap (λ (w : Numbers × List ℤ). ((w .0, []), record { table = w .1; images = L .images })) (notice-same (L .table) old c)
-call-same L (query! q) old = refl
-call-same L (state! c) old = refl
+call-same E fit L (fresh! n) old = refl
+call-same E fit L (notice! c) old = ap (λ (w : Numbers × List ℤ). ((w .0, []), withTable L (w .1))) (notice-same E fit (L .table) old c)
+call-same E fit L (query! q) old = refl
+call-same E fit L (state! c) old = refl
+call-same E fit L (convert! second) old = refl
 
 -- ---- points stay in section 0
 
@@ -229,21 +260,29 @@ stays-in-0 : (c : Notice) (ed : Edition) (B : Book) → ((n : Opening) → c ≡
 unfolding factsOf each
 stays-in-0 c ed B h s =
     sym (each-map (λ (p : Point). p .facts) in0 (noted c ed B .1 .points))
-    ∙ facts-after (λ fs. each in0 fs ≡ true) c ed B refl (each-map (λ (p : Point). p .facts) in0 (B .points) ∙ s) (λ n e z.
+    ∙ facts-after (λ fs. each in0 fs ≡ true) c ed B (each-map (λ (p : Point). p .facts) in0 (B .points) ∙ s) (λ n e z.
     each-append in0 (factsIn B) (factsOf n ∷ []) (each-map (λ (p : Point). p .facts) in0 (B .points) ∙ s) (ap (λ z. eqb (natOf z) 0 && true) (h n e)))
 
-runs-on-a : (L : Lent) (c : Call) → section0 (L .table) ≡ true → ((n : Opening) → c ≡ notice! (open! n) → n .section ≡ pos 0)
+-- a table that stands for a book with all points in section 0
+of-section0 : {E : Editions} {ed : Edition} {B : Book} {t : List ℤ} → TableOf E ed B t → inSection0 B ≡ true → section0 E t ≡ true
+of-section0 {E = E} {t = t} f e = join (own-sound f) (ap (λ ed. inSection0 (tableBook ed t)) (f .edition) ∙ ap inSection0 (f .book) ∙ e)
+
+runs-on-a : (E : Editions) → BothFit E → (L : Lent) (c : Call) → section0 E (L .table) ≡ true → ((n : Opening) → c ≡ notice! (open! n) → n .section ≡ pos 0)
     → ((n : ℤ) (lent : ℕ) → ¬ (c ≡ state! (restore! n lent)))
-    → section0 (lentStep c L .1 .table) ≡ true
-unfolding lentStep stateCall
-runs-on-a L (query! q) old h r = old
-runs-on-a L (state! (save! n lent)) old h r = old
-runs-on-a L (state! (restore! n lent)) old h r = absurd (r n lent refl)
-runs-on-a L (notice! c) old h r =
+    → section0 E (lentStep E c L .1 .table) ≡ true
+unfolding lentStep stateCall each
+runs-on-a E fit L (fresh! n) old h r = fresh-left E fit (L .table) n (λ u. section0 E u ≡ true) old (λ u f. of-section0 f refl)
+runs-on-a E fit L (query! q) old h r = old
+runs-on-a E fit L (state! (save! n lent)) old h r = old
+runs-on-a E fit L (state! (restore! n lent)) old h r = absurd (r n lent refl)
+runs-on-a E fit L (notice! c) old h r =
     let t : List ℤ = L .table in
-    let f = notice-table t (now t old .0) c in
-    join (own-sound f) (ap (λ ed. inSection0 (tableBook ed (noticeCall c t .1))) (f .edition) ∙ ap inSection0 (f .book)
-    ∙ stays-in-0 c (editionOf t) (tableBook (editionOf t) t) (λ n e. h n (ap notice! e)) (now t old .1))
+    let (s, all0) = now E fit t old in
+    of-section0 (notice-table E fit t s c) (stays-in-0 c (editionIn E t) (tableBook (editionIn E t) t) (λ n e. h n (ap notice! e)) all0)
+runs-on-a E fit L (convert! second) old h r =
+    let t : List ℤ = L .table in
+    let (s, all0) = now E fit t old in
+    convert-left E fit t s second (λ u. section0 E u ≡ true) old (λ u f. of-section0 f all0)
 
 -- ---- operators stay unnamed
 
@@ -259,9 +298,9 @@ unnamed-again (old ∷ before) [] e h = refl
 unnamed-again (old ∷ before) (q ∷ qs) e h =
     let b = both (none0 old) (each none0 before) e in rw (b .0) (unnamed-again before qs (b .1) (omega arith))
 
-module _ (t : List ℤ) (s : sound (editionOf t) t ≡ true) (all0 : unnamed (editionOf t) t ≡ true) (c : Notice) (other : (n : Opening) → ¬ (c ≡ open! n)) where
+module _ (E : Editions) (fit : BothFit E) (t : List ℤ) (s : sound (editionIn E t) t ≡ true) (all0 : unnamed (editionIn E t) t ≡ true) (c : Notice) (other : (n : Opening) → ¬ (c ≡ open! n)) where
   abbrev ed′ : Edition
-  ed′ = editionOf t
+  ed′ = editionIn E t
 
   abbrev R : Register
   R = registerOf ed′ t
@@ -270,7 +309,7 @@ module _ (t : List ℤ) (s : sound (editionOf t) t ≡ true) (all0 : unnamed (ed
   R′ = noticeLists c ed′ R .1
 
   ok : WellFormed ed′ R
-  ok = sound-lays ed′ (edition-fits t) t s .0
+  ok = sound-lays ed′ (edition-fits E fit t) t s .0
 
   unnamed-is : (u : List ℤ) → each none0 (registerOf ed′ u .points) ≡ unnamed ed′ u
   unfolding pointFrom
@@ -288,14 +327,14 @@ module _ (t : List ℤ) (s : sound (editionOf t) t ≡ true) (all0 : unnamed (ed
 
       few-facts : length (factsIn (noted c ed′ (bookOf R) .1)) ≤ length (R .points)
       few-facts =
-          facts-after (λ fs. length fs ≤ length (R .points)) c ed′ (bookOf R) (omega arith)
+          facts-after (λ fs. length fs ≤ length (R .points)) c ed′ (bookOf R)
           (omega (arith, length-map (map pointOf (R .points)) facts, length-map (R .points) pointOf)) (λ n e z. absurd (other n e))
 
-  left-unnamed : unnamed ed′ (noticeCall c t .1) ≡ true
+  left-unnamed : unnamed ed′ (noticeCall E c t .1) ≡ true
   unfolding tableBook
   left-unnamed =
       ap (λ (w : Numbers × List ℤ). unnamed ed′ (w .1))
-      (notice-is t s c ∙ ap (answerAndTable ed′ t) (notice-step c ed′ R ok) ∙ leaves-is ed′ t (noticeLists c ed′ R) (notice-keeps c ed′ ok) (notice-kept c ed′ R))
+      (notice-is E fit t s c ∙ ap (answerAndTable ed′ t) (notice-step c ed′ R ok) ∙ leaves-is ed′ t (noticeLists c ed′ R) (notice-keeps c ed′ ok) (notice-kept c ed′ R))
       ∙ go (refused (noticeLists c ed′ R .0))
     where
       go : (b : Bool) → unnamed ed′ (cond b t (layout ed′ R′ ++ drop tableLength t)) ≡ true
@@ -306,26 +345,79 @@ module _ (t : List ℤ) (s : sound (editionOf t) t ≡ true) (all0 : unnamed (ed
           ∙ ap (each none0) (sym (notice-kept c ed′ R))
           ∙ unnamed-again (R .points) (map namedLists (R′ .points)) (unnamed-is t ∙ all0) (omega (arith, no-more, length-map (R′ .points) namedLists))
 
-runs-on-g : (L : Lent) (c : Call) → beforeG (L .table) ≡ true → ((n : Opening) → ¬ (c ≡ notice! (open! n)))
-    → ((n : ℤ) (lent : ℕ) → ¬ (c ≡ state! (restore! n lent)))
-    → beforeG (lentStep c L .1 .table) ≡ true
-unfolding lentStep stateCall
-runs-on-g L (query! q) old h r = old
-runs-on-g L (state! (save! n lent)) old h r = old
-runs-on-g L (state! (restore! n lent)) old h r = absurd (r n lent refl)
-runs-on-g L (notice! c) old h r =
-    let t : List ℤ = L .table in
-    let (s, all0) = both (sound (editionOf t) t) (unnamed (editionOf t) t) (sym (sound-g (editionOf t) t) ∙ old) in
-    let f = notice-table t s c in
-    sound-g _ _ ∙ join (own-sound f) (rw (f .edition) (left-unnamed t s all0 c (λ n e. h n (ap notice! e))))
+-- with no points none is named
+fresh-unnamed : {E : Editions} {to : Edition} (n : NewRegister) {u : List ℤ} → TableOf E to (freshBook n) u → (ed : Edition) → unnamed ed u ≡ true
+unfolding tableBook bookOf
+fresh-unnamed {to = to} n {u = u} f ed =
+    let few : numAt u 0 ≡ 0 =
+    sym (points-count to u) ∙ sym (length-map (registerOf to u .points) pointOf) ∙ ap (λ (B : Book). length (B .points)) (f .book) in
+    ap (all (λ i. eqb (numAt (partOf ed u i) 11) 0)) few ∙ all-none _
 
-pub older-registers : OlderRegisters
-older-registers =
-    record {
-      soundG = λ t. sound-g (editionOf t) t;
-      operator1 = λ t e. unnamed-1 (editionOf t) t (both (sound (editionOf t) t) _ (sym (sound-g (editionOf t) t) ∙ e) .1);
-      runsOnG = runs-on-g;
-      soundA = λ t. sound-a (editionOf t) t;
-      asBeforeA = call-same;
-      runsOnA = runs-on-a;
-    }
+-- ---- older registers run on
+
+module _ (E : Editions) (fit : BothFit E) where
+  k-sound : (t : List ℤ) → beforeK E t ≡ sound (E .standard) t
+  k-sound t = sound-k (E .standard) t (fit .number0)
+
+  k-standard : (t : List ℤ) → beforeK E t ≡ true → editionIn E t ≡ E .standard
+  unfolding editionIn editionNo
+  k-standard t e = ap (editionNo E) (tested (E .standard) t (sym (k-sound t) ∙ e) .ownNumber ∙ fit .number0)
+
+  k-own : (t : List ℤ) → beforeK E t ≡ true → sound (editionIn E t) t ≡ true
+  k-own t e = ap (λ ed. sound ed t) (k-standard t e) ∙ sym (k-sound t) ∙ e
+
+  -- a table that stands for a book in the standard edition
+  of-standard : {B : Book} {t : List ℤ} → TableOf E (E .standard) B t → beforeK E t ≡ true
+  of-standard {t = t} f = k-sound t ∙ f .isSound
+
+  runs-on-k : (L : Lent) (c : Call) → beforeK E (L .table) ≡ true → makesAnother c ≡ false → beforeK E (lentStep E c L .1 .table) ≡ true
+  unfolding lentStep stateCall editionNo
+  runs-on-k L (fresh! n) old r =
+      let zero-edition : n .edition ≡ pos 0 = same-true (n .edition) (pos 0) (not-false _ r) in
+      fresh-left E fit (L .table) n (λ u. beforeK E u ≡ true) old
+      (λ u f. of-standard (subst (λ z. TableOf E (editionNo E (natOf z)) (freshBook n) u) zero-edition f))
+  runs-on-k L (query! q) old r = old
+  runs-on-k L (state! (save! n lent)) old r = old
+  runs-on-k L (state! (restore! n lent)) old r = absurd (false≢true (sym r))
+  runs-on-k L (notice! c) old r =
+      let t : List ℤ = L .table in
+      let left : List ℤ = noticeCall E c t .1 in
+      k-sound left ∙ ap (λ ed. sound ed left) (sym (k-standard t old)) ∙ notice-table E fit t (k-own t old) c .isSound
+  runs-on-k L (convert! second) old r = absurd (false≢true (sym r))
+
+  of-g : (t : List ℤ) → beforeK E t ≡ true → unnamed (E .standard) t ≡ true → beforeG E t ≡ true
+  of-g t k u = sound-g (E .standard) t ∙ join k u
+
+  g-both : (t : List ℤ) → beforeG E t ≡ true → (beforeK E t ≡ true) × (unnamed (E .standard) t ≡ true)
+  g-both t e = both (beforeK E t) (unnamed (E .standard) t) (sym (sound-g (E .standard) t) ∙ e)
+
+  runs-on-g : (L : Lent) (c : Call) → beforeG E (L .table) ≡ true → ((n : Opening) → ¬ (c ≡ notice! (open! n)))
+      → makesAnother c ≡ false → beforeG E (lentStep E c L .1 .table) ≡ true
+  unfolding lentStep stateCall
+  runs-on-g L (fresh! n) old h r =
+      of-g _ (runs-on-k L (fresh! n) (g-both (L .table) old .0) r)
+      (fresh-left E fit (L .table) n (λ u. unnamed (E .standard) u ≡ true) (g-both (L .table) old .1) (λ u f. fresh-unnamed n f (E .standard)))
+  runs-on-g L (query! q) old h r = old
+  runs-on-g L (state! (save! n lent)) old h r = old
+  runs-on-g L (state! (restore! n lent)) old h r = absurd (false≢true (sym r))
+  runs-on-g L (notice! c) old h r =
+      let t : List ℤ = L .table in
+      let (k, all0) = g-both t old in
+      of-g _ (runs-on-k L (notice! c) k r)
+      (ap (λ ed. unnamed ed (noticeCall E c t .1)) (sym (k-standard t k))
+      ∙ left-unnamed E fit t (k-own t k) (ap (λ ed. unnamed ed t) (k-standard t k) ∙ all0) c (λ n e. h n (ap notice! e)))
+  runs-on-g L (convert! second) old h r = absurd (false≢true (sym r))
+
+  pub older-registers : OlderRegisters E
+  older-registers =
+      record {
+        soundK = k-sound;
+        standardK = k-standard;
+        runsOnK = runs-on-k;
+        soundG = sound-g (E .standard);
+        operator1 = λ t e. unnamed-1 (E .standard) t (g-both t e .1);
+        runsOnG = runs-on-g;
+        soundA = sound-a (E .standard);
+        asBeforeA = call-same E fit;
+        runsOnA = runs-on-a E fit;
+      }

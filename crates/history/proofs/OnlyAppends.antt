@@ -12,18 +12,19 @@ use borrow.Author.Tests.{ne-eqb}
 use Rattle.numbers.specs.Naturals.{natOf}
 use Rattle.numbers.specs.Search.{maybe}
 use Rattle.daybook.specs.declared.Edition.{Edition}
+use Rattle.daybook.specs.Editions.{Editions}
 use Rattle.daybook.specs.declared.EnergyNotice.{EnergyNotice}
 use Rattle.daybook.specs.Book.{Entry, Pending, Point, Book, withEntries, records, latest}
 use Rattle.daybook.specs.Notices.{Numbers, decide, find, withPoint, onPoint, Which, append, replacement, recut, whichNumber, which, entryOf, removed, Outcome, registers, lapses, stays, appendRegisters, outcomeOf, outcomeNumbers, entered, enter, energy}
-use Rattle.daybook.specs.Calls.{Notice, fresh!, open!, energy!, status!, request!, withdraw!, correct!, Call, notice!, query!, state! }
+use Rattle.daybook.specs.Calls.{Notice, open!, energy!, status!, request!, withdraw!, correct!, Call, fresh!, notice!, query!, state!, convert! }
 use Rattle.lists.specs.Lists.{pointOf}
 use Rattle.lists.specs.InnerWell.{PendingOk, nopending, pending}
 use Rattle.lists.proofs.Points.{find-put}
-use Rattle.layout.specs.Layout.{editionOf, tableBook}
+use Rattle.layout.specs.Layout.{BothFit, editionIn, tableBook}
 use Rattle.layout.specs.Sound.{sound}
 use Rattle.layout.specs.Calls.{answerAndTable, onEdition}
 use Rattle.energy.specs.Energy.{energyCall}
-use Rattle.history.specs.Runs.{Lent, noticeCall, lentStep}
+use Rattle.history.specs.Runs.{Lent, noticeCall, withTable, lentStep}
 use Rattle.history.specs.OtherRules.{enterBy, energyCallBy, noticeCallBy, lentStepBy}
 use Rattle.history.specs.OnlyAppends.{anySettles, energyCallBefore, lentStepBefore, named, correctedPoint, CorrectsAlone, OnlyAppendsSettle}
 use Rattle.history.proofs.EnergyBooks.{stepBy, lists-at, found, row, now-is, by-is, left-sound, left-book}
@@ -125,9 +126,9 @@ module _ (n : EnergyNotice) (B : Book) where
 
 -- ---- on the table
 
-module _ (t : List ℤ) (s : sound (editionOf t) t ≡ true) where
+module _ (E : Editions) (fit : BothFit E) (t : List ℤ) (s : sound (editionIn E t) t ≡ true) where
   abbrev ed : Edition
-  ed = editionOf t
+  ed = editionIn E t
 
   abbrev B : Book
   B = tableBook ed t
@@ -136,77 +137,78 @@ module _ (t : List ℤ) (s : sound (editionOf t) t ≡ true) where
   pending-ok : (m : ℕ) (p : Point) → find m (B .points) ≡ some p → (regs : List (ℕ × ℕ)) × PendingOk regs (p .pending)
   unfolding pointOf
   pending-ok m p e =
-      let (q, w, is) = lists-at t s m p e in (q .regs, subst (λ p. PendingOk (q .regs) (p .pending)) is (w .pendingOk))
+      let (q, w, is) = lists-at E fit t s m p e in (q .regs, subst (λ p. PendingOk (q .regs) (p .pending)) is (w .pendingOk))
 
   module _ (n : EnergyNotice) where
-    before-is : energyCallBefore t n ≡ answerAndTable ed t (earlier n B (found t s n) (row t s n))
-    before-is = by-is t s n anySettles
+    before-is : energyCallBefore E t n ≡ answerAndTable ed t (earlier n B (found E fit t s n) (row E fit t s n))
+    before-is = by-is E fit t s n anySettles
 
-    sound-same : named (energyCallBefore t n .0) ≡ false → energyCall t n ≡ energyCallBefore t n
+    sound-same : named (energyCallBefore E t n .0) ≡ false → energyCall E t n ≡ energyCallBefore E t n
     sound-same e =
-        now-is t s n
-        ∙ ap (answerAndTable ed t) (book-same n B (found t s n) (row t s n) (pending-ok (natOf (n .mirn))) (sym (ap (λ v. named (v .0)) before-is) ∙ e))
+        now-is E fit t s n
+        ∙ ap (answerAndTable ed t) (book-same n B (found E fit t s n) (row E fit t s n) (pending-ok (natOf (n .mirn))) (sym (ap (λ v. named (v .0)) before-is) ∙ e))
         ∙ sym before-is
 
-    sound-alone : named (energyCallBefore t n .0) ≡ true → CorrectsAlone ed t n
+    sound-alone : named (energyCallBefore E t n .0) ≡ true → CorrectsAlone E ed t n
     unfolding energy onPoint withPoint withEntries
     sound-alone e =
         record {
-          answer = ap (λ v. v .0) (now-is t s n) ∙ a .numbers ∙ sym (ap (λ v. take 3 (v .0) ++ (pos 0 ∷ pos 0 ∷ [])) before-is);
+          answer = ap (λ v. v .0) (now-is E fit t s n) ∙ a .numbers ∙ sym (ap (λ v. take 3 (v .0) ++ (pos 0 ∷ pos 0 ∷ [])) before-is);
           request = a .request;
           pending = ap (maybe none (λ p. p .pending)) (a .found) ∙ a .is;
           stillPending =
-              ap (λ B. maybe none (λ p. p .pending) (find (natOf (n .mirn)) (B .points))) (left-book t s n ∙ a .book)
+              ap (λ B. maybe none (λ p. p .pending) (find (natOf (n .mirn)) (B .points))) (left-book E fit t s n ∙ a .book)
               ∙ ap (maybe none (λ p. p .pending)) (find-put (natOf (n .mirn)) (a .point) (correctedPoint (entryOf n) (a .point)) (B .points) refl (a .found))
               ∙ a .is;
           point = a .point;
           found = a .found;
           dayBook = a .book;
-          isSound = left-sound t s n;
-          follows = left-book t s n;
+          isSound = left-sound E fit t s n;
+          follows = left-book E fit t s n;
         }
       where
-        a : OnBook n B (found t s n) (row t s n)
-        a = book-alone n B (found t s n) (row t s n) (sym (ap (λ v. named (v .0)) before-is) ∙ e)
+        a : OnBook n B (found E fit t s n) (row E fit t s n)
+        a = book-alone n B (found E fit t s n) (row E fit t s n) (sym (ap (λ v. named (v .0)) before-is) ∙ e)
 
 -- an unsound table gets 1, as it did
-unsound : (t : List ℤ) (n : EnergyNotice) → sound (editionOf t) t ≡ false → (energyCall t n ≡ energyCallBefore t n) × (named (energyCallBefore t n .0) ≡ false)
+unsound : (E : Editions) (t : List ℤ) (n : EnergyNotice) → sound (editionIn E t) t ≡ false → (energyCall E t n ≡ energyCallBefore E t n) × (named (energyCallBefore E t n .0) ≡ false)
 unfolding energyCall energyCallBy onEdition
-unsound t n s = rw s (refl, refl)
+unsound E t n s = rw s (refl, refl)
 
-energy-same : (t : List ℤ) (n : EnergyNotice) → named (energyCallBefore t n .0) ≡ false → energyCall t n ≡ energyCallBefore t n
-energy-same t n e = go (sound (editionOf t) t) refl
+energy-same : (E : Editions) → BothFit E → (t : List ℤ) (n : EnergyNotice) → named (energyCallBefore E t n .0) ≡ false → energyCall E t n ≡ energyCallBefore E t n
+energy-same E fit t n e = go (sound (editionIn E t) t) refl
   where
-    go : (b : Bool) → sound (editionOf t) t ≡ b → energyCall t n ≡ energyCallBefore t n
-    go true s = sound-same t s n e
-    go false s = unsound t n s .0
+    go : (b : Bool) → sound (editionIn E t) t ≡ b → energyCall E t n ≡ energyCallBefore E t n
+    go true s = sound-same E fit t s n e
+    go false s = unsound E t n s .0
 
-energy-alone : (t : List ℤ) (n : EnergyNotice) → named (energyCallBefore t n .0) ≡ true → CorrectsAlone (editionOf t) t n
-energy-alone t n e = go (sound (editionOf t) t) refl
+energy-alone : (E : Editions) → BothFit E → (t : List ℤ) (n : EnergyNotice) → named (energyCallBefore E t n .0) ≡ true → CorrectsAlone E (editionIn E t) t n
+energy-alone E fit t n e = go (sound (editionIn E t) t) refl
   where
-    go : (b : Bool) → sound (editionOf t) t ≡ b → CorrectsAlone (editionOf t) t n
-    go true s = sound-alone t s n e
-    go false s = absurd (false≢true (sym (unsound t n s .1) ∙ e))
+    go : (b : Bool) → sound (editionIn E t) t ≡ b → CorrectsAlone E (editionIn E t) t n
+    go true s = sound-alone E fit t s n e
+    go false s = absurd (false≢true (sym (unsound E t n s .1) ∙ e))
 
-notice-same : (t : List ℤ) (c : Notice) → ((n : EnergyNotice) → c ≡ energy! n → named (energyCallBefore t n .0) ≡ false)
-    → noticeCall c t ≡ noticeCallBy anySettles c t
+notice-same : (E : Editions) → BothFit E → (t : List ℤ) (c : Notice) → ((n : EnergyNotice) → c ≡ energy! n → named (energyCallBefore E t n .0) ≡ false)
+    → noticeCall E c t ≡ noticeCallBy E anySettles c t
 unfolding noticeCall noticeCallBy
-notice-same t (fresh! n) h = refl
-notice-same t (open! n) h = refl
-notice-same t (energy! n) h = energy-same t n (h n refl)
-notice-same t (status! n) h = refl
-notice-same t (request! n holidays) h = refl
-notice-same t (withdraw! n) h = refl
-notice-same t (correct! n) h = refl
+notice-same E fit t (open! n) h = refl
+notice-same E fit t (energy! n) h = energy-same E fit t n (h n refl)
+notice-same E fit t (status! n) h = refl
+notice-same E fit t (request! n holidays) h = refl
+notice-same E fit t (withdraw! n) h = refl
+notice-same E fit t (correct! n) h = refl
 
-call-same : (L : Lent) (c : Call)
-    → ((n : EnergyNotice) → c ≡ notice! (energy! n) → named (energyCallBefore (L .table) n .0) ≡ false)
-    → lentStep c L ≡ lentStepBefore c L
+call-same : (E : Editions) → BothFit E → (L : Lent) (c : Call)
+    → ((n : EnergyNotice) → c ≡ notice! (energy! n) → named (energyCallBefore E (L .table) n .0) ≡ false)
+    → lentStep E c L ≡ lentStepBefore E c L
 unfolding lentStep lentStepBy
-call-same L (notice! c) h =
-    ap (λ (w : Numbers × List ℤ). ((w .0, []), record { table = w .1; images = L .images })) (notice-same (L .table) c (λ n e. h n (ap notice! e)))
-call-same L (query! q) h = refl
-call-same L (state! c) h = refl
+call-same E fit L (fresh! n) h = refl
+call-same E fit L (notice! c) h =
+    ap (λ (w : Numbers × List ℤ). ((w .0, []), withTable L (w .1))) (notice-same E fit (L .table) c (λ n e. h n (ap notice! e)))
+call-same E fit L (query! q) h = refl
+call-same E fit L (state! c) h = refl
+call-same E fit L (convert! second) h = refl
 
-pub only-appends : OnlyAppendsSettle
-only-appends = record { asBefore = call-same; alone = energy-alone }
+pub only-appends : (E : Editions) → BothFit E → OnlyAppendsSettle E
+only-appends E fit = record { asBefore = call-same E fit; alone = energy-alone E fit }

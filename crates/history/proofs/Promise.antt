@@ -3,11 +3,11 @@ use mathlib.Core.Path.{_≡_, refl, sym, _∙_, ap, ap₂, subst}
 use mathlib.Core.Bool.{Bool, true, false, not, cond, and-false}
 use mathlib.Core.Option.{Option, none, some, Option·some-injective, Option·none-ne-some}
 use mathlib.Core.List.{List, [], _∷_, _++_, map, map-map, map-append}
-use Prim.Native.Nat.{ℕ, zero, suc, _+_, _-_, _*_, _≤_, _<_}
+use Prim.Native.Nat.{ℕ, zero, suc, _+_, _-_, _≤_, _<_}
 use native.Mathlib.Omega.{arith}
 use lib.Dec.{eqb}
 use lib.IntN.{ℤ, pos}
-use lib.ListN.{length, length-append}
+use lib.ListN.{length, length-map, length-append}
 use borrow.Author.Tests.{lt-leb, le-ltb, eq-eqb, ne-eqb, eqb-false}
 use Rattle.numbers.specs.Naturals.{natOf}
 use Rattle.numbers.specs.Search.{maybe, isSome}
@@ -15,19 +15,22 @@ use Rattle.calendar.specs.Calendar.{within}
 use Rattle.daybook.specs.declared.Edition.{Edition}
 use Rattle.daybook.specs.declared.Facts.{Facts}
 use Rattle.daybook.specs.declared.Opening.{Opening}
-use Rattle.daybook.specs.declared.Ranges.{Ranges}
+use Rattle.daybook.specs.declared.NewRegister.{NewRegister}
 use Rattle.daybook.specs.Book.{Point, Book}
 use Rattle.daybook.specs.Notices.{least, decide, find, factsOf, operatorsIn, held, unfilled, overFour, othersUnfilled, openingRows, opening}
-use Rattle.daybook.specs.Calls.{Notice, open!, save!, restore!, Call, notice!, query!, state!, Answer, noted, State, stated, step, run}
-use Rattle.lists.proofs.Rows.{above, least-first, decide-keeps}
+use Rattle.daybook.specs.Editions.{Editions, editionNo, noRoom, convertRows}
+use Rattle.daybook.specs.Calls.{Notice, open!, save!, restore!, Call, fresh!, notice!, query!, state!, convert!, Answer, noted, State, onWith, renewed, converted, stated, step, run}
+use Rattle.lists.proofs.Rows.{above, least-first, least-none, decide-keeps}
 use Rattle.lists.proofs.Operators.{held-append}
 use Rattle.lists.proofs.Bounds.{within-bounds}
 use Rattle.lists.proofs.OpenStep.{OpenClear, open-clear}
+use Rattle.lists.proofs.OtherRoom.{HasRoom, has-room}
+use Rattle.layout.specs.Layout.{BothFit}
 use Rattle.opening.specs.Opening.{openCall}
 use Rattle.opening.proofs.OpenCall.{ranged}
 use Rattle.history.specs.Runs.{noticeCall, Lent, lentStep, freshState}
 use Rattle.history.specs.Agreement.{StandsFor}
-use Rattle.history.specs.Promise.{BelowReserve, refusalIn, Reserved, InEveryEdition}
+use Rattle.history.specs.Promise.{BelowReserve, refusalIn, Reserved, ReservesFit, InEveryEdition}
 use Rattle.history.proofs.Steps.{call-agrees}
 use Rattle.history.proofs.Facts.{factsIn, facts-after}
 
@@ -92,10 +95,6 @@ module _ (ed : Edition) (l : List ℕ) (o : ℕ) where
 
 -- ---- after every list of calls
 
--- Four reserves fit the points.
-abbrev pub ReservesFit : Edition → Type 0
-ReservesFit ed = 4 * ed .reserve ≤ ed .points
-
 pub none-covered : (ed : Edition) → ReservesFit ed → Covered ed []
 unfolding held
 none-covered ed fit = record { few = omega arith; covers = omega arith }
@@ -107,12 +106,12 @@ operators-facts ps = map-map (λ (f : Facts). f .operator) (λ (p : Point). p .f
 abbrev BookCovers : Edition → Book → Type 0
 BookCovers ed B = Covered ed (operatorsIn (B .points))
 
-notice-covers : (c : Notice) (ed : Edition) (B : Book) → ReservesFit ed → BookCovers ed B → BookCovers ed (noted c ed B .1)
+notice-covers : (c : Notice) (ed : Edition) (B : Book) → BookCovers ed B → BookCovers ed (noted c ed B .1)
 unfolding factsOf
-notice-covers c ed B fit k =
+notice-covers c ed B k =
     let P : List Facts → Type 0 = λ fs. Covered ed (map (λ (f : Facts). f .operator) fs) in
     subst (Covered ed) (operators-facts (noted c ed B .1 .points))
-    (facts-after P c ed B (none-covered ed fit) (subst (Covered ed) (sym (operators-facts (B .points))) k) (λ n e z.
+    (facts-after P c ed B (subst (Covered ed) (sym (operators-facts (B .points))) k) (λ n e z.
     subst (Covered ed) (sym (map-append (λ (f : Facts). f .operator) (factsIn B) (factsOf n ∷ [])))
     (let clear : OpenClear ed n _ _ = open-clear ed n _ _ z in
     rw (operators-facts (B .points)) (covered-more ed _ (natOf (n .operator)) (clear .operatorLow) (clear .operatorHigh) k (clear .room) (clear .covers)))))
@@ -120,44 +119,52 @@ notice-covers c ed B fit k =
 -- In a state they do so in its book, and in each saved one.
 pub record Covers (S : State) : Type 0 where
   pub book : BookCovers (S .edition) (S .book)
-  pub saved : (n : ℕ) (B : Book) → S .saved n ≡ some B → BookCovers (S .edition) B
+  pub saved : (n : ℕ) (w : Edition × Book) → S .saved n ≡ some w → BookCovers (w .0) (w .1)
 
-pub fresh-covers : (ed : Edition) (n : Ranges) → ReservesFit ed → Covers (freshState ed n)
-fresh-covers ed n fit = record { book = none-covered ed fit; saved = λ k B e. absurd (Option·none-ne-some B e) }
+module _ (E : Editions) (fit0 : ReservesFit (E .standard)) (fit1 : ReservesFit (E .long)) where
+  number-reserves : (n : ℕ) → ReservesFit (editionNo E n)
+  unfolding editionNo
+  number-reserves n = go (eqb n 1)
+    where
+      go : (b : Bool) → ReservesFit (cond b (E .long) (E .standard))
+      go true = fit1
+      go false = fit0
 
-pub covered-step : (c : Call) (S : State) → ReservesFit (S .edition) → Covers S → Covers (step c S .1)
-unfolding step stated
-covered-step (query! q) S fit k = k
-covered-step (notice! c) S fit k = record { book = notice-covers c (S .edition) (S .book) fit (k .book); saved = k .saved }
-covered-step (state! (save! n lent)) S fit k =
-    decide-keeps 0 S _ Covers _ k (λ z. record { book = k .book; saved = λ j B e. go j (eqb j (natOf n)) B e })
-  where
-    go : (j : ℕ) (b : Bool) (B : Book) → cond b (some (S .book)) (S .saved j) ≡ some B → BookCovers (S .edition) B
-    go j true B e = subst (BookCovers (S .edition)) (Option·some-injective (S .book) B e) (k .book)
-    go j false B e = k .saved j B e
-covered-step (state! (restore! n lent)) S fit k = decide-keeps 0 S _ Covers _ k (λ z. go (S .saved (natOf n)) refl)
-  where
-    go : (o : Option Book) → S .saved (natOf n) ≡ o
-        → Covers (maybe S (λ B. record { edition = S .edition; book = B; saved = S .saved }) o)
-    go none e = k
-    go (some B) e = record { book = k .saved (natOf n) B e; saved = k .saved }
+  pub fresh-covers : (n : NewRegister) → Covers (freshState E n)
+  fresh-covers n =
+      record { book = none-covered _ (number-reserves (natOf (n .edition))); saved = λ k w e. absurd (Option·none-ne-some w e) }
 
-pub step-edition : (c : Call) (S : State) → step c S .1 .edition ≡ S .edition
-unfolding step stated
-step-edition (notice! c) S = refl
-step-edition (query! q) S = refl
-step-edition (state! (save! n lent)) S = decide-keeps 0 S _ (λ T. T .edition ≡ S .edition) _ refl (λ z. refl)
-step-edition (state! (restore! n lent)) S =
-    decide-keeps 0 S _ (λ T. T .edition ≡ S .edition) _ refl (λ z. go (S .saved (natOf n)))
-  where
-    go : (o : Option Book) → maybe S (λ B. record { edition = S .edition; book = B; saved = S .saved }) o .edition ≡ S .edition
-    go none = refl
-    go (some B) = refl
+  -- row 22 lets a book in where the points left cover its reserves
+  converted-covers : (S : State) (ed : Edition) → noRoom ed (S .book) ≡ false → Covers S → Covers (onWith S (ed, S .book))
+  converted-covers S ed room k =
+      let h : HasRoom ed (S .book .points) = has-room ed (S .book) room in
+      let all : length (operatorsIn (S .book .points)) ≡ length (S .book .points) = length-map (S .book .points) _ in
+      record { book = record { few = omega (arith, h .points, all); covers = omega (arith, h .reserves, all) }; saved = k .saved }
 
-covered-run : (cs : List Call) (S : State) → ReservesFit (S .edition) → Covers S → Covers (run cs S)
-unfolding run
-covered-run [] S fit k = k
-covered-run (c ∷ cs) S fit k = covered-run cs (step c S .1) (rw (step-edition c S) fit) (covered-step c S fit k)
+  pub covered-step : (c : Call) (S : State) → Covers S → Covers (step E c S .1)
+  unfolding step renewed converted convertRows stated
+  covered-step (fresh! n) S k =
+      decide-keeps 0 S _ Covers _ k (λ z. record { book = fresh-covers n .book; saved = k .saved })
+  covered-step (query! q) S k = k
+  covered-step (notice! c) S k = record { book = notice-covers c (S .edition) (S .book) (k .book); saved = k .saved }
+  covered-step (convert! t) S k =
+      decide-keeps 0 S _ Covers _ k (λ z. converted-covers S _ (least-none 21 _ [] (least-none 0 _ _ z .1) .0) k)
+  covered-step (state! (save! n lent)) S k =
+      decide-keeps 0 S _ Covers _ k (λ z. record { book = k .book; saved = λ j w e. go j (eqb j (natOf n)) w e })
+    where
+      go : (j : ℕ) (b : Bool) (w : Edition × Book) → cond b (some (S .edition, S .book)) (S .saved j) ≡ some w → BookCovers (w .0) (w .1)
+      go j true w e = subst (λ (w : Edition × Book). BookCovers (w .0) (w .1)) (Option·some-injective (S .edition, S .book) w e) (k .book)
+      go j false w e = k .saved j w e
+  covered-step (state! (restore! n lent)) S k = decide-keeps 0 S _ Covers _ k (λ z. go (S .saved (natOf n)) refl)
+    where
+      go : (o : Option (Edition × Book)) → S .saved (natOf n) ≡ o → Covers (maybe S (onWith S) o)
+      go none e = k
+      go (some w) e = record { book = k .saved (natOf n) w e; saved = k .saved }
+
+  covered-run : (cs : List Call) (S : State) → Covers S → Covers (run E cs S)
+  unfolding run
+  covered-run [] S k = k
+  covered-run (c ∷ cs) S k = covered-run cs (step E c S .1) (covered-step c S k)
 
 -- ---- what is answered
 
@@ -215,18 +222,18 @@ reserved-covered S k =
     low n b = row-low (S .edition) n (isSome (find (natOf (n .mirn)) (S .book .points))) (operatorsIn (S .book .points)) (k .book) b
 
 pub in-every-edition : InEveryEdition
-in-every-edition ed fit n₀ cs = reserved-covered _ (covered-run cs (freshState ed n₀) fit (fresh-covers ed n₀ fit))
+in-every-edition E fit0 fit1 n₀ cs = reserved-covered _ (covered-run E fit0 fit1 cs (freshState E n₀) (fresh-covers E fit0 fit1 n₀))
 
 -- ---- on what is lent, which answers as the book does
 
-pub reserved-lent : (L : Lent) (S : State) → StandsFor L S → Reserved S (bookRefusal S)
-    → Reserved S (λ n. refusalIn (openCall (L .table) n .0))
+pub reserved-lent : (E : Editions) → BothFit E → (L : Lent) (S : State) → StandsFor E L S → Reserved S (bookRefusal S)
+    → Reserved S (λ n. refusalIn (openCall E (L .table) n .0))
 unfolding lentStep noticeCall step noted
-reserved-lent L S r kept =
+reserved-lent E fit L S r kept =
     record {
       never16 = λ n b e. kept .never16 n b (sym (same n) ∙ e);
       never19 = λ n b e. kept .never19 n b (sym (same n) ∙ e);
     }
   where
-    same : (n : Opening) → refusalIn (openCall (L .table) n .0) ≡ bookRefusal S n
-    same n = ap (λ (a : Answer). refusalIn (a .0)) (call-agrees L S r (notice! (open! n)) .answer)
+    same : (n : Opening) → refusalIn (openCall E (L .table) n .0) ≡ bookRefusal S n
+    same n = ap (λ (a : Answer). refusalIn (a .0)) (call-agrees E fit L S r (notice! (open! n)) .answer)

@@ -1,67 +1,73 @@
 -- A list of calls on what stands for a state is the list on the state, and an accepted fresh makes a table that stands for
 -- the state it begins. Assumes nothing.
-use mathlib.Core.Path.{_≡_, refl, ap₂}
-use mathlib.Core.Bool.{Bool, true, false, cond}
+use mathlib.Core.Path.{_≡_, refl, sym, ap, ap₂, subst}
 use mathlib.Core.Option.{none}
 use mathlib.Core.List.{List, [], _∷_}
-use Prim.Native.Nat.{ℕ, zero, suc, _+_}
+use Prim.Native.Nat.{ℕ, zero, suc, _+_, _≤_}
 use native.Mathlib.Omega.{arith}
-use lib.Dec.{leb}
+use lib.Dec.{ltb}
 use lib.IntN.{ℤ, pos}
 use lib.ListN.{length, length-replicate}
-use Rattle.daybook.specs.declared.Edition.{Edition}
-use Rattle.daybook.specs.declared.Ranges.{Ranges}
-use Rattle.daybook.specs.Notices.{least, Numbers, decide, freshRows, fresh}
+use borrow.Author.Tests.{ltb-false}
+use Rattle.numbers.specs.Naturals.{natOf}
+use Rattle.daybook.specs.declared.NewRegister.{NewRegister}
+use Rattle.daybook.specs.Notices.{Row, least, Numbers, decide, freshRows, freshBook}
+use Rattle.daybook.specs.Editions.{Editions, editionNo}
 use Rattle.daybook.specs.Calls.{Call, State, run, answers}
 use Rattle.daybook.specs.States.{imageLength}
-use Rattle.lists.specs.Lists.{bookOf}
-use Rattle.lists.proofs.Operators.{kept-none}
-use Rattle.lists.proofs.OpenStep.{no-points}
-use Rattle.layout.specs.Layout.{tableLength, editionOf, tableBook}
-use Rattle.layout.specs.Calls.{answerAndTable}
-use Rattle.layout.proofs.Editions.{edition-fits, edition-left}
-use Rattle.layout.proofs.Notices.{Holds, written-holds}
+use Rattle.lists.proofs.Rows.{least-none}
+use Rattle.layout.specs.Layout.{tableLength, BothFit, withNewBook}
 use Rattle.opening.specs.Opening.{freshCall}
 use Rattle.images.proofs.GivesBack.{take-zeros}
-use Rattle.history.specs.Runs.{Lent, lentRun, lentAnswers, freshState, zeroImages}
+use Rattle.history.specs.Runs.{Lent, lentRun, lentAnswers, zeroImages}
+use Rattle.history.specs.Promise.{refusalIn}
 use Rattle.history.specs.Agreement.{TableOf, ImagesHold, StandsFor}
-use Rattle.history.proofs.Steps.{Follows, call-agrees}
+use Rattle.history.proofs.Steps.{Follows, fresh-stands, call-agrees}
 
 -- What the calls leave stands for the state that the book's calls leave, and the answers are the same.
-pub run-agrees : (cs : List Call) (L : Lent) (S : State) → StandsFor L S
-    → StandsFor (lentRun cs L) (run cs S) × (lentAnswers cs L ≡ answers cs S)
+pub run-agrees : (E : Editions) → BothFit E → (cs : List Call) (L : Lent) (S : State) → StandsFor E L S
+    → StandsFor E (lentRun E cs L) (run E cs S) × (lentAnswers E cs L ≡ answers E cs S)
 unfolding lentRun run lentAnswers answers
-run-agrees [] L S r = (r, refl)
-run-agrees (c ∷ cs) L S r =
-    let f : Follows _ _ = call-agrees L S r c in
-    let (stands, same) = run-agrees cs _ _ (f .standsFor) in
+run-agrees E fit [] L S r = (r, refl)
+run-agrees E fit (c ∷ cs) L S r =
+    let f : Follows E _ _ = call-agrees E fit L S r c in
+    let (stands, same) = run-agrees E fit cs _ _ (f .standsFor) in
     (stands, ap₂ _∷_ (f .answer) same)
 
 -- ---- where a list begins
 
-pub fresh-table : (t : List ℤ) (n : Ranges) → freshCall t n .0 ≡ pos 0 ∷ []
-    → TableOf (editionOf t) (freshState (editionOf t) n .book) (freshCall t n .1)
-unfolding freshCall fresh decide bookOf
-fresh-table t n = go (leb tableLength (length t)) (least (freshRows n)) refl
+-- An accepted fresh found a table that is long enough, and wrote the empty book over it.
+pub record Begins (E : Editions) (t : List ℤ) (n : NewRegister) (w : Numbers × List ℤ) : Type 0 where
+  pub long : tableLength ≤ length t
+  pub noRow : least (freshRows n) ≡ 0
+  pub answer : w .0 ≡ pos 0 ∷ []
+  pub left : w .1 ≡ withNewBook (editionNo E (natOf (n .edition))) t (freshBook n)
+
+pub fresh-begins : (E : Editions) (t : List ℤ) (n : NewRegister) → refusalIn (freshCall E t n .0) ≡ pos 0 → Begins E t n (freshCall E t n)
+unfolding freshCall decide
+fresh-begins E t n = go (least rows) refl
   where
-    ed : Edition
-    ed = editionOf t
+    rows : List Row
+    rows = (1, ltb (length t) tableLength) ∷ freshRows n
 
-    given : Bool → ℕ → Numbers × List ℤ
-    given long row =
-        cond long (answerAndTable ed t (decide row 0 (tableBook ed t) ([], freshState ed n .book))) (pos 1 ∷ [], t)
+    given : ℕ → Numbers × List ℤ
+    given r = decide r 0 t ([], withNewBook (editionNo E (natOf (n .edition))) t (freshBook n))
 
-    go : (long : Bool) (row : ℕ) → least (freshRows n) ≡ row → given long row .0 ≡ pos 0 ∷ []
-        → TableOf ed (freshState ed n .book) (given long row .1)
-    go true zero z e =
-        let h : Holds ed (edition-fits t) _ (freshState ed n .book) = written-holds ed (edition-fits t) (no-points ed n z) t (kept-none _) in
-        record { edition = edition-left t (freshState ed n .book); isSound = h .isSound; book = h .book }
-    go true (suc r) z e = let k : _≡_ {A = ℕ} 0 1 = cc in absurd (omega arith)
-    go false row z e = let k : _≡_ {A = ℕ} 0 1 = cc in absurd (omega arith)
+    go : (r : ℕ) → least rows ≡ r → refusalIn (given r .0) ≡ pos 0 → Begins E t n (given r)
+    go zero z e =
+        let (short, row) = least-none 0 (ltb (length t) tableLength) (freshRows n) z in
+        record { long = ltb-false (length t) tableLength short; noRow = row; answer = refl; left = refl }
+    go (suc r) z e = let k : suc r ≡ 0 = ap natOf e in absurd (omega arith)
+
+pub fresh-table : (E : Editions) → BothFit E → (t : List ℤ) (n : NewRegister) → refusalIn (freshCall E t n .0) ≡ pos 0
+    → TableOf E (editionNo E (natOf (n .edition))) (freshBook n) (freshCall E t n .1)
+fresh-table E fit t n e =
+    let b : Begins E t n _ = fresh-begins E t n e in
+    subst (TableOf E (editionNo E (natOf (n .edition))) (freshBook n)) (sym (b .left)) (fresh-stands E fit t n (b .noRow))
 
 -- images of zero bytes hold nothing
-pub zeros-hold : (ed : Edition) (past : ℕ → ℕ) → ImagesHold ed (λ k. none) (zeroImages past)
-zeros-hold ed past =
+pub zeros-hold : (E : Editions) (past : ℕ → ℕ) → ImagesHold E (λ k. none) (zeroImages past)
+zeros-hold E past =
     record {
       whole = λ n. omega (arith, length-replicate {A = ℕ} (imageLength + past n) 0);
       holds = λ n. take-zeros (imageLength + past n) (omega arith);

@@ -18,8 +18,9 @@ use Rattle.daybook.specs.declared.Edition.{Edition}
 use Rattle.daybook.specs.Book.{Book}
 use Rattle.daybook.specs.Notices.{least, Numbers, decide}
 use Rattle.daybook.specs.States.{isState, imageLength, under}
-use Rattle.daybook.specs.Calls.{StateCall, save!, restore!, State, stated}
-use Rattle.layout.specs.Layout.{tableLength, editionOf, tableBook}
+use Rattle.daybook.specs.Editions.{Editions}
+use Rattle.daybook.specs.Calls.{StateCall, save!, restore!, State, onWith, stated}
+use Rattle.layout.specs.Layout.{tableLength, Fits, BothFit, editionIn, tableBook}
 use Rattle.layout.specs.Sound.{sound}
 use Rattle.layout.proofs.Editions.{edition-fits, edition-front}
 use Rattle.layout.proofs.Notices.{front-holds}
@@ -32,7 +33,7 @@ use Rattle.images.proofs.GivesBack.{back-same, zero-image}
 use Rattle.history.specs.Runs.{Lent, stateCall}
 use Rattle.history.specs.Agreement.{TableOf, ImageOf, HoldsSaved, ImagesHold, StandsFor}
 
-pub own-sound : {ed : Edition} {B : Book} {t : List ℤ} → TableOf ed B t → sound (editionOf t) t ≡ true
+pub own-sound : {E : Editions} {ed : Edition} {B : Book} {t : List ℤ} → TableOf E ed B t → sound (editionIn E t) t ≡ true
 own-sound r = rw (r .edition) (r .isSound)
 
 -- Of a whole image as many bytes are lent as are said, up to its length.
@@ -44,9 +45,9 @@ lent-enough image lent h = go (leb imageLength lent) refl
     go false e = lt-leb imageLength (length (take lent image)) (omega (arith, length-take lent image, leb-false imageLength lent e))
 
 -- The answer and what is left, v, beside the book's answer and state, w.
-pub record Agreed (v : Numbers × Lent) (w : Numbers × State) : Type 0 where
+pub record Agreed (E : Editions) (v : Numbers × Lent) (w : Numbers × State) : Type 0 where
   pub answer : v .0 ≡ w .0
-  pub standsFor : StandsFor (v .1) (w .1)
+  pub standsFor : StandsFor E (v .1) (w .1)
 
 -- What holds of x and of all that f has holds of f with x under a number.
 under-holds : {A : Type 0} (P : ℕ → A → Type 0) (n : ℕ) (x : A) (f : ℕ → A) → P n x → ((k : ℕ) → P k (f k)) → (k : ℕ) → P k (under n x f k)
@@ -56,9 +57,9 @@ under-holds P n x f p q k = go (eqb k n) refl
     go true e = subst (λ j. P j x) (sym (eqb-true k n e)) p
     go false e = q k
 
-module _ (t : List ℤ) (s : sound (editionOf t) t ≡ true) (images : ℕ → List ℕ) (saved : ℕ → Option Book) (h : ImagesHold (editionOf t) saved images) (n : ℤ) (lent : ℕ) where
+module _ (E : Editions) (fit : BothFit E) (t : List ℤ) (s : sound (editionIn E t) t ≡ true) (images : ℕ → List ℕ) (saved : ℕ → Option (Edition × Book)) (h : ImagesHold E saved images) (n : ℤ) (lent : ℕ) where
   abbrev ed : Edition
-  ed = editionOf t
+  ed = editionIn E t
 
   abbrev B : Book
   B = tableBook ed t
@@ -78,7 +79,7 @@ module _ (t : List ℤ) (s : sound (editionOf t) t ≡ true) (images : ℕ → L
   abbrev ranged : Bool
   ranged = isState n && leb imageLength lent
 
-  own : TableOf ed B t
+  own : TableOf E ed B t
   own = record { edition = refl; isSound = s; book = refl }
 
   -- row 2 of the lent bytes is that of the bytes said
@@ -91,24 +92,24 @@ module _ (t : List ℤ) (s : sound (editionOf t) t ≡ true) (images : ℕ → L
   saves w = (w .0, record { table = t; images = under (natOf n) (w .1 ++ drop lent image) images })
 
   abbrev bookSaves : Bool → Numbers × State
-  bookSaves b = decide (least ((2, not b) ∷ [])) 0 S ([], record { edition = ed; book = B; saved = under (natOf n) (some B) saved })
+  bookSaves b = decide (least ((2, not b) ∷ [])) 0 S ([], record { edition = ed; book = B; saved = under (natOf n) (some (ed, B)) saved })
 
   -- an image written back as it was
   same-image : first ++ drop lent image ≡ image
   same-image = take-append-drop lent image
 
-  kept-images : ImagesHold ed saved (under (natOf n) (first ++ drop lent image) images)
+  kept-images : ImagesHold E saved (under (natOf n) (first ++ drop lent image) images)
   kept-images =
       record {
         whole = under-holds (λ k i. imageLength ≤ length i) (natOf n) _ images (subst (λ i. imageLength ≤ length i) (sym same-image) (h .whole (natOf n))) (h .whole);
-        holds = under-holds (λ k i. HoldsSaved ed (saved k) k i) (natOf n) _ images (subst (HoldsSaved ed (saved (natOf n)) (natOf n)) (sym same-image) (h .holds (natOf n))) (h .holds);
+        holds = under-holds (λ k i. HoldsSaved E (saved k) k i) (natOf n) _ images (subst (HoldsSaved E (saved (natOf n)) (natOf n)) (sym same-image) (h .holds (natOf n))) (h .holds);
       }
 
   -- an image of the table
   abbrev written : List ℕ
   written = withImage (natOf n) t first
 
-  new-images : imageLength ≤ lent → ImagesHold ed (under (natOf n) (some B) saved) (under (natOf n) (written ++ drop lent image) images)
+  new-images : imageLength ≤ lent → ImagesHold E (under (natOf n) (some (ed, B)) saved) (under (natOf n) (written ++ drop lent image) images)
   new-images l =
       record {
         whole = under-holds (λ k i. imageLength ≤ length i) (natOf n) _ images (omega (arith, long, length-append written (drop lent image))) (h .whole);
@@ -121,7 +122,7 @@ module _ (t : List ℤ) (s : sound (editionOf t) t ≡ true) (images : ℕ → L
       long : imageLength ≤ length written
       long = omega (arith, length-image (natOf n) t first, enough)
 
-      own-image : ImageOf ed B (natOf n) (written ++ drop lent image)
+      own-image : ImageOf E ed B (natOf n) (written ++ drop lent image)
       own-image =
           record {
             table = t;
@@ -131,22 +132,22 @@ module _ (t : List ℤ) (s : sound (editionOf t) t ≡ true) (images : ℕ → L
             bytes = take-append-le imageLength written (drop lent image) long;
           }
 
-      go : (k : ℕ) (b : Bool) → eqb k (natOf n) ≡ b → HoldsSaved ed (cond b (some B) (saved k)) k (cond b (written ++ drop lent image) (images k))
-      go k true e = subst (λ j. ImageOf ed B j (written ++ drop lent image)) (sym (eqb-true k (natOf n) e)) own-image
+      go : (k : ℕ) (b : Bool) → eqb k (natOf n) ≡ b → HoldsSaved E (cond b (some (ed, B)) (saved k)) k (cond b (written ++ drop lent image) (images k))
+      go k true e = subst (λ j. ImageOf E ed B j (written ++ drop lent image)) (sym (eqb-true k (natOf n) e)) own-image
       go k false e = h .holds k
 
-  save-agrees : Agreed (stateCall (save! n lent) L) (stated (save! n lent) S)
+  save-agrees : Agreed E (stateCall E (save! n lent) L) (stated (save! n lent) S)
   unfolding stateCall stated least decide
   save-agrees = go ranged refl
     where
-      go : (b : Bool) → ranged ≡ b → Agreed (saves (saveCall t n first)) (bookSaves ranged)
+      go : (b : Bool) → ranged ≡ b → Agreed E (saves (saveCall E t n first)) (bookSaves ranged)
       go false e =
-          subst (λ w. Agreed (saves (saveCall t n first)) (bookSaves w)) (sym e)
-          (subst (λ v. Agreed (saves v) (bookSaves false)) (sym (save-out t n first s (ranged-is ∙ e)))
+          subst (λ w. Agreed E (saves (saveCall E t n first)) (bookSaves w)) (sym e)
+          (subst (λ v. Agreed E (saves v) (bookSaves false)) (sym (save-out E t n first s (ranged-is ∙ e)))
           (record { answer = refl; standsFor = record { table = own; images = kept-images } }))
       go true e =
-          subst (λ w. Agreed (saves (saveCall t n first)) (bookSaves w)) (sym e)
-          (subst (λ v. Agreed (saves v) (bookSaves true)) (sym (save-entered t n first s (ranged-is ∙ e)))
+          subst (λ w. Agreed E (saves (saveCall E t n first)) (bookSaves w)) (sym e)
+          (subst (λ v. Agreed E (saves v) (bookSaves true)) (sym (save-entered E t n first s (ranged-is ∙ e)))
           (record { answer = refl; standsFor = record { table = own; images = new-images (leb-true imageLength lent (both (isState n) (leb imageLength lent) e .1)) } }))
 
   -- ---- restore
@@ -154,17 +155,15 @@ module _ (t : List ℤ) (s : sound (editionOf t) t ≡ true) (images : ℕ → L
   abbrev restores : Numbers × List ℤ → Numbers × Lent
   restores w = (w .0, record { table = w .1; images = images })
 
-  abbrev bookRestores : Bool → Option Book → Numbers × State
-  bookRestores b o =
-      decide (least ((2, not b) ∷ (17, not (isSome o)) ∷ [])) 0 S
-      ([], maybe S (λ C. record { edition = ed; book = C; saved = saved }) o)
+  abbrev bookRestores : Bool → Option (Edition × Book) → Numbers × State
+  bookRestores b o = decide (least ((2, not b) ∷ (17, not (isSome o)) ∷ [])) 0 S ([], maybe S (onWith S) o)
 
-  -- a table that is restored from the image of a book
-  back : (C : Book) → ImageOf ed C (natOf n) image → isState n ≡ true → imageLength ≤ lent
-      → Agreed (restores (restoreCall t n first)) (pos 0 ∷ [], record { edition = ed; book = C; saved = saved })
-  back C i number l =
-      subst (λ v. Agreed (restores v) (pos 0 ∷ [], record { edition = ed; book = C; saved = saved }))
-      (sym (back-same u t n (i .before) first (own-sound (i .standsFor)) number (i .enough) enough (take-take imageLength lent image l ∙ i .bytes) long))
+  -- a table that is restored from the image of a book, whatever its edition
+  back : (w : Edition × Book) → ImageOf E (w .0) (w .1) (natOf n) image → isState n ≡ true → imageLength ≤ lent
+      → Agreed E (restores (restoreCall E t n first)) (pos 0 ∷ [], onWith S w)
+  back w i number l =
+      subst (λ v. Agreed E (restores v) (pos 0 ∷ [], onWith S w))
+      (sym (back-same E fit u t n (i .before) first (own-sound (i .standsFor)) number (i .enough) enough (take-take imageLength lent image l ∙ i .bytes) long))
       (record { answer = refl; standsFor = record { table = left; images = h } })
     where
       u : List ℤ
@@ -176,16 +175,17 @@ module _ (t : List ℤ) (s : sound (editionOf t) t ≡ true) (images : ℕ → L
       long : tableLength ≤ length t
       long = sound-long ed t s .0
 
-      left : TableOf ed C (take tableLength u ++ drop tableLength t)
+      left : TableOf E (w .0) (w .1) (take tableLength u ++ drop tableLength t)
       left =
-          let f = front-holds ed (rw (← i .standsFor .edition) (edition-fits u)) u (i .standsFor .isSound) (drop tableLength t) in
+          let own : Fits (w .0) = rw (← i .standsFor .edition) (edition-fits E fit u) in
+          let f = front-holds (w .0) own u (i .standsFor .isSound) (drop tableLength t) in
           record {
-            edition = edition-front u (drop tableLength t) ∙ i .standsFor .edition;
+            edition = edition-front E u (drop tableLength t) (sound-long (w .0) u (i .standsFor .isSound) .0) ∙ i .standsFor .edition;
             isSound = f .isSound;
             book = f .book ∙ i .standsFor .book;
           }
 
-  restore-agrees : Agreed (stateCall (restore! n lent) L) (stated (restore! n lent) S)
+  restore-agrees : Agreed E (stateCall E (restore! n lent) L) (stated (restore! n lent) S)
   unfolding stateCall stated least decide
   restore-agrees = go ranged refl (saved (natOf n)) refl (h .holds (natOf n))
     where
@@ -201,26 +201,26 @@ module _ (t : List ℤ) (s : sound (editionOf t) t ≡ true) (images : ℕ → L
       enough : ranged ≡ true → imageLength ≤ length first
       enough e = omega (arith, length-take lent image, h .whole (natOf n), said e)
 
-      out : (o : Option Book) → Agreed (pos 2 ∷ [], L) (bookRestores false o)
+      out : (o : Option (Edition × Book)) → Agreed E (pos 2 ∷ [], L) (bookRestores false o)
       out none = record { answer = refl; standsFor = record { table = own; images = h } }
-      out (some C) = record { answer = refl; standsFor = record { table = own; images = h } }
+      out (some w) = record { answer = refl; standsFor = record { table = own; images = h } }
 
-      go : (b : Bool) → ranged ≡ b → (o : Option Book) → saved (natOf n) ≡ o → HoldsSaved ed o (natOf n) image
-          → Agreed (restores (restoreCall t n first)) (bookRestores ranged (saved (natOf n)))
+      go : (b : Bool) → ranged ≡ b → (o : Option (Edition × Book)) → saved (natOf n) ≡ o → HoldsSaved E o (natOf n) image
+          → Agreed E (restores (restoreCall E t n first)) (bookRestores ranged (saved (natOf n)))
       go false e o f held =
-          subst (λ w. Agreed (restores (restoreCall t n first)) (bookRestores w (saved (natOf n)))) (sym e)
-          (subst (λ v. Agreed (restores v) (bookRestores false (saved (natOf n)))) (sym (restore-out t n first long (ranged-is ∙ e)))
+          subst (λ w. Agreed E (restores (restoreCall E t n first)) (bookRestores w (saved (natOf n)))) (sym e)
+          (subst (λ v. Agreed E (restores v) (bookRestores false (saved (natOf n)))) (sym (restore-out E t n first long (ranged-is ∙ e)))
           (out (saved (natOf n))))
       go true e none f held =
-          subst (λ w. Agreed (restores (restoreCall t n first)) w) (sym (ap₂ bookRestores e f))
-          (subst (λ v. Agreed (restores v) (bookRestores true none)) (sym (zero-image t n first long (number e) (enough e) (take-take imageLength lent image (said e) ∙ held)))
+          subst (λ w. Agreed E (restores (restoreCall E t n first)) w) (sym (ap₂ bookRestores e f))
+          (subst (λ v. Agreed E (restores v) (bookRestores true none)) (sym (zero-image E t n first long (number e) (enough e) (take-take imageLength lent image (said e) ∙ held)))
           (record { answer = refl; standsFor = record { table = own; images = h } }))
-      go true e (some C) f held =
-          subst (λ w. Agreed (restores (restoreCall t n first)) w) (sym (ap₂ bookRestores e f)) (back C held (number e) (said e))
+      go true e (some w) f held =
+          subst (λ w. Agreed E (restores (restoreCall E t n first)) w) (sym (ap₂ bookRestores e f)) (back w held (number e) (said e))
 
-pub state-agrees : (t : List ℤ) (s : sound (editionOf t) t ≡ true) (images : ℕ → List ℕ) (saved : ℕ → Option Book)
-    → ImagesHold (editionOf t) saved images → (c : StateCall)
-    → Agreed (stateCall c (record { table = t; images = images }))
-    (stated c (record { edition = editionOf t; book = tableBook (editionOf t) t; saved = saved }))
-state-agrees t s images saved h (save! n lent) = save-agrees t s images saved h n lent
-state-agrees t s images saved h (restore! n lent) = restore-agrees t s images saved h n lent
+pub state-agrees : (E : Editions) → BothFit E → (t : List ℤ) (s : sound (editionIn E t) t ≡ true) (images : ℕ → List ℕ) (saved : ℕ → Option (Edition × Book))
+    → ImagesHold E saved images → (c : StateCall)
+    → Agreed E (stateCall E c (record { table = t; images = images }))
+    (stated c (record { edition = editionIn E t; book = tableBook (editionIn E t) t; saved = saved }))
+state-agrees E fit t s images saved h (save! n lent) = save-agrees E fit t s images saved h n lent
+state-agrees E fit t s images saved h (restore! n lent) = restore-agrees E fit t s images saved h n lent

@@ -12,6 +12,7 @@ use borrow.Author.Tests.{le-leb, lt-leb, eqb-true}
 use Rattle.numbers.specs.Naturals.{natOf}
 use Rattle.numbers.proofs.Bools.{both}
 use Rattle.daybook.specs.declared.Edition.{Edition}
+use Rattle.daybook.specs.Editions.{Editions}
 use Rattle.daybook.specs.declared.EnergyNotice.{EnergyNotice}
 use Rattle.daybook.specs.Book.{Entry, Pending, Point, Book, fromOn, fill, withEntries, withFro, withPending, records, latest}
 use Rattle.daybook.specs.Notices.{decide, find, withPoint, onPoint, Which, append, replacement, recut, whichNumber, which, entryOf, kept, removed, Outcome, registers, lapses, stays, typeRegisters, appendRegisters, outcomeOf, outcomeNumbers, settled, entered, enter, energy}
@@ -20,7 +21,7 @@ use Rattle.lists.specs.InnerSteps.{latestOf}
 use Rattle.lists.specs.InnerWell.{PendingOk, pending, Well}
 use Rattle.lists.proofs.Registrations.{latest-is, user-latest}
 use Rattle.lists.proofs.Points.{find-put}
-use Rattle.layout.specs.Layout.{editionOf, tableBook}
+use Rattle.layout.specs.Layout.{BothFit, editionIn, tableBook}
 use Rattle.layout.specs.Sound.{sound}
 use Rattle.energy.specs.Energy.{energyCall}
 use Rattle.history.specs.Agreement.{userIn, Transferred}
@@ -113,14 +114,14 @@ module _ (n : EnergyNotice) (B : Book) (u : ℕ) (some-user : 1 ≤ u) where
 
 -- ---- on the table
 
-module _ (t : List ℤ) (s : sound (editionOf t) t ≡ true) (n : EnergyNotice) (u : ℕ) (some-user : 1 ≤ u) where
+module _ (E : Editions) (fit : BothFit E) (t : List ℤ) (s : sound (editionIn E t) t ≡ true) (n : EnergyNotice) (u : ℕ) (some-user : 1 ≤ u) where
   abbrev ed : Edition
-  ed = editionOf t
+  ed = editionIn E t
 
   abbrev B : Book
   B = tableBook ed t
 
-  pub sound-transferred : userIn (energyCall t n .0) ≡ pos u → Transferred ed t B n u
+  pub sound-transferred : userIn (energyCall E t n .0) ≡ pos u → Transferred E ed t B n u
   unfolding energy onPoint withPoint withFro withPending withEntries fromOn entryOf
   sound-transferred e =
       record {
@@ -128,7 +129,7 @@ module _ (t : List ℤ) (s : sound (editionOf t) t ≡ true) (n : EnergyNotice) 
         found = b .is;
         after = registered n B u some-user (b .point);
         foundAfter =
-            ap (λ (B : Book). find (natOf (n .mirn)) (B .points)) (left-book t s n ∙ b .book)
+            ap (λ (B : Book). find (natOf (n .mirn)) (B .points)) (left-book E fit t s n ∙ b .book)
             ∙ find-put (natOf (n .mirn)) (b .point) (registered n B u some-user (b .point)) (B .points) refl (b .is);
         sameDays = λ d h. rw (lt-leb (suc (natOf (n .end))) d (omega arith));
         oldUser = λ d l h. rw (lt-leb (suc (natOf (n .end))) d (omega arith)) (old d l);
@@ -137,14 +138,14 @@ module _ (t : List ℤ) (s : sound (editionOf t) t ≡ true) (n : EnergyNotice) 
         actual = actual-type (b .point .facts .section) (entryOf n) (latest (b .point) .0) (r .request) (r .may);
       }
     where
-      b : OnBook n B u some-user (found t s n) (row t s n)
-      b = on-book n B u some-user (found t s n) (row t s n) (sym (ap (λ v. userIn (v .0)) (now-is t s n)) ∙ e)
+      b : OnBook n B u some-user (found E fit t s n) (row E fit t s n)
+      b = on-book n B u some-user (found E fit t s n) (row E fit t s n) (sym (ap (λ v. userIn (v .0)) (now-is E fit t s n)) ∙ e)
 
       r : Registers (b .point .facts .section) (entryOf n) (latest (b .point) .0) (b .point .pending) u
       r = registering (which (b .point) (entryOf n)) (b .point .facts .section) (entryOf n) (latest (b .point) .0) (b .point .pending) u (b .outcome)
 
       at : (q : Lists) × Well (ed .records) q × (pointOf q ≡ b .point)
-      at = lists-at t s (natOf (n .mirn)) (b .point) (b .is)
+      at = lists-at E fit t s (natOf (n .mirn)) (b .point) (b .is)
 
       old : (d : ℕ) → latest (b .point) .0 ≤ d → b .point .fro d ≡ latest (b .point) .1
       old = subst (λ p. (d : ℕ) → latest p .0 ≤ d → p .fro d ≡ latest p .1) (at .2) (since-latest (at .1))

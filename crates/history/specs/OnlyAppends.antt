@@ -12,7 +12,8 @@ use Rattle.daybook.specs.declared.EnergyNotice.{EnergyNotice}
 use Rattle.daybook.specs.Book.{Entry, Pending, Point, fill, withEntries}
 use Rattle.daybook.specs.Notices.{Numbers, find, withPoint, append, which, entryOf, kept, outcomeOf, energy}
 use Rattle.daybook.specs.Calls.{energy!, Call, notice!, Answer}
-use Rattle.layout.specs.Layout.{editionOf, tableBook}
+use Rattle.daybook.specs.Editions.{Editions}
+use Rattle.layout.specs.Layout.{editionIn, tableBook}
 use Rattle.layout.specs.Sound.{sound}
 use Rattle.energy.specs.Energy.{energyCall}
 use Rattle.history.specs.Runs.{Lent, lentStep}
@@ -24,11 +25,11 @@ use Rattle.history.specs.OtherRules.{Rule, energyCallBy, lentStepBy}
 abbrev pub anySettles : Rule
 anySettles w section x latestStart o = outcomeOf append section x latestStart o
 
-abbrev pub energyCallBefore : List ℤ → EnergyNotice → Numbers × List ℤ
-energyCallBefore = energyCallBy anySettles
+abbrev pub energyCallBefore : Editions → List ℤ → EnergyNotice → Numbers × List ℤ
+energyCallBefore E = energyCallBy E anySettles
 
-abbrev pub lentStepBefore : Call → Lent → Answer × Lent
-lentStepBefore = lentStepBy anySettles
+abbrev pub lentStepBefore : Editions → Call → Lent → Answer × Lent
+lentStepBefore E = lentStepBy E anySettles
 
 -- ---- what changed
 
@@ -46,29 +47,29 @@ pendingIn ed t m = maybe none (λ p. p .pending) (find (natOf m) (tableBook ed t
 abbrev pub correctedPoint : Entry → Point → Point
 correctedPoint x p = withEntries (fill x (kept (which p x) (x .start) (p .entry))) p
 
--- Of a table t in its edition.
-pub record CorrectsAlone (ed : Edition) (t : List ℤ) (n : EnergyNotice) : Type 0 where
+-- Of a table t in its edition, one of E.
+pub record CorrectsAlone (E : Editions) (ed : Edition) (t : List ℤ) (n : EnergyNotice) : Type 0 where
   -- Both fields are 0 now; the others are as they were.
-  pub answer : energyCall t n .0 ≡ take 3 (energyCallBefore t n .0) ++ (pos 0 ∷ pos 0 ∷ [])
+  pub answer : energyCall E t n .0 ≡ take 3 (energyCallBefore E t n .0) ++ (pos 0 ∷ pos 0 ∷ [])
   -- The request is still pending.
   pub request : Pending
   pub pending : pendingIn ed t (n .mirn) ≡ some request
-  pub stillPending : pendingIn ed (energyCall t n .1) (n .mirn) ≡ some request
+  pub stillPending : pendingIn ed (energyCall E t n .1) (n .mirn) ≡ some request
   -- The day book follows: its record is corrected, all else is as it was, and the table left stands for that book.
   pub point : Point
   pub found : find (natOf (n .mirn)) (tableBook ed t .points) ≡ some point
   pub dayBook :
       energy ed n (tableBook ed t) .1
       ≡ withPoint (natOf (n .mirn)) (correctedPoint (entryOf n) point) (tableBook ed t)
-  pub isSound : sound ed (energyCall t n .1) ≡ true
-  pub follows : tableBook ed (energyCall t n .1) ≡ energy ed n (tableBook ed t) .1
+  pub isSound : sound ed (energyCall E t n .1) ≡ true
+  pub follows : tableBook ed (energyCall E t n .1) ≡ energy ed n (tableBook ed t) .1
 
 -- From the same register, the only answers that change are those to replacements and recuts which named a registered
 -- User or a lapsed request; both fields are 0 there now, the request is still pending, and the day book follows.
-pub record OnlyAppendsSettle : Type 0 where
+pub record OnlyAppendsSettle (E : Editions) : Type 0 where
   pub asBefore :
       (L : Lent) (c : Call)
-      → ((n : EnergyNotice) → c ≡ notice! (energy! n) → named (energyCallBefore (L .table) n .0) ≡ false)
-      → lentStep c L ≡ lentStepBefore c L
+      → ((n : EnergyNotice) → c ≡ notice! (energy! n) → named (energyCallBefore E (L .table) n .0) ≡ false)
+      → lentStep E c L ≡ lentStepBefore E c L
   pub alone :
-      (t : List ℤ) (n : EnergyNotice) → named (energyCallBefore t n .0) ≡ true → CorrectsAlone (editionOf t) t n
+      (t : List ℤ) (n : EnergyNotice) → named (energyCallBefore E t n .0) ≡ true → CorrectsAlone E (editionIn E t) t n

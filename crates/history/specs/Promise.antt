@@ -7,9 +7,10 @@ use lib.ListN.{getD}
 use Rattle.numbers.specs.Naturals.{natOf}
 use Rattle.daybook.specs.declared.Edition.{Edition}
 use Rattle.daybook.specs.declared.Opening.{Opening}
-use Rattle.daybook.specs.declared.Ranges.{Ranges}
+use Rattle.daybook.specs.declared.NewRegister.{NewRegister}
 use Rattle.daybook.specs.Notices.{Numbers, operatorsIn, held, opening}
 use Rattle.daybook.specs.Calls.{Call, State, run}
+use Rattle.daybook.specs.Editions.{Editions}
 use Rattle.history.specs.Runs.{freshState}
 
 -- Does the operator of an opening hold fewer points than its reserve?
@@ -25,9 +26,13 @@ pub record Reserved (S : State) (refusal : Opening → ℤ) : Type 0 where
   pub never16 : (n : Opening) → BelowReserve S n → ¬ (refusal n ≡ pos 16)
   pub never19 : (n : Opening) → BelowReserve S n → ¬ (refusal n ≡ pos 19)
 
--- In the day book: after every list of calls from a fresh one, whatever the others opened, in any edition whose four
--- reserves fit its points. (Of tables and of the hub's bytes the claims about every list say it.)
+-- In the day book: after every list of calls from a fresh one, whatever the others opened and whatever was converted,
+-- in any two editions whose four reserves fit their points. (Of tables and of the hub's bytes the claims about every
+-- list say it.)
+abbrev pub ReservesFit : Edition → Type 0
+ReservesFit ed = 4 * ed .reserve ≤ ed .points
+
 abbrev pub InEveryEdition : Type 0
 InEveryEdition =
-    (ed : Edition) → 4 * ed .reserve ≤ ed .points → (n₀ : Ranges) (cs : List Call)
-    → let S : State = run cs (freshState ed n₀) in Reserved S (λ n. refusalIn (opening (S .edition) n (S .book) .0))
+    (E : Editions) → ReservesFit (E .standard) → ReservesFit (E .long) → (n₀ : NewRegister) (cs : List Call)
+    → let S : State = run E cs (freshState E n₀) in Reserved S (λ n. refusalIn (opening (S .edition) n (S .book) .0))

@@ -11,8 +11,9 @@ use lib.ListN.{length}
 use borrow.Author.Tests.{lt-leb}
 use Rattle.calendar.specs.Calendar.{holidayList}
 use Rattle.daybook.specs.declared.TransferRequest.{TransferRequest}
+use Rattle.daybook.specs.Editions.{editions}
 use Rattle.layout.specs.Layout.{editionOf}
-use Rattle.layout.proofs.Editions.{edition-fits}
+use Rattle.layout.proofs.Editions.{both-fit, edition-fits}
 use Rattle.transfer.specs.Transfer.{requestCall}
 use Rattle.transfer.proofs.Requests.{inRange, request-range, request-holidays, request-early}
 use Rattle.buffers.specs.Buffers.{numbersIn, holidaysIn}
@@ -24,19 +25,19 @@ too-many hs h = rw (lt-leb (length hs) 512 h)
 
 -- two lists that are none get the same
 refused-alike : (t : List ℤ) (n : TransferRequest) (hs ks : List ℤ) → holidayList hs ≡ false → holidayList ks ≡ false
-    → requestCall t n hs ≡ requestCall t n ks
+    → requestCall editions t n hs ≡ requestCall editions t n ks
 refused-alike t n hs ks h k = go (inRange n) refl
   where
-    go : (r : Bool) → inRange n ≡ r → requestCall t n hs ≡ requestCall t n ks
-    go false f = request-early (editionOf t) (edition-fits t) t refl n hs 2 (request-range n hs f) 1 refl ∙ sym (request-early (editionOf t) (edition-fits t) t refl n ks 2 (request-range n ks f) 1 refl)
-    go true f = request-early (editionOf t) (edition-fits t) t refl n hs 3 (request-holidays n hs f h) 2 refl ∙ sym (request-early (editionOf t) (edition-fits t) t refl n ks 3 (request-holidays n ks f k) 2 refl)
+    go : (r : Bool) → inRange n ≡ r → requestCall editions t n hs ≡ requestCall editions t n ks
+    go false f = request-early (editionOf t) (edition-fits editions both-fit t) t refl n hs 2 (request-range n hs f) 1 refl ∙ sym (request-early (editionOf t) (edition-fits editions both-fit t) t refl n ks 2 (request-range n ks f) 1 refl)
+    go true f = request-early (editionOf t) (edition-fits editions both-fit t) t refl n hs 3 (request-holidays n hs f h) 2 refl ∙ sym (request-early (editionOf t) (edition-fits editions both-fit t) t refl n ks 3 (request-holidays n ks f k) 2 refl)
 
-pub first-513 : (t : List ℤ) (n : TransferRequest) (b : List ℕ) → requestCall t n (numbersIn b (min 513 (length b / 8))) ≡ requestCall t n (holidaysIn b)
+pub first-513 : (t : List ℤ) (n : TransferRequest) (b : List ℕ) → requestCall editions t n (numbersIn b (min 513 (length b / 8))) ≡ requestCall editions t n (holidaysIn b)
 unfolding holidaysIn
 first-513 t n b =
     let k : ℕ = length b / 8 in
     ⊎-elim
-    (λ (l : k - 513 ≡ 0). let e : min 513 k ≡ k = omega arith in ap (λ m. requestCall t n (numbersIn b m)) e)
+    (λ (l : k - 513 ≡ 0). let e : min 513 k ≡ k = omega arith in ap (λ m. requestCall editions t n (numbersIn b m)) e)
     (λ (l : 0 < k - 513).
     refused-alike t n (numbersIn b (min 513 k)) (numbersIn b k)
     (too-many _ (omega (arith, numbers-length b (min 513 k)))) (too-many _ (omega (arith, numbers-length b k))))

@@ -5,7 +5,7 @@ use mathlib.Core.Option.{Option, none, some}
 use mathlib.Core.List.{List, [], _∷_, _++_}
 use Prim.Native.Nat.{ℕ, zero, suc, _≤_}
 use native.Mathlib.Omega.{arith}
-use lib.Dec.{leb}
+use lib.Dec.{leb, ltb}
 use lib.IntN.{ℤ, pos}
 use lib.ListN.{length, replicate}
 use borrow.Author.Tests.{leb-true}
@@ -14,7 +14,7 @@ use Rattle.numbers.specs.Search.{maybe}
 use Rattle.numbers.proofs.Bools.{both}
 use Rattle.calendar.specs.Calendar.{dayOf, isDate, dateCall}
 use Rattle.daybook.specs.declared.Edition.{Edition}
-use Rattle.daybook.specs.declared.Ranges.{Ranges}
+use Rattle.daybook.specs.declared.NewRegister.{NewRegister}
 use Rattle.daybook.specs.declared.Opening.{Opening}
 use Rattle.daybook.specs.declared.EnergyNotice.{EnergyNotice}
 use Rattle.daybook.specs.declared.StatusNotice.{StatusNotice}
@@ -24,10 +24,11 @@ use Rattle.daybook.specs.declared.Correction.{Correction}
 use Rattle.daybook.specs.declared.AccountQuery.{AccountQuery}
 use Rattle.daybook.specs.declared.AllocationQuery.{AllocationQuery}
 use Rattle.daybook.specs.Book.{Book, Point}
-use Rattle.daybook.specs.Notices.{Row, highestRefusal, Numbers, decide, find, onPoint, freshRows, fresh, operatorsIn, openingRows, opening, energyEarly, energyRows, energyRowsAt, energy, statusEarly, statusRows, status, requestEarly, requestRows, request, withdrawEarly, withdrawRows, withdraw}
+use Rattle.daybook.specs.Notices.{Row, highestRefusal, Numbers, decide, find, onPoint, freshRows, operatorsIn, openingRows, opening, energyEarly, energyRows, energyRowsAt, energy, statusEarly, statusRows, status, requestEarly, requestRows, request, withdrawEarly, withdrawRows, withdraw}
 use Rattle.daybook.specs.Corrections.{correctEarly, correctRows, correctRowsAt, correct}
 use Rattle.daybook.specs.Queries.{accountRows, account, allocateRows, allocate}
 use Rattle.daybook.specs.States.{stateRow, firstRow}
+use Rattle.daybook.specs.Editions.{editions, otherThan, convertRows}
 use Rattle.lists.proofs.Rows.{upTo, up-to-append, up-to-least}
 use Rattle.layout.specs.Layout.{tableLength, editionOf, tableBook}
 use Rattle.layout.specs.Sound.{sound}
@@ -40,6 +41,7 @@ use Rattle.correction.specs.Correction.{correctCall}
 use Rattle.account.specs.Account.{accountCall}
 use Rattle.allocate.specs.Allocate.{allocateCall}
 use Rattle.images.specs.Images.{saveCall, restoreRow, restoreCall}
+use Rattle.conversion.specs.Conversion.{convertCall}
 use Rattle.buffers.proofs.Ends.{refusalOf}
 
 decided : {X : Type 0} (r k : ℕ) (x : X) (w : Numbers × X) → refusalOf (decide r k x w .0) ≡ r
@@ -71,36 +73,32 @@ on-table k step ed t h = go (sound ed t)
 
 -- ---- each call
 
-pub fresh-small : (t : List ℤ) (n : Ranges) → refusalOf (freshCall t n .0) ≤ highestRefusal
-unfolding freshCall fresh freshRows upTo
-fresh-small t n = go (leb tableLength (length t))
-  where
-    go : (s : Bool) → refusalOf (cond s (answerAndTable (editionOf t) t (fresh n (tableBook (editionOf t) t))) (pos 1 ∷ [], t) .0) ≤ highestRefusal
-    go true = rw decided (up-to-least highestRefusal (freshRows n) refl)
-    go false = omega arith
+pub fresh-small : (t : List ℤ) (n : NewRegister) → refusalOf (freshCall editions t n .0) ≤ highestRefusal
+unfolding freshCall freshRows upTo
+fresh-small t n = rw decided (up-to-least highestRefusal ((1, ltb (length t) tableLength) ∷ freshRows n) refl)
 
-pub open-small : (t : List ℤ) (n : Opening) → refusalOf (openCall t n .0) ≤ highestRefusal
+pub open-small : (t : List ℤ) (n : Opening) → refusalOf (openCall editions t n .0) ≤ highestRefusal
 unfolding openCall opening openingRows upTo
 open-small t n = on-table 0 (opening (editionOf t) n) (editionOf t) t (λ B. rw decided (up-to-least highestRefusal (openingRows (editionOf t) n _ (operatorsIn (B .points))) refl))
 
-pub energy-small : (t : List ℤ) (n : EnergyNotice) → refusalOf (energyCall t n .0) ≤ highestRefusal
+pub energy-small : (t : List ℤ) (n : EnergyNotice) → refusalOf (energyCall editions t n .0) ≤ highestRefusal
 unfolding energyCall energy energyEarly energyRowsAt energyRows upTo
 energy-small t n = on-table 4 (energy (editionOf t) n) (editionOf t) t (λ B. on-point 4 (n .mirn) (energyEarly n) _ _ B refl (λ p. refl))
 
-pub status-small : (t : List ℤ) (n : StatusNotice) → refusalOf (statusCall t n .0) ≤ highestRefusal
+pub status-small : (t : List ℤ) (n : StatusNotice) → refusalOf (statusCall editions t n .0) ≤ highestRefusal
 unfolding statusCall status statusEarly statusRows upTo
 status-small t n = on-table 0 (status n) (editionOf t) t (λ B. on-point 0 (n .mirn) (statusEarly n) _ _ B refl (λ p. refl))
 
-pub request-small : (t : List ℤ) (n : TransferRequest) (hs : List ℤ) → refusalOf (requestCall t n hs .0) ≤ highestRefusal
+pub request-small : (t : List ℤ) (n : TransferRequest) (hs : List ℤ) → refusalOf (requestCall editions t n hs .0) ≤ highestRefusal
 unfolding requestCall request requestEarly requestRows upTo
 request-small t n hs =
     on-table 2 (request n hs) (editionOf t) t (λ B. on-point 2 (n .mirn) (requestEarly n hs) _ _ B refl (λ p. refl))
 
-pub withdraw-small : (t : List ℤ) (n : Withdrawal) → refusalOf (withdrawCall t n .0) ≤ highestRefusal
+pub withdraw-small : (t : List ℤ) (n : Withdrawal) → refusalOf (withdrawCall editions t n .0) ≤ highestRefusal
 unfolding withdrawCall withdraw withdrawEarly withdrawRows upTo
 withdraw-small t n = on-table 0 (withdraw n) (editionOf t) t (λ B. on-point 0 (n .mirn) (withdrawEarly n) _ _ B refl (λ p. refl))
 
-pub correct-small : (t : List ℤ) (n : Correction) → refusalOf (correctCall t n .0) ≤ highestRefusal
+pub correct-small : (t : List ℤ) (n : Correction) → refusalOf (correctCall editions t n .0) ≤ highestRefusal
 unfolding correctCall correct correctEarly correctRowsAt correctRows upTo
 correct-small t n = on-table 16 (correct n) (editionOf t) t (λ B. on-point 16 (n .mirn) (correctEarly n) _ _ B refl (λ p. refl))
 
@@ -114,7 +112,7 @@ date-small y m d = go (isDate y m d)
 
 -- ---- the queries
 
-pub account-small : (t : List ℤ) (n : AccountQuery) → refusalOf (accountCall t n) ≤ highestRefusal
+pub account-small : (t : List ℤ) (n : AccountQuery) → refusalOf (accountCall editions t n) ≤ highestRefusal
 unfolding accountCall account accountRows ofEdition upTo
 account-small t n = go (sound (editionOf t) t)
   where
@@ -122,7 +120,7 @@ account-small t n = go (sound (editionOf t) t)
     go true = rw decided (up-to-least highestRefusal (accountRows n) refl)
     go false = omega arith
 
-pub allocate-small : (t : List ℤ) (q : AllocationQuery) (room : ℕ) → refusalOf (allocateCall t q room .0) ≤ highestRefusal
+pub allocate-small : (t : List ℤ) (q : AllocationQuery) (room : ℕ) → refusalOf (allocateCall editions t q room .0) ≤ highestRefusal
 unfolding allocateCall allocate allocateRows ofEdition upTo
 allocate-small t q room = go (sound (editionOf t) t)
   where
@@ -130,7 +128,7 @@ allocate-small t q room = go (sound (editionOf t) t)
     go true = rw decided (up-to-least highestRefusal (allocateRows q room (tableBook (editionOf t) t)) refl)
     go false = omega arith
 
-pub save-small : (t : List ℤ) (n : ℤ) (image : List ℕ) → refusalOf (saveCall t n image .0) ≤ highestRefusal
+pub save-small : (t : List ℤ) (n : ℤ) (image : List ℕ) → refusalOf (saveCall editions t n image .0) ≤ highestRefusal
 unfolding saveCall upTo
 save-small t n image =
     rw decided (up-to-least highestRefusal ((1, not (sound (editionOf t) t)) ∷ stateRow n (length image) ∷ []) refl)
@@ -145,6 +143,12 @@ first-small n (r ∷ rs) h =
     go true l k = l
     go false l k = k
 
-pub restore-small : (t : List ℤ) (n : ℤ) (image : List ℕ) → refusalOf (restoreCall t n image .0) ≤ highestRefusal
+pub restore-small : (t : List ℤ) (n : ℤ) (image : List ℕ) → refusalOf (restoreCall editions t n image .0) ≤ highestRefusal
 unfolding restoreCall restoreRow upTo
 restore-small t n image = rw decided (first-small highestRefusal _ refl)
+
+pub convert-small : (t second : List ℤ) → refusalOf (convertCall editions t second .0) ≤ highestRefusal
+unfolding convertCall convertRows upTo
+convert-small t second =
+    let to : Edition = otherThan editions (editionOf t) in
+    rw decided (up-to-least highestRefusal ((1, not (sound (editionOf t) t)) ∷ convertRows to (length second) (tableBook (editionOf t) t)) refl)

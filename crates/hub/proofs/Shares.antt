@@ -13,11 +13,12 @@ use Rattle.numbers.proofs.Naturals.{same-true}
 use Rattle.daybook.specs.declared.AllocationQuery.{AllocationQuery}
 use Rattle.daybook.specs.Notices.{Numbers}
 use Rattle.daybook.specs.Queries.{allocationInRange, weights, total, pointShares, allocateRows, allocate}
+use Rattle.daybook.specs.Editions.{editions}
 use Rattle.lists.proofs.Splits.{split-length}
 use Rattle.layout.specs.Layout.{editionOf, tableBook}
 use Rattle.layout.specs.Sound.{sound}
 use Rattle.layout.specs.Calls.{ofEdition}
-use Rattle.layout.proofs.Editions.{edition-fits}
+use Rattle.layout.proofs.Editions.{both-fit, edition-fits}
 use Rattle.allocate.specs.Allocate.{allocateCall, placed}
 use Rattle.allocate.specs.InnerParts.{givenOf}
 use Rattle.allocate.proofs.Arrays.{points-few}
@@ -34,7 +35,7 @@ room-cut r = go (leb 32 r) refl
     go true e = le-leb 32 (min 32 r) (omega (arith, leb-true 32 r e))
     go false e = lt-leb 32 (min 32 r) (omega (arith, leb-false 32 r e))
 
-pub call-cut : (t : List ℤ) (q : AllocationQuery) (r : ℕ) → allocateCall t q (min 32 r) ≡ allocateCall t q r
+pub call-cut : (t : List ℤ) (q : AllocationQuery) (r : ℕ) → allocateCall editions t q (min 32 r) ≡ allocateCall editions t q r
 unfolding allocateCall allocate allocateRows ofEdition
 call-cut t q r = rw (room-cut r)
 
@@ -43,13 +44,13 @@ call-cut t q r = rw (room-cut r)
 given-32 : (t : List ℤ) → sound (editionOf t) t ≡ true → (q : AllocationQuery) → length (givenOf q (tableBook (editionOf t) t) .1) ≡ 32
 unfolding givenOf pointShares weights
 given-32 t s q =
-    let few : length (tableBook (editionOf t) t .points) ≤ 32 = points-few (editionOf t) (edition-fits t) t s in
+    let few : length (tableBook (editionOf t) t .points) ≤ 32 = points-few (editionOf t) (edition-fits editions both-fit t) t s in
     simp (length-append, split-length, length-map, length-replicate) (omega arith)
 
 -- where no row applies, all 32 places are there, and all are given
 module _ (t : List ℤ) (q : AllocationQuery) (room : ℕ) where
   abbrev w : Numbers × List ℤ
-  w = allocateCall t q room
+  w = allocateCall editions t q room
 
   abbrev pub Taken : Numbers × List ℤ → Type 0
   Taken v = getD (v .0) 0 (pos 0) ≡ pos 0 → (length (v .1) ≡ 32) × (32 ≤ room)
@@ -57,10 +58,10 @@ module _ (t : List ℤ) (q : AllocationQuery) (room : ℕ) where
   not-taken : (k : ℕ) (l : Numbers) → Taken (pos (suc k) ∷ l, [])
   not-taken k l z = absurd (omega (arith, ap natOf z))
 
-  pub taken-32 : Taken (allocateCall t q room)
+  pub taken-32 : Taken (allocateCall editions t q room)
   taken-32 = go (sound (editionOf t) t) (allocationInRange q room) (eqb (total (weights q (tableBook (editionOf t) t))) 0) refl refl refl
     where
-      go : (s i z : Bool) → sound (editionOf t) t ≡ s → allocationInRange q room ≡ i → eqb (total (weights q (tableBook (editionOf t) t))) 0 ≡ z → Taken (allocateCall t q room)
+      go : (s i z : Bool) → sound (editionOf t) t ≡ s → allocationInRange q room ≡ i → eqb (total (weights q (tableBook (editionOf t) t))) 0 ≡ z → Taken (allocateCall editions t q room)
       go false i z a b c = subst Taken (sym (call-unsound (editionOf t) t refl q room a)) (not-taken 0 (replicate 17 (pos 0)))
       go true false z a b c = subst Taken (sym (call-range (editionOf t) t refl q room a b)) (not-taken 1 (replicate 17 (pos 0)))
       go true true true a b c = subst Taken (sym (call-weightless (editionOf t) t refl q room a b (eqb-true (total (weights q (tableBook (editionOf t) t))) 0 c))) (not-taken 14 (replicate 17 (pos 0)))

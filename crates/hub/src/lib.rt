@@ -4,6 +4,7 @@ ghost use mathlib.Core.Path.{_≡_};
 ghost use Prim.Native.Nat.{_/_};
 ghost use lib.ListN.{length};
 ghost use Rattle.calendar.specs.Calendar.{dateCall};
+ghost use Rattle.daybook.specs.Editions.{editions};
 ghost use Rattle.opening.specs.Opening.{freshCall, openCall};
 ghost use Rattle.energy.specs.Energy.{energyCall};
 ghost use Rattle.status.specs.Status.{statusCall};
@@ -12,14 +13,15 @@ ghost use Rattle.correction.specs.Correction.{correctCall};
 ghost use Rattle.account.specs.Account.{accountCall};
 ghost use Rattle.allocate.specs.Allocate.{allocateCall};
 ghost use Rattle.images.specs.Images.{saveCall, restoreCall};
+ghost use Rattle.conversion.specs.Conversion.{convertCall};
 ghost use Rattle.buffers.specs.Buffers.{tableIn, holidaysIn, replied, writtenBytes, written, imageIn};
 use calendar::YearMonthDay;
 use daybook::AccountQuery;
 use daybook::AllocationQuery;
 use daybook::Correction;
 use daybook::EnergyNotice;
+use daybook::NewRegister;
 use daybook::Opening;
-use daybook::Ranges;
 use daybook::StatusNotice;
 use daybook::TransferRequest;
 use daybook::Withdrawal;
@@ -30,10 +32,15 @@ pub extern "C" fn petlumas_fresh(
     answer: &mut [u8],
     nondaily: i64,
     daily: i64,
+    edition: i64,
 ) -> i64
-    ensures { λ r. ⌜ (r, (now (register .exit), now (answer .exit))) ≡ written (freshCall (tableIn (now (register .entry))) (record { nondaily = nondaily; daily = daily })) (now (register .entry)) (now (answer .entry)) ⌝ }
+    ensures { λ r. ⌜ (r, (now (register .exit), now (answer .exit))) ≡ written (freshCall editions (tableIn (now (register .entry))) (record { nondaily = nondaily; daily = daily; edition = edition })) (now (register .entry)) (now (answer .entry)) ⌝ }
 {
-    let n = Ranges { nondaily, daily };
+    let n = NewRegister {
+        nondaily,
+        daily,
+        edition,
+    };
     let mut t = [0i64; places::TABLE_LENGTH];
     let table = buffers::table_in(register, &mut t);
     let a = opening::fresh(table, n);
@@ -53,7 +60,7 @@ pub extern "C" fn petlumas_open(
     section: i64,
     operator: i64,
 ) -> i64
-    ensures { λ r. ⌜ (r, (now (register .exit), now (answer .exit))) ≡ written (openCall (tableIn (now (register .entry))) (record { mirn = mirn; kind = kind; user = user; install = install; base = base; section = section; operator = operator })) (now (register .entry)) (now (answer .entry)) ⌝ }
+    ensures { λ r. ⌜ (r, (now (register .exit), now (answer .exit))) ≡ written (openCall editions (tableIn (now (register .entry))) (record { mirn = mirn; kind = kind; user = user; install = install; base = base; section = section; operator = operator })) (now (register .entry)) (now (answer .entry)) ⌝ }
 {
     let n = Opening {
         mirn,
@@ -82,7 +89,7 @@ pub extern "C" fn petlumas_energy(
     type_: i64,
     confirmed: i64,
 ) -> i64
-    ensures { λ r. ⌜ (r, (now (register .exit), now (answer .exit))) ≡ written (energyCall (tableIn (now (register .entry))) (record { mirn = mirn; start = start; end = end; energy = energy; «type_» = «type_»; confirmed = confirmed })) (now (register .entry)) (now (answer .entry)) ⌝ }
+    ensures { λ r. ⌜ (r, (now (register .exit), now (answer .exit))) ≡ written (energyCall editions (tableIn (now (register .entry))) (record { mirn = mirn; start = start; end = end; energy = energy; «type_» = «type_»; confirmed = confirmed })) (now (register .entry)) (now (answer .entry)) ⌝ }
 {
     let n = EnergyNotice {
         mirn,
@@ -107,7 +114,7 @@ pub extern "C" fn petlumas_status(
     day: i64,
     on: i64,
 ) -> i64
-    ensures { λ r. ⌜ (r, (now (register .exit), now (answer .exit))) ≡ written (statusCall (tableIn (now (register .entry))) (record { mirn = mirn; day = day; on = on })) (now (register .entry)) (now (answer .entry)) ⌝ }
+    ensures { λ r. ⌜ (r, (now (register .exit), now (answer .exit))) ≡ written (statusCall editions (tableIn (now (register .entry))) (record { mirn = mirn; day = day; on = on })) (now (register .entry)) (now (answer .entry)) ⌝ }
 {
     let n = StatusNotice { mirn, day, on };
     let mut t = [0i64; places::TABLE_LENGTH];
@@ -127,7 +134,7 @@ pub extern "C" fn petlumas_request(
     proposed: i64,
     nochange: i64,
 ) -> i64
-    ensures { λ r. ⌜ (r, (now (register .exit), now (answer .exit))) ≡ written (requestCall (tableIn (now (register .entry))) (record { mirn = mirn; user = user; proposed = proposed; nochange = nochange }) (holidaysIn (now (holidays .entry)))) (now (register .entry)) (now (answer .entry)) ⌝ }
+    ensures { λ r. ⌜ (r, (now (register .exit), now (answer .exit))) ≡ written (requestCall editions (tableIn (now (register .entry))) (record { mirn = mirn; user = user; proposed = proposed; nochange = nochange }) (holidaysIn (now (holidays .entry)))) (now (register .entry)) (now (answer .entry)) ⌝ }
 {
     let n = TransferRequest {
         mirn,
@@ -151,7 +158,7 @@ pub extern "C" fn petlumas_withdraw(
     mirn: i64,
     user: i64,
 ) -> i64
-    ensures { λ r. ⌜ (r, (now (register .exit), now (answer .exit))) ≡ written (withdrawCall (tableIn (now (register .entry))) (record { mirn = mirn; user = user })) (now (register .entry)) (now (answer .entry)) ⌝ }
+    ensures { λ r. ⌜ (r, (now (register .exit), now (answer .exit))) ≡ written (withdrawCall editions (tableIn (now (register .entry))) (record { mirn = mirn; user = user })) (now (register .entry)) (now (answer .entry)) ⌝ }
 {
     let n = Withdrawal { mirn, user };
     let mut t = [0i64; places::TABLE_LENGTH];
@@ -170,7 +177,7 @@ pub extern "C" fn petlumas_correct(
     day: i64,
     notice: i64,
 ) -> i64
-    ensures { λ r. ⌜ (r, (now (register .exit), now (answer .exit))) ≡ written (correctCall (tableIn (now (register .entry))) (record { mirn = mirn; user = user; day = day; notice = notice })) (now (register .entry)) (now (answer .entry)) ⌝ }
+    ensures { λ r. ⌜ (r, (now (register .exit), now (answer .exit))) ≡ written (correctCall editions (tableIn (now (register .entry))) (record { mirn = mirn; user = user; day = day; notice = notice })) (now (register .entry)) (now (answer .entry)) ⌝ }
 {
     let n = Correction {
         mirn,
@@ -193,7 +200,7 @@ pub extern "C" fn petlumas_account(
     from: i64,
     to: i64,
 ) -> i64
-    ensures { λ r. ⌜ (r, now (answer .exit)) ≡ replied (accountCall (tableIn (now (register .entry))) (record { user = user; from = from; to = to })) (now (answer .entry)) ⌝ }
+    ensures { λ r. ⌜ (r, now (answer .exit)) ≡ replied (accountCall editions (tableIn (now (register .entry))) (record { user = user; from = from; to = to })) (now (answer .entry)) ⌝ }
 {
     let n = AccountQuery { user, from, to };
     let mut t = [0i64; places::TABLE_LENGTH];
@@ -216,7 +223,7 @@ pub extern "C" fn petlumas_allocate(
     uag: i64,
     clp: i64,
 ) -> i64
-    ensures { λ r. ⌜ (r, (now (shares .exit), now (answer .exit))) ≡ written (allocateCall (tableIn (now (register .entry))) (record { gasday = gasday; from = from; to = to; tdq = tdq; uag = uag; clp = clp }) (length (now (shares .entry)) / 8)) (now (shares .entry)) (now (answer .entry)) ⌝ }
+    ensures { λ r. ⌜ (r, (now (shares .exit), now (answer .exit))) ≡ written (allocateCall editions (tableIn (now (register .entry))) (record { gasday = gasday; from = from; to = to; tdq = tdq; uag = uag; clp = clp }) (length (now (shares .entry)) / 8)) (now (shares .entry)) (now (answer .entry)) ⌝ }
 {
     let q = AllocationQuery {
         gasday,
@@ -242,7 +249,7 @@ pub extern "C" fn petlumas_save(
     image: &mut [u8],
     state: i64,
 ) -> i64
-    ensures { λ r. ⌜ (r, (now (image .exit), now (answer .exit))) ≡ writtenBytes (saveCall (tableIn (now (register .entry))) state (imageIn (now (image .entry)) (now (answer .entry)))) (now (image .entry)) (now (answer .entry)) ⌝ }
+    ensures { λ r. ⌜ (r, (now (image .exit), now (answer .exit))) ≡ writtenBytes (saveCall editions (tableIn (now (register .entry))) state (imageIn (now (image .entry)) (now (answer .entry)))) (now (image .entry)) (now (answer .entry)) ⌝ }
 {
     let mut t = [0i64; places::TABLE_LENGTH];
     let table = buffers::table_in(register, &mut t);
@@ -259,7 +266,7 @@ pub extern "C" fn petlumas_restore(
     image: &[u8],
     state: i64,
 ) -> i64
-    ensures { λ r. ⌜ (r, (now (register .exit), now (answer .exit))) ≡ written (restoreCall (tableIn (now (register .entry))) state (imageIn (now (image .entry)) (now (answer .entry)))) (now (register .entry)) (now (answer .entry)) ⌝ }
+    ensures { λ r. ⌜ (r, (now (register .exit), now (answer .exit))) ≡ written (restoreCall editions (tableIn (now (register .entry))) state (imageIn (now (image .entry)) (now (answer .entry)))) (now (register .entry)) (now (answer .entry)) ⌝ }
 {
     let mut t = [0i64; places::TABLE_LENGTH];
     let table = buffers::table_in(register, &mut t);
@@ -267,6 +274,20 @@ pub extern "C" fn petlumas_restore(
     let a = images::restore(table, state, &image[..n]);
     let numbers = daybook::notice_numbers(a);
     buffers::finish(register, answer, table, &numbers)
+}
+
+// The register in the other edition, in a second buffer.
+#[no_mangle]
+pub extern "C" fn petlumas_convert(register: &[u8], answer: &mut [u8], other: &mut [u8]) -> i64
+    ensures { λ r. ⌜ (r, (now (other .exit), now (answer .exit))) ≡ written (convertCall editions (tableIn (now (register .entry))) (tableIn (now (other .entry)))) (now (other .entry)) (now (answer .entry)) ⌝ }
+{
+    let mut t = [0i64; places::TABLE_LENGTH];
+    let table = buffers::table_in(register, &mut t);
+    let mut u = [0i64; places::TABLE_LENGTH];
+    let second = buffers::table_in(other, &mut u);
+    let a = conversion::convert(table, second);
+    let numbers = daybook::notice_numbers(a);
+    buffers::finish(other, answer, second, &numbers)
 }
 
 #[no_mangle]

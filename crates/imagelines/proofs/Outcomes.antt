@@ -11,6 +11,7 @@ use lib.ListN.{take, drop, set}
 use lib.Seq.{drop-drop}
 use Rattle.words.specs.Sums.{sumsOf}
 use Rattle.daybook.specs.Conversions.{num}
+use Rattle.daybook.specs.Editions.{editions}
 use Rattle.images.specs.Images.{saveCall, restoreCall}
 use Rattle.buffers.specs.Buffers.{tableIn, writtenBytes, written, imageIn}
 use Rattle.printing.specs.Rows.{rowBytes, rowOf, Printed}
@@ -42,7 +43,7 @@ module _ (lent images : List ℕ) (xs : List ℤ) (t : Bool) (test : t ≡ lends
     long = omega arith
 
     pub saved : {out out' : List ℕ} {at r : ℕ} (result : ℤ) (u answer : List ℕ)
-        → (result, (u, answer)) ≡ writtenBytes (saveCall (tableIn lent) (num xs 0) (imageIn (bytesAt images a (e - a)) blank)) (bytesAt images a (e - a)) blank
+        → (result, (u, answer)) ≡ writtenBytes (saveCall editions (tableIn lent) (num xs 0) (imageIn (bytesAt images a (e - a)) blank)) (bytesAt images a (e - a)) blank
         → r ≤ at + rowBytes → Printed out at (answered answer) out' r
         → Played (saveLine lent images xs) images out at (take a images ++ (u ++ drop (e - a) (drop a images))) out' r
     unfolding saveLine
@@ -53,7 +54,7 @@ module _ (lent images : List ℕ) (xs : List ℤ) (t : Bool) (test : t ≡ lends
         rw (← test, z) (record { room = h; left = rw (long, drop-drop (size xs 2) a images, a-is, bytes); text = rw numbers at w })
 
     pub restored : {out out' : List ℕ} {at r : ℕ} (result : ℤ) (u answer : List ℕ)
-        → (result, (u, answer)) ≡ written (restoreCall (tableIn lent) (num xs 0) (imageIn (bytesAt images a (e - a)) blank)) lent blank
+        → (result, (u, answer)) ≡ written (restoreCall editions (tableIn lent) (num xs 0) (imageIn (bytesAt images a (e - a)) blank)) lent blank
         → r ≤ at + rowBytes → Printed out at (answered answer) out' r
         → Played (restoreLine lent images xs) lent out at u out' r
     unfolding restoreLine

@@ -14,6 +14,7 @@ use Rattle.words.specs.Words.{wordAt}
 use Rattle.words.specs.Sums.{sumsOf}
 use Rattle.daybook.specs.Notices.{Numbers}
 use Rattle.daybook.specs.Conversions.{num}
+use Rattle.daybook.specs.Editions.{editions}
 use Rattle.images.specs.Images.{saveCall, restoreCall}
 use Rattle.buffers.specs.Buffers.{tableIn, writtenBytes, written, imageIn}
 use Rattle.journal.specs.declared.ImageWord.{ImageWord}
@@ -62,7 +63,7 @@ answered answer = rowOf (wordAt answer 0 ∷ [])
 unfoldable pub saveLine : List ℕ → List ℕ → List ℤ → LineResult
 saveLine lent images xs =
     let image : List ℕ = lentImage images xs in
-    let call : Numbers × List ℕ = saveCall (tableIn lent) (num xs 0) (imageIn image blank) in
+    let call : Numbers × List ℕ = saveCall editions (tableIn lent) (num xs 0) (imageIn image blank) in
     let w : ℤ × (List ℕ × List ℕ) = writtenBytes call image blank in
     cond (lendsImage xs)
     (some (answered (w .1 .1), withBytesAt images (imageAt (size xs 1)) (size xs 2) (w .1 .0)))
@@ -72,7 +73,7 @@ saveLine lent images xs =
 unfoldable pub restoreLine : List ℕ → List ℕ → List ℤ → LineResult
 restoreLine lent images xs =
     let image : List ℕ = lentImage images xs in
-    let w : ℤ × (List ℕ × List ℕ) = written (restoreCall (tableIn lent) (num xs 0) (imageIn image blank)) lent blank in
+    let w : ℤ × (List ℕ × List ℕ) = written (restoreCall editions (tableIn lent) (num xs 0) (imageIn image blank)) lent blank in
     cond (lendsImage xs) (some (answered (w .1 .1), w .1 .0)) none
 
 -- ---- lines of the journal's own

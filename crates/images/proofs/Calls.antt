@@ -13,8 +13,9 @@ use Rattle.numbers.proofs.Bools.{both}
 use Rattle.daybook.specs.Notices.{Row, least, Numbers, decide}
 use Rattle.daybook.specs.States.{isState, imageLength, stateRow, firstRow}
 use Rattle.daybook.proofs.Kept.{Kept, kept-by}
+use Rattle.daybook.specs.Editions.{Editions}
 use Rattle.lists.proofs.Rows.{decide-keeps}
-use Rattle.layout.specs.Layout.{tableLength, editionOf}
+use Rattle.layout.specs.Layout.{tableLength, editionIn}
 use Rattle.layout.specs.Sound.{sound}
 use Rattle.images.specs.Blocks.{withImage, intact, ofState, imageNumbers}
 use Rattle.images.specs.Images.{saveCall, restoreRow, restoreCall}
@@ -26,25 +27,25 @@ asked n image = isState n && leb imageLength (length image)
 
 -- ---- save
 
-module _ (t : List ℤ) (n : ℤ) (image : List ℕ) where
+module _ (E : Editions) (t : List ℤ) (n : ℤ) (image : List ℕ) where
   -- by its two tests
   abbrev saveBy : Bool → Bool → Numbers × List ℕ
   saveBy whole ranged =
       decide (least ((1, not whole) ∷ (2, not ranged) ∷ [])) 0 image ([], withImage (natOf n) t image)
 
-  save-is : saveCall t n image ≡ saveBy (sound (editionOf t) t) (asked n image)
+  save-is : saveCall E t n image ≡ saveBy (sound (editionIn E t) t) (asked n image)
   unfolding saveCall
   save-is = refl
 
-  pub save-kept : Kept image (saveCall t n image)
+  pub save-kept : Kept image (saveCall E t n image)
   unfolding saveCall
   save-kept = kept-by _ image _
 
-  pub save-length : length (saveCall t n image .1) ≡ length image
+  pub save-length : length (saveCall E t n image .1) ≡ length image
   unfolding saveCall
   save-length = decide-keeps 0 image _ (λ b. length b ≡ length image) _ refl (λ z. length-image (natOf n) t image)
 
-  pub save-unsound : sound (editionOf t) t ≡ false → saveCall t n image ≡ (pos 1 ∷ [], image)
+  pub save-unsound : sound (editionIn E t) t ≡ false → saveCall E t n image ≡ (pos 1 ∷ [], image)
   unfolding least decide
   save-unsound e = save-is ∙ ap (λ b. saveBy b (asked n image)) e ∙ go (asked n image)
     where
@@ -52,11 +53,11 @@ module _ (t : List ℤ) (n : ℤ) (image : List ℕ) where
       go true = refl
       go false = refl
 
-  pub save-out : sound (editionOf t) t ≡ true → asked n image ≡ false → saveCall t n image ≡ (pos 2 ∷ [], image)
+  pub save-out : sound (editionIn E t) t ≡ true → asked n image ≡ false → saveCall E t n image ≡ (pos 2 ∷ [], image)
   unfolding least decide
   save-out e f = save-is ∙ ap₂ saveBy e f
 
-  pub save-entered : sound (editionOf t) t ≡ true → asked n image ≡ true → saveCall t n image ≡ (pos 0 ∷ [], withImage (natOf n) t image)
+  pub save-entered : sound (editionIn E t) t ≡ true → asked n image ≡ true → saveCall E t n image ≡ (pos 0 ∷ [], withImage (natOf n) t image)
   unfolding least decide
   save-entered e f = save-is ∙ ap₂ saveBy e f
 
@@ -103,7 +104,7 @@ module _ (n : ℤ) (image : List ℕ) where
       go true e z = leb-true imageLength (length image) (both (isState n) (leb imageLength (length image)) e .1)
       go false e z = absurd (omega arith)
 
-module _ (t : List ℤ) (n : ℤ) (image : List ℕ) where
+module _ (E : Editions) (t : List ℤ) (n : ℤ) (image : List ℕ) where
   abbrev held : List ℤ
   held = imageNumbers image
 
@@ -113,49 +114,49 @@ module _ (t : List ℤ) (n : ℤ) (image : List ℕ) where
   abbrev lastRow : Bool → List Row
   lastRow whole = (1, not whole) ∷ []
 
-  pub restore-kept : Kept t (restoreCall t n image)
+  pub restore-kept : Kept t (restoreCall E t n image)
   unfolding restoreCall
   restore-kept = kept-by _ t _
 
-  pub restore-short : length t < tableLength → restoreCall t n image ≡ (pos 1 ∷ [], t)
+  pub restore-short : length t < tableLength → restoreCall E t n image ≡ (pos 1 ∷ [], t)
   unfolding restoreCall restoreRow firstRow decide
   restore-short h = rw (lt-ltb (length t) tableLength h)
 
   -- a table that is long enough
   module _ (h : tableLength ≤ length t) where
-    restore-is : restoreCall t n image ≡ decide (firstRow (rows ++ lastRow (sound (editionOf held) held))) 0 t ([], held ++ drop tableLength t)
+    restore-is : restoreCall E t n image ≡ decide (firstRow (rows ++ lastRow (sound (editionIn E held) held))) 0 t ([], held ++ drop tableLength t)
     unfolding restoreCall restoreRow firstRow
     restore-is = rw (le-ltb (length t) tableLength h)
 
-    pub restore-row : (r : ℕ) → firstRow rows ≡ suc r → restoreCall t n image ≡ (pos (suc r) ∷ [], t)
+    pub restore-row : (r : ℕ) → firstRow rows ≡ suc r → restoreCall E t n image ≡ (pos (suc r) ∷ [], t)
     unfolding decide
-    restore-row r e = restore-is ∙ ap (λ x. decide x 0 t ([], held ++ drop tableLength t)) (first-row rows (lastRow (sound (editionOf held) held)) r e)
+    restore-row r e = restore-is ∙ ap (λ x. decide x 0 t ([], held ++ drop tableLength t)) (first-row rows (lastRow (sound (editionIn E held) held)) r e)
 
-    pub restore-out : asked n image ≡ false → restoreCall t n image ≡ (pos 2 ∷ [], t)
+    pub restore-out : asked n image ≡ false → restoreCall E t n image ≡ (pos 2 ∷ [], t)
     restore-out e = restore-row 1 (image-out n image e)
 
     -- the row that the code found
-    pub restore-sent : (r : ℕ) → r ≡ firstRow rows → (r ≡ 0 → ⊥) → restoreCall t n image ≡ (pos r ∷ [], t)
+    pub restore-sent : (r : ℕ) → r ≡ firstRow rows → (r ≡ 0 → ⊥) → restoreCall E t n image ≡ (pos r ∷ [], t)
     restore-sent zero e f = absurd (f refl)
     restore-sent (suc r) e f = restore-row r (sym e)
 
-    passed : firstRow rows ≡ 0 → restoreCall t n image ≡ decide (firstRow (lastRow (sound (editionOf held) held))) 0 t ([], held ++ drop tableLength t)
+    passed : firstRow rows ≡ 0 → restoreCall E t n image ≡ decide (firstRow (lastRow (sound (editionIn E held) held))) 0 t ([], held ++ drop tableLength t)
     unfolding firstRow
     passed e =
         restore-is
         ∙ ap (λ x. decide x 0 t ([], held ++ drop tableLength t)) (go (stateRow n (length image) .1) (not (intact image)) (not (ofState (natOf n) image)) e)
       where
         go : (a b c : Bool) → firstRow ((2, a) ∷ (17, b) ∷ (18, c) ∷ []) ≡ 0
-            → firstRow ((2, a) ∷ (17, b) ∷ (18, c) ∷ lastRow (sound (editionOf held) held)) ≡ firstRow (lastRow (sound (editionOf held) held))
+            → firstRow ((2, a) ∷ (17, b) ∷ (18, c) ∷ lastRow (sound (editionIn E held) held)) ≡ firstRow (lastRow (sound (editionIn E held) held))
         go true b c e = absurd (omega arith)
         go false true c e = absurd (omega arith)
         go false false true e = absurd (omega arith)
         go false false false e = refl
 
-    pub restore-unsound : firstRow rows ≡ 0 → sound (editionOf held) held ≡ false → restoreCall t n image ≡ (pos 1 ∷ [], t)
+    pub restore-unsound : firstRow rows ≡ 0 → sound (editionIn E held) held ≡ false → restoreCall E t n image ≡ (pos 1 ∷ [], t)
     unfolding firstRow decide
     restore-unsound e f = passed e ∙ ap (λ b. decide (firstRow (lastRow b)) 0 t ([], held ++ drop tableLength t)) f
 
-    pub restore-entered : firstRow rows ≡ 0 → sound (editionOf held) held ≡ true → restoreCall t n image ≡ (pos 0 ∷ [], held ++ drop tableLength t)
+    pub restore-entered : firstRow rows ≡ 0 → sound (editionIn E held) held ≡ true → restoreCall E t n image ≡ (pos 0 ∷ [], held ++ drop tableLength t)
     unfolding firstRow decide
     restore-entered e f = passed e ∙ ap (λ b. decide (firstRow (lastRow b)) 0 t ([], held ++ drop tableLength t)) f

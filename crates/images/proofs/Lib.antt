@@ -1,6 +1,5 @@
 -- Laws of images, cited by the proofs of this crate and of those above it.
 mod Sums
-mod Copies
 pub mod Blocks
 pub mod Alike
 pub mod Saved

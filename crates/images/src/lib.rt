@@ -11,6 +11,7 @@ ghost use Rattle.numbers.specs.Naturals.{natOf};
 ghost use Rattle.numbers.specs.Answers.{refused};
 ghost use Rattle.daybook.specs.Calls.{noticeNumbers, noticeRefused};
 ghost use Rattle.daybook.specs.States.{isState, imageLength, stateRow, firstRow};
+ghost use Rattle.daybook.specs.Editions.{editions};
 ghost use Rattle.layout.specs.Layout.{tableLength};
 ghost use Rattle.images.specs.Blocks.{blockCount, checkOf, withBlock, withImage, intactAt, intact as Blocks·intact, ofState, imageNumbers};
 ghost use Rattle.images.specs.Images.{saveCall, restoreCall};
@@ -82,7 +83,7 @@ fn in_range(state: i64, image: &[u8]) -> bool
 
 // Saves the register into the image of a state number.
 pub fn save(t: &[i64], state: i64, image: &mut [u8]) -> NoticeAnswer
-    ensures { λ r. ⌜ (noticeNumbers r ≡ saveCall (now (t .entry)) state (now (image .entry)) .0) × (now (image .exit) ≡ saveCall (now (t .entry)) state (now (image .entry)) .1) × (noticeRefused r ≡ refused (noticeNumbers r)) ⌝ }
+    ensures { λ r. ⌜ (noticeNumbers r ≡ saveCall editions (now (t .entry)) state (now (image .entry)) .0) × (now (image .exit) ≡ saveCall editions (now (t .entry)) state (now (image .entry)) .1) × (noticeRefused r ≡ refused (noticeNumbers r)) ⌝ }
 {
     let ed = table::edition(t);
     if !table::sound(t, ed) {
@@ -164,22 +165,10 @@ fn take_blocks(image: &[u8], t: &mut [i64])
     }
 }
 
-// The register's numbers, from one table to another.
-fn put_register(t: &mut [i64], held: &[i64])
-    requires { ⌜ (tableLength ≤ length (now t)) × (tableLength ≤ length (now held)) ⌝ }
-    ensures { λ _. ⌜ now (t .exit) ≡ take tableLength (now (held .entry)) ++ drop tableLength (now (t .entry)) ⌝ }
-{
-    let mut place = 0;
-    while place < places::TABLE_LENGTH {
-        t[place] = held[place];
-        place += 1;
-    }
-}
-
 // The register of an image, in a table that may be unsound. The table is written only where the register is known to be
 // sound.
 pub fn restore(t: &mut [i64], state: i64, image: &[u8]) -> NoticeAnswer
-    ensures { λ r. ⌜ (noticeNumbers r ≡ restoreCall (now (t .entry)) state (now (image .entry)) .0) × (now (t .exit) ≡ restoreCall (now (t .entry)) state (now (image .entry)) .1) × (noticeRefused r ≡ refused (noticeNumbers r)) ⌝ }
+    ensures { λ r. ⌜ (noticeNumbers r ≡ restoreCall editions (now (t .entry)) state (now (image .entry)) .0) × (now (t .exit) ≡ restoreCall editions (now (t .entry)) state (now (image .entry)) .1) × (noticeRefused r ≡ refused (noticeNumbers r)) ⌝ }
 {
     if t.len() < places::TABLE_LENGTH {
         return NoticeAnswer::Refused(1);
@@ -194,6 +183,6 @@ pub fn restore(t: &mut [i64], state: i64, image: &[u8]) -> NoticeAnswer
     if !table::sound(&held, ed) {
         return NoticeAnswer::Refused(1);
     }
-    put_register(t, &held);
+    rows::copy_first(t, &held, places::TABLE_LENGTH);
     NoticeAnswer::Entered
 }

@@ -54,6 +54,7 @@ pub enum Command {
     Hub,
     Unknown,
     Image(ImageWord),
+    Convert,
 }
 
 // What a word stands for.
@@ -252,6 +253,7 @@ pub fn named(w: &[u8]) -> Command
     let c = pick(w, b"tlen", Command::Lend, c);
     let c = pick(w, b"alen", Command::Room, c);
     let c = pick(w, b"hub", Command::Hub, c);
+    let c = pick(w, b"convert", Command::Convert, c);
     transfer_or(w, notice_or(w, query_or(w, image_or(w, c))))
 }
 

@@ -21,4 +21,5 @@ pub mod Mirns
 pub mod SoundParts
 pub mod Editions
 pub mod Notices
+pub mod NewBooks
 pub mod Words

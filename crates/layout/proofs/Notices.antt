@@ -63,10 +63,10 @@ module _ (ed : Edition) (fits : Fits ed) where
           ∙ front-holds (take tableLength t) f (drop tableLength t) .isSound))
 
   -- and one of a register's length stays that long
-  pub written-length : {R : Register} → WellFormed ed R → (t : List ℤ) → OperatorsKept (registerOf ed t .points) (R .points)
-      → length t ≡ tableLength → length (withBook ed t (bookOf R)) ≡ tableLength
-  written-length {R} ok t kept h =
-      ap length (written-is ed ok t kept) ∙ length-append (layout ed R) (drop tableLength t)
+  pub laid-length : {R : Register} → WellFormed ed R → (t : List ℤ) → length t ≡ tableLength
+      → length (layout ed R ++ drop tableLength t) ≡ tableLength
+  laid-length {R} ok t h =
+      length-append (layout ed R) (drop tableLength t)
       ∙ sum (length (layout ed R)) (length (drop tableLength t)) (length t) laid (length-drop tableLength t) h
     where
       laid : length (layout ed R) ≡ tableLength
@@ -74,6 +74,10 @@ module _ (ed : Edition) (fits : Fits ed) where
 
       sum : (x y n : ℕ) → x ≡ tableLength → y ≡ n - tableLength → n ≡ tableLength → x + y ≡ tableLength
       sum x y n a b c = omega arith
+
+  pub written-length : {R : Register} → WellFormed ed R → (t : List ℤ) → OperatorsKept (registerOf ed t .points) (R .points)
+      → length t ≡ tableLength → length (withBook ed t (bookOf R)) ≡ tableLength
+  written-length ok t kept h = ap length (written-is ed ok t kept) ∙ laid-length ok t h
 
   module _ (t : List ℤ) (s : sound ed t ≡ true) (c : Notice) where
     abbrev B : Book

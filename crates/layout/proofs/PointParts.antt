@@ -68,7 +68,7 @@ withPoints l R = record { nondaily = R .nondaily; daily = R .daily; points = l }
 module _ (ed : Edition) (R : Register) where
   -- the first eight numbers, with n points
   abbrev pub eight : ℕ → List ℤ
-  eight n = pad 8 (pos n ∷ R .nondaily ∷ R .daily ∷ [])
+  eight n = pad 8 (pos n ∷ R .nondaily ∷ R .daily ∷ pos (ed .number) ∷ [])
 
   -- the header and the points l, with n points said
   abbrev pub upTo : ℕ → List Lists → List ℤ

@@ -22,6 +22,10 @@ use Rattle.layout.proofs.PartLays.{Counts, counts, part-lays}
 use Rattle.layout.proofs.Parts.{part-ends}
 use Rattle.layout.proofs.TableSound.{Tested, tested}
 
+-- as many records as there is room for in n numbers
+pub room-is : (n room : ℕ) → n ≡ 48 + 4 * room → (n - 48) / 4 ≡ room
+room-is n room e = omega arith
+
 -- ---- one part
 
 pub sound-part : (p : List ℤ) (room : ℕ) → length p ≡ 48 + 4 * room → length p ≤ 7680 → partSound p ≡ true → SoundPart p
@@ -54,12 +58,8 @@ module _ {p : List ℤ} (s : SoundPart p) where
 
 -- ---- the layout of a point's lists
 
--- as many records as there is room for
 pub room-laid : {room : ℕ} {q : Lists} → Few room q → roomOf (pointNumbers room q) ≡ room
-room-laid {room} {q} f = go (length (pointNumbers room q)) (length-point f)
-  where
-    go : (n : ℕ) → n ≡ 48 + 4 * room → (n - 48) / 4 ≡ room
-    go n e = omega arith
+room-laid {room} {q} f = room-is (length (pointNumbers room q)) room (length-point f)
 
 pub laid-sound : {room : ℕ} {q : Lists} → Well room q → 48 + 4 * room ≤ 7680 → SoundPart (pointNumbers room q)
 laid-sound {room} {q} w h =
@@ -88,7 +88,4 @@ module _ (ed : Edition) (f : Fits ed) (t : List ℤ) (i : ℕ) where
         (all-at _ (numAt t 0) (tested ed t s .parts) i h)
 
     pub room-at : roomOf (partOf ed t i) ≡ ed .records
-    room-at = go (length (partOf ed t i)) long
-      where
-        go : (n : ℕ) → n ≡ 48 + 4 * ed .records → (n - 48) / 4 ≡ ed .records
-        go n e = omega arith
+    room-at = room-is (length (partOf ed t i)) (ed .records) long

@@ -8,7 +8,7 @@ use native.Mathlib.Omega.{arith}
 use lib.Dec.{leb, eqb}
 use lib.ListN.{length, drop, length-append, List·getD-append, List·getD-eq-default}
 use lib.IntN.{ℤ, pos}
-use borrow.Author.Tests.{le-leb}
+use borrow.Author.Tests.{le-leb, eq-eqb}
 use Rattle.numbers.specs.Rows.{all}
 use Rattle.numbers.proofs.Rows.{all-of}
 use Rattle.numbers.proofs.Bools.{join}
@@ -79,7 +79,10 @@ module _ (ed : Edition) (fits : Fits ed) {R : Register} (w : WellFormed ed R) (r
   long : leb tableLength (length t) ≡ true
   long = le-leb tableLength (length t) (omega (arith, length-append (layout ed R) rest, laid))
 
-  spare : zeros t 3 8 ≡ true
+  own-number : eqb (ed .number) (ed .number) ≡ true
+  own-number = eq-eqb (ed .number) (ed .number) refl
+
+  spare : zeros t 4 8 ≡ true
   unfolding zeros all layout pad
   spare = refl
 
@@ -104,4 +107,4 @@ module _ (ed : Edition) (fits : Fits ed) {R : Register} (w : WellFormed ed R) (r
   pub lays-sound : sound ed t ≡ true
   unfolding sound layout pad
   lays-sound =
-      join (join (join (join (join (join (join long (le-leb _ _ (w .pointsFew))) (w .nondailyOk)) (w .dailyOk)) spare) (all-of _ n parts)) mirns) unused
+      join (join (join (join (join (join (join (join long (le-leb _ _ (w .pointsFew))) (w .nondailyOk)) (w .dailyOk)) own-number) spare) (all-of _ n parts)) mirns) unused

@@ -10,7 +10,7 @@ use lib.Dec.{leb, eqb}
 use lib.ListN.{length, getD, take, drop, length-take, length-drop}
 use lib.Seq.{take-add}
 use lib.IntN.{ℤ, pos}
-use borrow.Author.Tests.{leb-true, not-true}
+use borrow.Author.Tests.{leb-true, eqb-true, not-true}
 use Rattle.numbers.specs.Rows.{all}
 use Rattle.numbers.proofs.Bools.{both}
 use Rattle.numbers.proofs.Rows.{all-at}
@@ -80,7 +80,8 @@ pub record Tested (ed : Edition) (t : List ℤ) : Type 0 where
   pub few : numAt t 0 ≤ ed .points
   pub nondailyOk : isRange (getD t 1 (pos 0)) ≡ true
   pub dailyOk : isRange (getD t 2 (pos 0)) ≡ true
-  pub spare : zeros t 3 8 ≡ true
+  pub ownNumber : numAt t 3 ≡ ed .number
+  pub spare : zeros t 4 8 ≡ true
   pub parts : all (λ i. partSound (partOf ed t i)) (numAt t 0) ≡ true
   pub mirns : mirnsDiffer (pointsFrom ed (numAt t 0) (drop 8 t)) ≡ true
   pub rest : zeros t (placeOf ed (numAt t 0)) tableLength ≡ true
@@ -91,8 +92,9 @@ tested ed t e =
     let a = both _ (zeros t (placeOf ed (numAt t 0)) tableLength) e in
     let b = both _ (mirnsDiffer (pointsFrom ed (numAt t 0) (drop 8 t))) (a .0) in
     let c = both _ (all (λ i. partSound (partOf ed t i)) (numAt t 0)) (b .0) in
-    let d = both _ (zeros t 3 8) (c .0) in
-    let f = both _ (isRange (getD t 2 (pos 0))) (d .0) in
+    let d = both _ (zeros t 4 8) (c .0) in
+    let k = both _ (eqb (numAt t 3) (ed .number)) (d .0) in
+    let f = both _ (isRange (getD t 2 (pos 0))) (k .0) in
     let g = both _ (isRange (getD t 1 (pos 0))) (f .0) in
     let h = both (leb tableLength (length t)) (leb (numAt t 0) (ed .points)) (g .0) in
     record {
@@ -100,6 +102,7 @@ tested ed t e =
       few = leb-true _ _ (h .1);
       nondailyOk = g .1;
       dailyOk = f .1;
+      ownNumber = eqb-true _ _ (k .1);
       spare = d .1;
       parts = c .1;
       mirns = b .1;
@@ -116,11 +119,12 @@ pub points-count : (ed : Edition) (t : List ℤ) → length (registerOf ed t .po
 unfolding registerOf
 points-count ed t = length-points ed (numAt t 0) (drop 8 t)
 
-three : (t : List ℤ) → 3 ≤ length t → getD t 0 (pos 0) ∷ getD t 1 (pos 0) ∷ getD t 2 (pos 0) ∷ [] ≡ take 3 t
-three [] h = absurd (omega arith)
-three (x ∷ []) h = absurd (omega arith)
-three (x ∷ y ∷ []) h = absurd (omega arith)
-three (x ∷ y ∷ z ∷ t) h = refl
+four : (t : List ℤ) → 4 ≤ length t → getD t 0 (pos 0) ∷ getD t 1 (pos 0) ∷ getD t 2 (pos 0) ∷ getD t 3 (pos 0) ∷ [] ≡ take 4 t
+four [] h = absurd (omega arith)
+four (x ∷ []) h = absurd (omega arith)
+four (x ∷ y ∷ []) h = absurd (omega arith)
+four (x ∷ y ∷ z ∷ []) h = absurd (omega arith)
+four (x ∷ y ∷ z ∷ w ∷ t) h = refl
 
 -- a sound table's lists are well formed, and its numbers are their layout
 pub sound-lays : (ed : Edition) → Fits ed → (t : List ℤ) → sound ed t ≡ true → WellFormed ed (registerOf ed t) × (layout ed (registerOf ed t) ≡ take tableLength t)
@@ -157,15 +161,17 @@ sound-lays ed fits t e = (well, whole)
       pointsOk = points-of (lay .0) (s .mirns);
     }
 
-    head : pos (length (pointsFrom ed n (drop 8 t))) ∷ getD t 1 (pos 0) ∷ getD t 2 (pos 0) ∷ [] ≡ take 3 t
+    head : pos (length (pointsFrom ed n (drop 8 t))) ∷ getD t 1 (pos 0) ∷ getD t 2 (pos 0) ∷ pos (ed .number) ∷ [] ≡ take 4 t
     head =
-        ap₂ (λ x y. x ∷ y) (ap pos (length-points ed n (drop 8 t)) ∙ clean (getD t 0 (pos 0)) (omega (arith, s .few, fits .few))) refl
-        ∙ three t (omega (arith, s .long))
+        ap₂ (λ x y. x ∷ getD t 1 (pos 0) ∷ getD t 2 (pos 0) ∷ y ∷ [])
+        (ap pos (length-points ed n (drop 8 t)) ∙ clean (getD t 0 (pos 0)) (omega (arith, s .few, fits .few)))
+        (ap pos (sym (s .ownNumber)) ∙ clean (getD t 3 (pos 0)) (omega (arith, s .ownNumber, fits .numbered)))
+        ∙ four t (omega (arith, s .long))
 
-    whole : pad tableLength (pad 8 (pos (length (pointsFrom ed n (drop 8 t))) ∷ getD t 1 (pos 0) ∷ getD t 2 (pos 0) ∷ []) ++ pointsNumbers (ed .records) (pointsFrom ed n (drop 8 t))) ≡ take tableLength t
+    whole : pad tableLength (pad 8 (pos (length (pointsFrom ed n (drop 8 t))) ∷ getD t 1 (pos 0) ∷ getD t 2 (pos 0) ∷ pos (ed .number) ∷ []) ++ pointsNumbers (ed .records) (pointsFrom ed n (drop 8 t))) ≡ take tableLength t
     whole =
         ap₂ (λ u v. pad tableLength (pad 8 u ++ v)) head (lay .1)
-        ∙ ap (λ u. pad tableLength (u ++ take (stride ed * n) (drop 8 t))) (pad-take 8 3 t (omega arith) (omega (arith, s .long)) (λ i a b. zeros-at t 3 8 (s .spare) i a b))
+        ∙ ap (λ u. pad tableLength (u ++ take (stride ed * n) (drop 8 t))) (pad-take 8 4 t (omega arith) (omega (arith, s .long)) (λ i a b. zeros-at t 4 8 (s .spare) i a b))
         ∙ ap (pad tableLength) (sym (take-add 8 (stride ed * n) t))
         ∙ pad-take tableLength (placeOf ed n) t ends (s .long) (λ i a b. zeros-at t (placeOf ed n) tableLength (s .rest) i a b)
 

@@ -114,7 +114,7 @@ module _ (ed : Edition) (f : Fits ed) where
   unfolding layout
   fit-layout {R} ok =
       fit-pad tableLength (fit-append
-      (fit-pad 8 (natural (length (R .points)) (omega (arith, ok .pointsFew, f .few)) (fit (range (R .nondaily) (ok .nondailyOk)) (fit (range (R .daily) (ok .dailyOk)) nofit))))
+      (fit-pad 8 (natural (length (R .points)) (omega (arith, ok .pointsFew, f .few)) (fit (range (R .nondaily) (ok .nondailyOk)) (fit (range (R .daily) (ok .dailyOk)) (natural (ed .number) (omega (arith, f .numbered)) nofit)))))
       (fit-points (ed .records) (omega (arith, stride-small ed f)) (ok .pointsOk)))
     where
       range : (z : ℤ) → within (negsuc 0) (pos 1000000) z ≡ true → SFits w64 z

@@ -8,7 +8,8 @@ use Rattle.numbers.specs.Answers.{refused}
 use Rattle.daybook.specs.declared.Edition.{Edition}
 use Rattle.daybook.specs.Book.{Book}
 use Rattle.daybook.specs.Notices.{Numbers}
-use Rattle.layout.specs.Layout.{editionOf, tableBook, withBook}
+use Rattle.daybook.specs.Editions.{Editions}
+use Rattle.layout.specs.Layout.{editionIn, tableBook, withBook}
 use Rattle.layout.specs.Sound.{sound}
 
 -- ---- on a table of an edition
@@ -27,11 +28,11 @@ onEdition k step ed t =
 unfoldable pub ofEdition : {A : Type 0} → A → (Book → A) → Edition → List ℤ → A
 ofEdition {A} refusal query ed t = let given : A = query (tableBook ed t) in cond (sound ed t) given refusal
 
--- ---- on a table, whose edition it is
+-- ---- on a table, in the one of two editions that its header names
 
 -- The step goes by the edition too: how many points and records there is room for.
-abbrev pub onTable : ℕ → (Edition → Book → Numbers × Book) → List ℤ → Numbers × List ℤ
-onTable k step t = onEdition k (step (editionOf t)) (editionOf t) t
+abbrev pub onTable : Editions → ℕ → (Edition → Book → Numbers × Book) → List ℤ → Numbers × List ℤ
+onTable E k step t = onEdition k (step (editionIn E t)) (editionIn E t) t
 
-abbrev pub ofTable : {A : Type 0} → A → (Book → A) → List ℤ → A
-ofTable refusal query t = ofEdition refusal query (editionOf t) t
+abbrev pub ofTable : {A : Type 0} → Editions → A → (Book → A) → List ℤ → A
+ofTable E refusal query t = ofEdition refusal query (editionIn E t) t

@@ -1,4 +1,5 @@
 -- Editions and places, the layout of a register's lists into numbers, and the way back.
+use mathlib.Core.Path.{_≡_}
 use mathlib.Core.Option.{Option, none, some}
 use mathlib.Core.List.{List, [], _∷_, _++_, map}
 use Prim.Native.Nat.{ℕ, zero, suc, _+_, _-_, _*_, _≤_, _^_}
@@ -9,14 +10,12 @@ use Rattle.daybook.specs.declared.Edition.{Edition}
 use Rattle.daybook.specs.declared.Facts.{Facts}
 use Rattle.daybook.specs.Book.{Entry, Pending, Point, Book, records, registrations, spans}
 use Rattle.daybook.specs.Queries.{shareCount}
+pub use Rattle.daybook.specs.Editions.{tableLength}
+use Rattle.daybook.specs.Editions.{Editions, editions, editionNo}
 use Rattle.lists.specs.Lists.{Lists, Register, bookOf, asFound}
-use Rattle.layout.specs.Places.{pointsPlace, nondailyPlace, dailyPlace, headerLength, mirnPlace, kindPlace, installPlace, basePlace, regCount, offCount, recCount, pendingUser, pendingFirst, pendingLast, sectionPlace, operatorPlace, sparePlace, regsPlace, offsPlace, recsPlace, regLength, offLength, recLength, recPlace}
+use Rattle.layout.specs.Places.{pointsPlace, nondailyPlace, dailyPlace, editionPlace, headerLength, mirnPlace, kindPlace, installPlace, basePlace, regCount, offCount, recCount, pendingUser, pendingFirst, pendingLast, sectionPlace, operatorPlace, sparePlace, regsPlace, offsPlace, recsPlace, regLength, offLength, recLength, recPlace}
 
 -- ---- editions and places
-
--- How many numbers a register has; those past them are never touched.
-abbrev pub tableLength : ℕ
-tableLength = 7688
 
 -- How many numbers a point has.
 abbrev pub stride : Edition → ℕ
@@ -26,20 +25,21 @@ stride ed = recPlace (ed .records)
 abbrev pub placeOf : Edition → ℕ → ℕ
 placeOf ed i = headerLength + stride ed * i
 
--- An edition whose points fit the table, their shares an allocation's answer table, and four reserves its points.
+-- An edition whose number is 0 or 1, whose points fit the table, their shares an allocation's answer table, and four
+-- reserves its points.
 pub record Fits (ed : Edition) : Type 0 where
+  pub numbered : ed .number ≤ 1
   pub some : 1 ≤ ed .points
   pub few : ed .points ≤ shareCount
   pub inTable : placeOf ed (ed .points) ≤ tableLength
   pub reserved : 4 * ed .reserve ≤ ed .points
 
--- Document 01's edition, with document 02's reserve (g).
-abbrev pub standard : Edition
-standard = record { points = 32; records = 48; reserve = 4 }
-
--- The edition of a table, whatever its numbers.
-unfoldable pub editionOf : List ℤ → Edition
-editionOf t = standard
+-- Any two editions of the numbers 0 and 1 that fit.
+pub record BothFit (E : Editions) : Type 0 where
+  pub standard : Fits (E .standard)
+  pub long : Fits (E .long)
+  pub number0 : E .standard .number ≡ 0
+  pub number1 : E .long .number ≡ 1
 
 -- The numbers of point i.
 unfoldable pub partOf : Edition → List ℤ → ℕ → List ℤ
@@ -93,11 +93,12 @@ unfoldable pub pointsNumbers : ℕ → List Lists → List ℤ
 pointsNumbers room [] = []
 pointsNumbers room (q ∷ qs) = pointNumbers room q ++ pointsNumbers room qs
 
--- Places 0 to 7: how many points, the two ranges, five zeros. Then the points; what is left of the table is 0.
+-- Places 0 to 7: how many points, the two ranges, the edition, four zeros. Then the points; what is left of the table
+-- is 0.
 unfoldable pub layout : Edition → Register → List ℤ
 layout ed R =
     pad tableLength
-    (pad headerLength (pos (length (R .points)) ∷ R .nondaily ∷ R .daily ∷ [])
+    (pad headerLength (pos (length (R .points)) ∷ R .nondaily ∷ R .daily ∷ pos (ed .number) ∷ [])
     ++ pointsNumbers (ed .records) (R .points))
 
 -- ---- from numbers to lists
@@ -105,6 +106,14 @@ layout ed R =
 -- The number at a place; a negative one is above every bound.
 abbrev pub numAt : List ℤ → ℕ → ℕ
 numAt t i = natOf (getD t i (pos 0))
+
+-- The edition of a table, by the number in its header, where the two editions are E (document 02, k).
+unfoldable pub editionIn : Editions → List ℤ → Edition
+editionIn E t = editionNo E (numAt t editionPlace)
+
+-- Of the two that there are.
+abbrev pub editionOf : List ℤ → Edition
+editionOf t = editionIn editions t
 
 unfoldable pub regsFrom : ℕ → List ℤ → List (ℕ × ℕ)
 regsFrom zero t = []
@@ -178,7 +187,11 @@ listsOf p =
 unfoldable pub bookRegister : Book → Register
 bookRegister B = record { nondaily = B .nondaily; daily = B .daily; points = map listsOf (B .points) }
 
--- The table t with the book B laid out over its register; the numbers past that are kept, and so is a 0 for the operator
--- of a point that was there.
+-- The table t with the book B laid out over its register; the numbers past that are kept, and so is a 0 for the
+-- operator of a point that was there.
 unfoldable pub withBook : Edition → List ℤ → Book → List ℤ
 withBook ed t B = layout ed (asFound (registerOf ed t) (bookRegister B)) ++ drop tableLength t
+
+-- The table t with the book B laid out anew, whatever stood there: every operator is named.
+unfoldable pub withNewBook : Edition → List ℤ → Book → List ℤ
+withNewBook ed t B = layout ed (bookRegister B) ++ drop tableLength t

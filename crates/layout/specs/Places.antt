@@ -1,7 +1,8 @@
 -- The places of the table (document 01, "The register table").
 use Prim.Native.Nat.{ℕ, _+_, _*_}
 
--- ---- the header: how many points, the two ranges; the places from headerSpare on are 0
+-- ---- the header: how many points, the two ranges, the number of the edition (document 02, k); the places from
+-- headerSpare on are 0
 
 abbrev pub pointsPlace : ℕ
 pointsPlace = 0
@@ -12,8 +13,11 @@ nondailyPlace = 1
 abbrev pub dailyPlace : ℕ
 dailyPlace = 2
 
+abbrev pub editionPlace : ℕ
+editionPlace = 3
+
 abbrev pub headerSpare : ℕ
-headerSpare = 3
+headerSpare = 4
 
 abbrev pub headerLength : ℕ
 headerLength = 8

@@ -14,7 +14,7 @@ use Rattle.daybook.specs.declared.Facts.{Facts}
 use Rattle.daybook.specs.Book.{Entry, Pending, lastOf, appendDay}
 use Rattle.daybook.specs.Notices.{fitsKind, isRange, offWithin}
 use Rattle.lists.specs.Lists.{Lists, pointOf}
-use Rattle.layout.specs.Places.{pointsPlace, nondailyPlace, dailyPlace, headerSpare, headerLength, regCount, offCount, recCount, pendingUser, pendingEnd, sparePlace, regsPlace, offsPlace, recsPlace, recLength, regPlace, offPlace, recPlace}
+use Rattle.layout.specs.Places.{pointsPlace, nondailyPlace, dailyPlace, editionPlace, headerSpare, headerLength, regCount, offCount, recCount, pendingUser, pendingEnd, sparePlace, regsPlace, offsPlace, recsPlace, recLength, regPlace, offPlace, recPlace}
 use Rattle.layout.specs.Layout.{tableLength, placeOf, partOf, numAt, pointFrom, pointsFrom}
 
 unfoldable pub each : {A : Type 0} → (A → Bool) → List A → Bool
@@ -103,11 +103,12 @@ unfoldable pub mirnsDiffer : List Lists → Bool
 mirnsDiffer [] = true
 mirnsDiffer (q ∷ qs) = each (λ (r : Lists). not (eqb (q .facts .mirn) (r .facts .mirn))) qs && mirnsDiffer qs
 
--- The header, every point, MIRNs that differ, and 0 in all that is left.
+-- The header, with the edition's number, every point, MIRNs that differ, and 0 in all that is left.
 unfoldable pub sound : Edition → List ℤ → Bool
 sound ed t =
     leb tableLength (length t) && leb (numAt t pointsPlace) (ed .points)
-    && isRange (getD t nondailyPlace (pos 0)) && isRange (getD t dailyPlace (pos 0)) && zeros t headerSpare headerLength
+    && isRange (getD t nondailyPlace (pos 0)) && isRange (getD t dailyPlace (pos 0))
+    && eqb (numAt t editionPlace) (ed .number) && zeros t headerSpare headerLength
     && all (λ i. partSound (partOf ed t i)) (numAt t pointsPlace)
     && mirnsDiffer (pointsFrom ed (numAt t pointsPlace) (drop headerLength t))
     && zeros t (placeOf ed (numAt t pointsPlace)) tableLength

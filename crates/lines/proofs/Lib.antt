@@ -3,3 +3,4 @@ pub mod Outcomes
 pub mod Bytes
 pub mod Calls
 pub mod Rows
+pub mod Conversions

@@ -10,7 +10,7 @@ use lib.ListN.{length, take, drop, take-append-drop}
 use types.Run.{OneOf, miss}
 use denote.Enum.Declared.{tagOf}
 use Rattle.journal.specs.declared.Command.{Command}
-use Rattle.journal.specs.declared.Command.the-variants.{Call, Look, Table, Poke, Lend, Room, Hub, Unknown, Image}
+use Rattle.journal.specs.declared.Command.the-variants.{Call, Look, Table, Poke, Lend, Room, Hub, Unknown, Image, Convert}
 use Rattle.journal.proofs.Command.{the-type}
 use Rattle.printing.specs.Rows.{rowBytes, rowOf, Printed}
 use Rattle.lines.specs.Lines.{LineResult, taking, onLent, lineOf, Played}
@@ -38,6 +38,7 @@ no-line Room b lent room xs k = refl
 no-line Hub b lent room xs k = refl
 no-line Unknown b lent room xs k = refl
 no-line (Image w) b lent room xs k = refl
+no-line Convert b lent room xs k = absurd (miss others 9 tt k)
 
 -- an outcome on the first bytes of a buffer is one on the buffer
 pub on-lent : {out out' : List ℕ} {at r : ℕ} (b u : List ℕ) (n : ℕ) (o : LineResult) → Played o (take n b) out at u out' r → Played (onLent b n o) b out at (u ++ drop n b) out' r

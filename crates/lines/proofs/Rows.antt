@@ -14,6 +14,7 @@ use Rattle.numbers.proofs.Bools.{cond-same}
 use Rattle.words.specs.Words.{withWord, bitsOf}
 use Rattle.words.specs.Sums.{sumsOf}
 use Rattle.daybook.specs.Conversions.{num}
+use Rattle.daybook.specs.Editions.{editions}
 use Rattle.table.specs.Lookup.{lookUp}
 use Rattle.buffers.specs.Buffers.{numbersIn}
 use Rattle.printing.specs.Rows.{rowBytes, rowOf, Printed}
@@ -38,10 +39,10 @@ module _ (b : List ℕ) (xs : List ℤ) where
     unfolding pokeLine
     poked h l e m w = rw (← is, lt-ltb g 7688 l) (something 2 xs h e refl m w)
 
-  pub looked : {out out' : List ℕ} {at r : ℕ} (t part : List ℤ) (m : ℤ) (s1 s2 : ℕ) → length xs ≡ 1 → t ≡ numbersIn b (length b / 8) → m ≡ num xs 0 → part ≡ lookUp t m → s1 ≡ sumsOf (bitsOf part) .0 → s2 ≡ sumsOf (bitsOf part) .1 → r ≤ at + rowBytes → Printed out at (rowOf (pos (length part) ∷ pos s1 ∷ pos s2 ∷ [])) out' r → Played (lookLine b xs) b out at b out' r
+  pub looked : {out out' : List ℕ} {at r : ℕ} (t part : List ℤ) (m : ℤ) (s1 s2 : ℕ) → length xs ≡ 1 → t ≡ numbersIn b (length b / 8) → m ≡ num xs 0 → part ≡ lookUp editions t m → s1 ≡ sumsOf (bitsOf part) .0 → s2 ≡ sumsOf (bitsOf part) .1 → r ≤ at + rowBytes → Printed out at (rowOf (pos (length part) ∷ pos s1 ∷ pos s2 ∷ [])) out' r → Played (lookLine b xs) b out at b out' r
   unfolding lookLine
   looked t part m s1 s2 h u e x y z l w =
-      let is : part ≡ lookUp (numbersIn b (length b / 8)) (num xs 0) = x ∙ ap₂ lookUp u e in
+      let is : part ≡ lookUp editions (numbersIn b (length b / 8)) (num xs 0) = x ∙ ap₂ (lookUp editions) u e in
       something 1 xs h refl (rw (y, z, is)) l w
 
   pub tabled : {out out' : List ℕ} {at r : ℕ} (t front past : List ℤ) (s1 s2 t2 : ℕ) → length b ≡ bufferBytes → length xs ≡ 0 → t ≡ numbersIn b 7704 → front ≡ take 7688 t → past ≡ take (length t - 7688) (drop 7688 t) → s1 ≡ sumsOf (bitsOf front) .0 → s2 ≡ sumsOf (bitsOf front) .1 → t2 ≡ sumsOf (bitsOf past) .1 → r ≤ at + rowBytes → Printed out at (rowOf (pos 0 ∷ pos s1 ∷ pos s2 ∷ pos t2 ∷ [])) out' r → Played (tableLine b xs) b out at b out' r

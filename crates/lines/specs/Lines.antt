@@ -8,14 +8,17 @@ use Prim.Native.Nat.{ℕ, _+_, _*_, _/_, _≤_}
 use lib.Dec.{eqb, leb, ltb}
 use lib.IntN.{ℤ, pos, negsuc}
 use lib.ListN.{length, take, drop, replicate}
-use Rattle.numbers.specs.Naturals.{natOf}
+use Rattle.numbers.specs.Naturals.{natOf, sameZ}
 use Rattle.numbers.specs.Search.{maybe}
 use Rattle.words.specs.Words.{withWord, bitsOf}
 use Rattle.words.specs.Sums.{sumsOf}
+use Rattle.daybook.specs.Notices.{Numbers}
 use Rattle.daybook.specs.Conversions.{num}
+use Rattle.daybook.specs.Editions.{editions}
 use Rattle.layout.specs.Layout.{tableLength}
 use Rattle.table.specs.Lookup.{lookUp}
-use Rattle.buffers.specs.Buffers.{numbersIn, withNumbers}
+use Rattle.conversion.specs.Conversion.{convertCall}
+use Rattle.buffers.specs.Buffers.{numbersIn, withNumbers, tableIn, written}
 use Rattle.journal.specs.declared.CallWord.{CallWord}
 use Rattle.journal.specs.declared.Command.{Command}
 use Rattle.journal.specs.declared.Command.the-variants as Command·
@@ -79,7 +82,7 @@ taking n xs o = cond (eqb (length xs) n) (some (rowOf (o .0), o .1)) none
 -- The length of the part that the look-up hands back, and its sums.
 unfoldable pub lookLine : List ℕ → List ℤ → LineResult
 lookLine lent xs =
-    let part : List ℤ = lookUp (numbersHeld lent) (num xs 0) in
+    let part : List ℤ = lookUp editions (numbersHeld lent) (num xs 0) in
     taking 1 xs (pos (length part) ∷ pos (sumsOf (bitsOf part) .0) ∷ pos (sumsOf (bitsOf part) .1) ∷ [], lent)
 
 -- Sets one number of the register.
@@ -94,6 +97,23 @@ tableLine b xs =
     let s : ℕ × ℕ = sumsOf (bitsOf (take tableLength (numbersHeld b))) in
     let past : ℕ × ℕ = sumsOf (bitsOf (drop tableLength (numbersHeld b))) in
     taking 0 xs (pos 0 ∷ pos (s .0) ∷ pos (s .1) ∷ pos (past .1) ∷ [], b)
+
+-- Whether a line says how many numbers a second table has.
+abbrev pub convertible : List ℤ → Bool
+convertible xs = eqb (length xs) 1 && leb (natOf (num xs 0)) bufferNumbers
+
+-- Where the result is 0 the journal goes on in the second table: its numbers are written over the register's, and those
+-- past the register stay.
+abbrev pub takenOver : ℤ → List ℕ → List ℕ → List ℕ
+takenOver result second b = cond (sameZ result (pos 0)) (withNumbers (tableIn second) b) b
+
+-- The register's lent bytes are converted into a second table, whose numbers are -5 before.
+unfoldable pub convertLine : List ℕ → ℕ → List ℤ → LineResult
+convertLine b lent xs =
+    let second : List ℕ = bytesOf (replicate (natOf (num xs 0)) (negsuc 4)) in
+    let call : Numbers × List ℤ = convertCall editions (tableIn (take (8 * lent) b)) (tableIn second) in
+    let w : ℤ × (List ℕ × List ℕ) = written call second (replicate 8 0) in
+    cond (convertible xs) (some (rowOf (w .0 ∷ []), takenOver (w .0) (w .1 .0) b)) none
 
 -- ---- any line but tlen, alen, those on bytes and those on images
 
@@ -112,6 +132,7 @@ lineOf Command·.Room b lent room xs = none
 lineOf Command·.Hub b lent room xs = none
 lineOf Command·.Unknown b lent room xs = none
 lineOf (Command·.Image w) b lent room xs = none
+lineOf Command·.Convert b lent room xs = convertLine b lent xs
 
 -- ---- a call on buffers whose lengths the line says
 

@@ -7,7 +7,7 @@ ghost use lib.IntN.{negsuc};
 ghost use lib.ListN.{length, take, replicate};
 ghost use Rattle.buffers.specs.Buffers.{withNumbers};
 ghost use Rattle.printing.specs.Rows.{rowBytes, rowOf, Printed};
-ghost use Rattle.lines.specs.Lines.{bufferNumbers, bufferBytes, lineNumbers, mostRoom, mostBytes, numbersHeld, tableRoom, callLine, lookLine, pokeLine, tableLine, lineOf, lengths as Lines·lengths, lendable as Lines·lendable, shown, hubLine, Played};
+ghost use Rattle.lines.specs.Lines.{bufferNumbers, bufferBytes, lineNumbers, mostRoom, mostBytes, numbersHeld, tableRoom, callLine, lookLine, pokeLine, tableLine, convertible as Lines·convertible, takenOver, convertLine, lineOf, lengths as Lines·lengths, lendable as Lines·lendable, shown, hubLine, Played};
 ghost use Rattle.lines.specs.InnerLines.{answerBytes, tableBytes};
 use forms::Form;
 use journal::CallWord;
@@ -155,7 +155,55 @@ fn poke(register: &mut [u8], nums: &[i64], out: &mut [u8], at: usize) -> usize
     row(out, at, &[0])
 }
 
-// Any line but tlen, alen, those on bytes and those on images. Table and poke reach the whole buffer.
+// Whether a line has the length of a second table.
+fn convertible(nums: &[i64]) -> bool
+    ensures { λ r. ⌜ r ≡ Lines·convertible (now (nums .entry)) ⌝ }
+{
+    let short = forms::natural(nums, 0) <= BUFFER_NUMBERS as u64;
+    (nums.len() == 1) & short
+}
+
+// The first bytes of b as n numbers -5.
+fn fives<'b>(n: usize, b: &'b mut [u8]) -> &'b mut [u8]
+    requires { ⌜ (n ≤ bufferNumbers) × (8 * n ≤ length (now b)) ⌝ }
+    ensures { λ r. ⌜ (now r ≡ withNumbers (replicate n (negsuc 4)) (take (8 * n) (now (b .entry)))) × (length (now r) ≡ 8 * n) ⌝ }
+{
+    let fives = [-5i64; BUFFER_NUMBERS];
+    bytes_of(&fives[0..n], b)
+}
+
+// Where a conversion is accepted, writes the second table's numbers over the register's.
+fn go_on(register: &mut [u8], second: &[u8], result: i64)
+    requires { ⌜ length (now second) ≤ length (now register) ⌝ }
+    ensures { λ _. ⌜ now (register .exit) ≡ takenOver result (now (second .entry)) (now (register .entry)) ⌝ }
+{
+    if result != 0 {
+        return;
+    }
+    let mut t = [0i64; places::TABLE_LENGTH];
+    let numbers = buffers::table_in(second, &mut t);
+    let n = numbers.len();
+    words::encode(numbers, 0, register, 0, n);
+}
+
+// Converts the lent bytes into a second table; where that is accepted the journal goes on in it.
+fn convert(register: &mut [u8], lent: usize, nums: &[i64], out: &mut [u8], at: usize) -> usize
+    requires { ⌜ (length (now register) ≡ bufferBytes) × (lent ≤ bufferNumbers) × (at + rowBytes ≤ length (now out)) ⌝ }
+    ensures { λ r. ⌜ Played (convertLine (now (register .entry)) lent (now (nums .entry))) (now (register .entry)) (now (out .entry)) at (now (register .exit)) (now (out .exit)) r ⌝ }
+{
+    if !convertible(nums) {
+        return at;
+    }
+    let n = 8 * lent;
+    let mut bytes = [0u8; BUFFER_BYTES];
+    let second = fives(forms::natural(nums, 0) as usize, &mut bytes);
+    let mut answer = [0u8; 8];
+    let result = hub::petlumas_convert(&register[0..n], &mut answer, second);
+    go_on(register, second, result);
+    printing::signed_row(out, at, &[result])
+}
+
+// Any line but tlen, alen, those on bytes and those on images. Table, poke and convert reach the whole buffer.
 pub fn answer(
     command: Command,
     register: &mut [u8],
@@ -174,6 +222,7 @@ pub fn answer(
         Command::Look => look(&register[0..n], nums, out, at),
         Command::Table => table(register, nums, out, at),
         Command::Poke => poke(register, nums, out, at),
+        Command::Convert => convert(register, lent, nums, out, at),
         _ => at,
     }
 }

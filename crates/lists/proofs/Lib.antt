@@ -22,3 +22,4 @@ pub mod TransferStep
 pub mod FroChanges
 pub mod CorrectStep
 pub mod Notices
+pub mod OtherRoom

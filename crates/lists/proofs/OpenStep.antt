@@ -14,60 +14,41 @@ use Rattle.numbers.specs.Naturals.{natOf}
 use Rattle.numbers.specs.Search.{maybe, isSome}
 use Rattle.numbers.proofs.Bools.{both}
 use Rattle.calendar.specs.Calendar.{within}
-use Rattle.daybook.specs.declared.Ranges.{Ranges}
+use Rattle.daybook.specs.declared.NewRegister.{NewRegister}
 use Rattle.daybook.specs.declared.Opening.{Opening}
 use Rattle.daybook.specs.declared.Edition.{Edition}
 use Rattle.daybook.specs.declared.Facts.{Facts}
 use Rattle.daybook.specs.Book.{Point, Book, fromOn}
-use Rattle.daybook.specs.Notices.{least, Numbers, decide, isRange, find, freshRows, fresh, factsOf, opened, operatorsIn, othersUnfilled, openingRows, opening}
+use Rattle.daybook.specs.Notices.{least, Numbers, decide, isRange, find, freshRows, factsOf, opened, operatorsIn, othersUnfilled, openingRows, opening}
 use Rattle.lists.specs.Lists.{Lists, Register, userOn, offOn, entryOn, withOperator, pointOf, bookOf}
-use Rattle.lists.specs.InnerSteps.{findLists, freshLists, openedLists, operatorsOf, openingLists}
+use Rattle.lists.specs.InnerSteps.{findLists, openedLists, operatorsOf, openingLists}
 use Rattle.lists.specs.InnerWell.{Regs, noreg, reg, starts, nospan, norec, nopending, FactsOk, Well, Points, nopoint, point, WellFormed}
-use Rattle.lists.proofs.Rows.{least-none, decide-map, decide-map-where, decide-keeps}
+use Rattle.lists.proofs.Rows.{least-none, decide-map-where, decide-keeps}
 use Rattle.lists.proofs.Points.{find-is}
-use Rattle.lists.proofs.Operators.{operator, named, operators-are, OperatorsKept, kept-none, kept-same, kept-more}
+use Rattle.lists.proofs.Operators.{operator, named, operators-are, OperatorsKept, kept-same, kept-more}
 use Rattle.lists.proofs.Bounds.{within-bounds, both-hold}
 
 -- ---- fresh
 
--- What holds of the ranges of a fresh that isn't sent back.
-pub record FreshClear (n : Ranges) : Type 0 where
+-- What holds of the numbers of a fresh that isn't sent back.
+pub record FreshClear (n : NewRegister) : Type 0 where
   pub nondailyOk : isRange (n .nondaily) ≡ true
   pub dailyOk : isRange (n .daily) ≡ true
+  pub editionOk : natOf (n .edition) ≤ 1
 
-pub fresh-clear : (n : Ranges) → least (freshRows n) ≡ 0 → FreshClear n
+pub fresh-clear : (n : NewRegister) → least (freshRows n) ≡ 0 → FreshClear n
 unfolding freshRows
 fresh-clear n z =
-    let b : (isRange (n .nondaily) ≡ true) × (isRange (n .daily) ≡ true) = both-hold _ _ (least-none 1 _ [] z .0) in
-    record { nondailyOk = b .0; dailyOk = b .1 }
-
--- fresh on the days is fresh on the lists.
-pub fresh-step : (n : Ranges) (R : Register) → fresh n (bookOf R) ≡ (freshLists n R .0, bookOf (freshLists n R .1))
-unfolding fresh freshLists bookOf
-fresh-step n R = decide-map bookOf _ 0 R ([], record { nondaily = n .nondaily; daily = n .daily; points = [] })
+    let b = both-hold _ _ (least-none 1 _ [] z .0) in
+    let a = both (isRange (n .nondaily)) (isRange (n .daily)) (b .0) in
+    record { nondailyOk = a .0; dailyOk = a .1; editionOk = within-bounds 0 1 (n .edition) (b .1) .1 }
 
 -- No points, with ranges that aren't sent back, are well-formed.
-pub no-points : (ed : Edition) (n : Ranges) → least (freshRows n) ≡ 0
+pub no-points : (ed : Edition) (n : NewRegister) → least (freshRows n) ≡ 0
     → WellFormed ed (record { nondaily = n .nondaily; daily = n .daily; points = [] })
 no-points ed n z =
     let clear : FreshClear n = fresh-clear n z in
     record { nondailyOk = clear .nondailyOk; dailyOk = clear .dailyOk; pointsFew = omega arith; pointsOk = nopoint }
-
--- fresh keeps a register well-formed.
-pub fresh-keeps : {ed : Edition} (n : Ranges) {R : Register} → WellFormed ed R → WellFormed ed (freshLists n R .1)
-unfolding freshLists
-fresh-keeps {ed} n {R} ok = decide-keeps 0 R _ (WellFormed ed) _ ok (λ z. no-points ed n z)
-
--- A fresh that isn't sent back makes a well-formed register of any.
-pub fresh-makes : (ed : Edition) (n : Ranges) (R : Register) → least (freshRows n) ≡ 0 → WellFormed ed (freshLists n R .1)
-unfolding freshLists decide
-fresh-makes ed n R z = rw z (no-points ed n z)
-
--- Of its points, none, no operator is changed.
-pub fresh-kept : (n : Ranges) (R : Register) → OperatorsKept (R .points) (freshLists n R .1 .points)
-unfolding freshLists
-fresh-kept n R =
-    decide-keeps 0 R _ (λ (S : Register). OperatorsKept (R .points) (S .points)) _ (kept-same (R .points)) (λ z. kept-none (R .points))
 
 -- ---- open
 

@@ -10,7 +10,6 @@ use lib.IntN.{ℤ, pos}
 use Rattle.numbers.specs.Naturals.{natOf}
 use Rattle.numbers.specs.Search.{maybe, isSome}
 use Rattle.calendar.specs.Calendar.{allowablePeriod}
-use Rattle.daybook.specs.declared.Ranges.{Ranges}
 use Rattle.daybook.specs.declared.Opening.{Opening}
 use Rattle.daybook.specs.declared.EnergyNotice.{EnergyNotice}
 use Rattle.daybook.specs.declared.StatusNotice.{StatusNotice}
@@ -19,9 +18,9 @@ use Rattle.daybook.specs.declared.Withdrawal.{Withdrawal}
 use Rattle.daybook.specs.declared.Correction.{Correction}
 use Rattle.daybook.specs.declared.Edition.{Edition}
 use Rattle.daybook.specs.Book.{Entry, Pending, lastOf}
-use Rattle.daybook.specs.Notices.{Row, least, Numbers, decide, freshRows, factsOf, openingRows, Which, append, replacement, recut, whichNumber, whichOf, entryOf, energyEarly, energyRows, beyond, removed, Outcome, registers, lapses, stays, outcomeOf, outcomeNumbers, statusEarly, statusRows, requestEarly, requestRows, periodNumbers, pendingOf, withdrawEarly, withdrawRows}
+use Rattle.daybook.specs.Notices.{Row, least, Numbers, decide, factsOf, openingRows, Which, append, replacement, recut, whichNumber, whichOf, entryOf, energyEarly, energyRows, beyond, removed, Outcome, registers, lapses, stays, outcomeOf, outcomeNumbers, statusEarly, statusRows, requestEarly, requestRows, periodNumbers, pendingOf, withdrawEarly, withdrawRows}
 use Rattle.daybook.specs.Corrections.{othersRequest, correctEarly, correctRowsAt, correctAt}
-use Rattle.daybook.specs.Calls.{Notice, fresh!, open!, energy!, status!, request!, withdraw!, correct! }
+use Rattle.daybook.specs.Calls.{Notice, open!, energy!, status!, request!, withdraw!, correct! }
 use Rattle.lists.specs.Lists.{Lists, Register, operatorOf, pointOf, nextAfter}
 
 -- ---- what is read off the lists
@@ -136,10 +135,6 @@ onLists k m early rows effect R =
 
 -- ---- the notices
 
-unfoldable pub freshLists : Ranges → Register → Numbers × Register
-freshLists n R =
-    decide (least (freshRows n)) 0 R ([], record { nondaily = n .nondaily; daily = n .daily; points = [] })
-
 unfoldable pub openedLists : Opening → Lists
 openedLists n =
     record { facts = factsOf n; regs = (natOf (n .install), natOf (n .user)) ∷ []; offs = []; recs = []; pending = none }
@@ -214,7 +209,6 @@ correctLists n R =
 
 -- Each notice on the lists.
 unfoldable pub noticeLists : Notice → Edition → Register → Numbers × Register
-noticeLists (fresh! n) ed R = freshLists n R
 noticeLists (open! n) ed R = openingLists ed n R
 noticeLists (energy! n) ed R = energyLists ed n R
 noticeLists (status! n) ed R = statusLists n R

@@ -14,6 +14,7 @@ use Rattle.calendar.specs.Calendar.{within, isDay}
 use Rattle.daybook.specs.declared.Edition.{Edition}
 use Rattle.daybook.specs.declared.Opening.{Opening}
 use Rattle.daybook.specs.Notices.{least, Numbers, decide, isMirn, isFlag, isUser, factsOf, operatorsIn, othersUnfilled, openingRows, opening}
+use Rattle.daybook.specs.Editions.{editions}
 use Rattle.lists.specs.Lists.{Register, bookOf}
 use Rattle.lists.specs.InnerSteps.{findLists, openedLists, operatorsOf, openingLists}
 use Rattle.lists.specs.InnerWell.{WellFormed}
@@ -38,11 +39,11 @@ abbrev pub ranged : Opening → Bool
 ranged n = isMirn (n .mirn) && isFlag (n .kind) && isUser (n .user) && isDay (n .install) && within (negsuc 0) (pos 10000) (n .base) && within (pos 0) (pos 1) (n .section) && within (pos 1) (pos 4) (n .operator)
 
 module _ (ed : Edition) (t : List ℤ) (g : ed ≡ editionOf t) (n : Opening) where
-  here : openCall t n ≡ onEdition 0 (opening ed n) ed t
+  here : openCall editions t n ≡ onEdition 0 (opening ed n) ed t
   unfolding openCall
   here = ap (λ ed. onEdition 0 (opening ed n) ed t) (sym g)
 
-  pub open-unsound : sound ed t ≡ false → openCall t n ≡ (pos 1 ∷ [], t)
+  pub open-unsound : sound ed t ≡ false → openCall editions t n ≡ (pos 1 ∷ [], t)
   open-unsound e = here ∙ call-unsound 0 (opening ed n) ed t e
 
 module _ (ed : Edition) (fits : Fits ed) (t : List ℤ) (g : ed ≡ editionOf t) (n : Opening) (s : sound ed t ≡ true) where
@@ -66,21 +67,21 @@ module _ (ed : Edition) (fits : Fits ed) (t : List ℤ) (g : ed ≡ editionOf t)
   after r =
       decide r 0 R ([], record { nondaily = R .nondaily; daily = R .daily; points = R .points ++ (openedLists n ∷ []) })
 
-  whole : openCall t n ≡ laidOver ed t (after row)
+  whole : openCall editions t n ≡ laidOver ed t (after row)
   unfolding onEdition tableBook openingLists
   whole =
       here ed t g n ∙ rw s
       (ap (answerAndTable ed t) (open-step ed n R)
       ∙ leaves-is ed t (openingLists ed n R) (open-keeps ed n well) (open-kept ed n R))
 
-  sent-back : (r : ℕ) → row ≡ suc r → openCall t n ≡ (pos (suc r) ∷ [], t)
+  sent-back : (r : ℕ) → row ≡ suc r → openCall editions t n ≡ (pos (suc r) ∷ [], t)
   sent-back r e = whole ∙ ap (λ k. laidOver ed t (after k)) e ∙ ap (laidOver ed t) (decide-refused 0 R _ r) ∙ left-alone ed t r [] R
 
   opened-is : openedLists n ≡ freshPoint (factsOf n) (natOf (n .user))
   unfolding openedLists freshPoint factsOf
   opened-is = refl
 
-  taken : row ≡ 0 → length (R .points) < ed .points → openCall t n ≡ (pos 0 ∷ [], appendPoint ed t (numAt t 0) (factsOf n) (natOf (n .user)))
+  taken : row ≡ 0 → length (R .points) < ed .points → openCall editions t n ≡ (pos 0 ∷ [], appendPoint ed t (numAt t 0) (factsOf n) (natOf (n .user)))
   unfolding withPoints
   taken e h =
       let rest : List ℤ = drop tableLength t in
@@ -107,13 +108,13 @@ module _ (ed : Edition) (fits : Fits ed) (t : List ℤ) (g : ed ≡ editionOf t)
   count-is : length holders ≡ numAt t 0
   count-is = length-map (R .points) operator ∙ points-count ed t
 
-  pub open-out : ranged n ≡ false → openCall t n ≡ (pos 2 ∷ [], t)
+  pub open-out : ranged n ≡ false → openCall editions t n ≡ (pos 2 ∷ [], t)
   unfolding openingRows above
   open-out e = sent-back 1 (least-first 2 (not (ranged n)) _ refl (ap not e))
 
   -- past row 2, with i what the search found
   module _ (r : ranged n ≡ true) (i : ℕ) (is : i ≡ maybe (ed .points) (λ k. k) (indexOf ed t (natOf (n .mirn)))) where
-    pub open-known : (i ≡ ed .points → ⊥) → openCall t n ≡ (pos 5 ∷ [], t)
+    pub open-known : (i ≡ ed .points → ⊥) → openCall editions t n ≡ (pos 5 ∷ [], t)
     unfolding openingRows above
     open-known d =
         sent-back 4 (least-skip 2 (not (ranged n)) _ (ap not r) ∙ least-first 5 known _ refl (index-known i is d))
@@ -123,7 +124,7 @@ module _ (ed : Edition) (fits : Fits ed) (t : List ℤ) (g : ed ≡ editionOf t)
       unfolding openingRows
       after-five = least-skip 2 (not (ranged n)) _ (ap not r) ∙ least-skip 5 known _ (index-new i is d)
 
-      pub open-full : ed .points ≤ numAt t 0 → openCall t n ≡ (pos 16 ∷ [], t)
+      pub open-full : ed .points ≤ numAt t 0 → openCall editions t n ≡ (pos 16 ∷ [], t)
       unfolding above
       open-full h =
           sent-back 15 (after-five ∙ least-first 16 _ _ refl (le-leb (ed .points) (length holders) (omega (arith, count-is))))
@@ -137,7 +138,7 @@ module _ (ed : Edition) (fits : Fits ed) (t : List ℤ) (g : ed ≡ editionOf t)
         unfolding tableBook bookOf
         x-is = e ∙ ap (λ l. othersUnfilled ed l (natOf (n .operator))) (operators-are (R .points))
 
-        pub open-eats : ed .points - (numAt t 0 + 1) < x → openCall t n ≡ (pos 19 ∷ [], t)
+        pub open-eats : ed .points - (numAt t 0 + 1) < x → openCall editions t n ≡ (pos 19 ∷ [], t)
         unfolding above
         open-eats k =
             sent-back 18 (after-sixteen ∙ least-first 19 _ [] refl (lt-ltb (ed .points - suc (length holders)) reserved (omega (arith, count-is, x-is))))
@@ -147,7 +148,7 @@ module _ (ed : Edition) (fits : Fits ed) (t : List ℤ) (g : ed ≡ editionOf t)
           unfolding least
           nothing = after-sixteen ∙ least-skip 19 _ [] (le-ltb (ed .points - suc (length holders)) reserved (omega (arith, count-is, x-is)))
 
-          pub open-entered : openCall t n ≡ (pos 0 ∷ [], appendPoint ed t (numAt t 0) (factsOf n) (natOf (n .user)))
+          pub open-entered : openCall editions t n ≡ (pos 0 ∷ [], appendPoint ed t (numAt t 0) (factsOf n) (natOf (n .user)))
           open-entered = taken nothing (omega (arith, points-count ed t))
 
           -- what the writing needs

@@ -9,31 +9,35 @@ ghost use Rattle.numbers.specs.Answers.{refused};
 ghost use Rattle.calendar.specs.Calendar.{within, isDay};
 ghost use Rattle.daybook.specs.Notices.{isMirn, isFlag, isUser, factsOf};
 ghost use Rattle.daybook.specs.Calls.{noticeNumbers, noticeRefused};
+ghost use Rattle.daybook.specs.Editions.{editions};
 ghost use Rattle.lists.specs.InnerWell.{FactsOk};
 ghost use Rattle.layout.specs.Layout.{tableLength, Fits};
 ghost use Rattle.layout.specs.InnerWrites.{appendPoint};
 ghost use Rattle.opening.specs.Opening.{freshCall, openCall};
 use daybook::Edition;
 use daybook::Facts;
+use daybook::NewRegister;
 use daybook::NoticeAnswer;
 use daybook::Opening;
-use daybook::Ranges;
 
-// A register with no points, whatever numbers the table holds.
-pub fn fresh(t: &mut [i64], n: Ranges) -> NoticeAnswer
-    ensures { λ r. ⌜ (noticeNumbers r ≡ freshCall (now (t .entry)) n .0) × (now (t .exit) ≡ freshCall (now (t .entry)) n .1) × (noticeRefused r ≡ refused (noticeNumbers r)) ⌝ }
+// A register with no points, of the edition that is named, whatever numbers the table holds.
+pub fn fresh(t: &mut [i64], n: NewRegister) -> NoticeAnswer
+    ensures { λ r. ⌜ (noticeNumbers r ≡ freshCall editions (now (t .entry)) n .0) × (now (t .exit) ≡ freshCall editions (now (t .entry)) n .1) × (noticeRefused r ≡ refused (noticeNumbers r)) ⌝ }
 {
     if t.len() < places::TABLE_LENGTH {
         return NoticeAnswer::Refused(1);
     }
     let nondaily = n.nondaily;
     let daily = n.daily;
-    if !(daybook::is_range(nondaily) & daybook::is_range(daily)) {
+    let edition = n.edition;
+    let ranges = daybook::is_range(nondaily) & daybook::is_range(daily);
+    if !(ranges & daybook::is_edition(edition)) {
         return NoticeAnswer::Refused(2);
     }
     rows::clear(t, 0, places::TABLE_LENGTH);
     t[places::NONDAILY] = nondaily;
     t[places::DAILY] = daily;
+    t[places::EDITION] = edition;
     NoticeAnswer::Entered
 }
 
@@ -96,7 +100,7 @@ fn append_point(t: &mut [i64], ed: Edition, i: usize, n: Opening)
 // A new point: 5 for a MIRN that the register has, 16 where all points are taken, 19 where those left after it would be
 // fewer than the other operators' unfilled reserves.
 pub fn open(t: &mut [i64], n: Opening) -> NoticeAnswer
-    ensures { λ r. ⌜ (noticeNumbers r ≡ openCall (now (t .entry)) n .0) × (now (t .exit) ≡ openCall (now (t .entry)) n .1) × (noticeRefused r ≡ refused (noticeNumbers r)) ⌝ }
+    ensures { λ r. ⌜ (noticeNumbers r ≡ openCall editions (now (t .entry)) n .0) × (now (t .exit) ≡ openCall editions (now (t .entry)) n .1) × (noticeRefused r ≡ refused (noticeNumbers r)) ⌝ }
 {
     let ed = table::edition(t);
     if !table::sound(t, ed) {

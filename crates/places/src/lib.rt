@@ -17,12 +17,14 @@ pub const NONDAILY: usize = 1;
 
 pub const DAILY: usize = 2;
 
-pub const HEADER_SPARE: usize = 3;
+pub const EDITION: usize = 3;
+
+pub const HEADER_SPARE: usize = 4;
 
 pub const HEADER_LENGTH: usize = 8;
 
-// A point's part: its facts, how many rows it has, a pending request, its section and operator; the places from SPARE on
-// are 0.
+// A point's part: its facts, how many rows it has, a pending request, its section and operator; the places from SPARE
+// on are 0.
 pub const MIRN: usize = 0;
 
 pub const KIND: usize = 1;

@@ -2,9 +2,10 @@
 // here is met by every caller: a part is long enough, and counts and numbers have been tested.
 use daybook::Facts;
 ghost use mathlib.Core.Path.{_≡_};
+ghost use mathlib.Core.List.{_++_};
 ghost use Prim.Native.Nat.{_+_, _<_, _≤_, _^_};
 ghost use lib.IntN.{pos, negsuc};
-ghost use lib.ListN.{length, set};
+ghost use lib.ListN.{length, set, take, drop};
 ghost use Rattle.numbers.specs.InnerEnergies.{energyOf};
 ghost use Rattle.lists.specs.InnerWell.{FactsOk};
 ghost use Rattle.layout.specs.Places.{recsPlace, recPlace};
@@ -44,6 +45,18 @@ pub fn clear(p: &mut [i64], a: usize, n: usize)
     let mut k: usize = 0;
     while k < n {
         numbers::put(p, a + k, 0);
+        k += 1;
+    }
+}
+
+// The first n numbers of another part or table.
+pub fn copy_first(p: &mut [i64], from: &[i64], n: usize)
+    requires { ⌜ (n ≤ length (now p)) × (n ≤ length (now from)) ⌝ }
+    ensures { λ _. ⌜ now (p .exit) ≡ take n (now (from .entry)) ++ drop n (now (p .entry)) ⌝ }
+{
+    let mut k: usize = 0;
+    while k < n {
+        p[k] = from[k];
         k += 1;
     }
 }

@@ -14,6 +14,7 @@ use Rattle.calendar.specs.Calendar.{isDay}
 use Rattle.daybook.specs.declared.Edition.{Edition}
 use Rattle.daybook.specs.declared.StatusNotice.{StatusNotice}
 use Rattle.daybook.specs.Notices.{least, Numbers, isMirn, isFlag, statusEarly, statusRows, status}
+use Rattle.daybook.specs.Editions.{editions}
 use Rattle.lists.specs.InnerSteps.{lastEnd, withOffs, statusLists}
 use Rattle.lists.proofs.Rows.{above, upTo, least-first, least-skip, least-none}
 use Rattle.lists.proofs.Bounds.{within-bounds}
@@ -75,7 +76,7 @@ module _ (day on : ℕ) (p : List ℤ) where
 -- ---- the call
 
 module _ (ed : Edition) (fits : Fits ed) (t : List ℤ) (g : ed ≡ editionOf t) (n : StatusNotice) (e : ℕ) (is : e ≡ least (statusEarly n)) where
-  whole : statusCall t n ≡ onEdition 0 (status n) ed t
+  whole : statusCall editions t n ≡ onEdition 0 (status n) ed t
   unfolding statusCall
   whole = ap (λ ed. onEdition 0 (status n) ed t) (sym g)
 
@@ -100,11 +101,11 @@ module _ (ed : Edition) (fits : Fits ed) (t : List ℤ) (g : ed ≡ editionOf t)
       }
 
   pub status-back : (r : ℕ) → SentBack ed t (n .mirn) e r
-      → (pos r ∷ [] ≡ statusCall t n .0) × (t ≡ statusCall t n .1) × (true ≡ refused (pos r ∷ []))
-  status-back = call-back ed fits t call (statusCall t n) whole e is
+      → (pos r ∷ [] ≡ statusCall editions t n .0) × (t ≡ statusCall editions t n .1) × (true ≡ refused (pos r ∷ []))
+  status-back = call-back ed fits t call (statusCall editions t n) whole e is
 
   pub status-done : {a b : ℕ} → PartFound ed t (n .mirn) e a b → (x : Numbers) (p : List ℤ) {c : Bool}
       → (x ≡ statusPart day on (lent t a b) .0) × (p ≡ statusPart day on (lent t a b) .1) × (c ≡ refused x)
-      → (x ≡ statusCall t n .0) × (backIn t a b p ≡ statusCall t n .1) × (c ≡ refused x)
+      → (x ≡ statusCall editions t n .0) × (backIn t a b p ≡ statusCall editions t n .1) × (c ≡ refused x)
   unfolding statusPart
-  status-done = call-done ed fits t call (statusCall t n) whole e is
+  status-done = call-done ed fits t call (statusCall editions t n) whole e is

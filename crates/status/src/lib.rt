@@ -9,6 +9,7 @@ ghost use Rattle.numbers.specs.Answers.{refused};
 ghost use Rattle.daybook.specs.Book.{lastOf};
 ghost use Rattle.daybook.specs.Notices.{least, statusEarly, cannotOff, cannotOn};
 ghost use Rattle.daybook.specs.Calls.{noticeNumbers, noticeRefused};
+ghost use Rattle.daybook.specs.Editions.{editions};
 ghost use Rattle.layout.specs.Layout.{pointNumbers, pointFrom};
 ghost use Rattle.layout.specs.InnerParts.{roomOf, SoundPart};
 ghost use Rattle.status.specs.InnerParts.{filledFrom, cannotSwitch, statusRowsOf, switchedLists, statusPart};
@@ -114,7 +115,7 @@ fn enter(p: &mut [i64], day: u64, on: u64) -> NoticeAnswer
 
 // On any table and any numbers.
 pub fn status(t: &mut [i64], n: StatusNotice) -> NoticeAnswer
-    ensures { λ r. ⌜ (noticeNumbers r ≡ statusCall (now (t .entry)) n .0) × (now (t .exit) ≡ statusCall (now (t .entry)) n .1) × (noticeRefused r ≡ refused (noticeNumbers r)) ⌝ }
+    ensures { λ r. ⌜ (noticeNumbers r ≡ statusCall editions (now (t .entry)) n .0) × (now (t .exit) ≡ statusCall editions (now (t .entry)) n .1) × (noticeRefused r ≡ refused (noticeNumbers r)) ⌝ }
 {
     let ed = table::edition(t);
     let mirn = n.mirn;

@@ -112,10 +112,10 @@ module _ (ed : Edition) (t : List ℤ) (i n : ℕ) where
 
 -- ---- the whole table
 
-pub body-is : (ed : Edition) (t : List ℤ) (n end : ℕ) (a b z p m e : Bool) → n ≡ numAt t 0 → a ≡ isRange (getD t 1 (pos 0)) → b ≡ isRange (getD t 2 (pos 0)) → z ≡ zeros t 3 8
-    → p ≡ all (λ i. partSound (partOf ed t i)) n → m ≡ mirnsDiffer (pointsFrom ed n (drop 8 t)) → end ≡ placeOf ed n → e ≡ zeros t end tableLength → (a && b && z && p && m && e) ≡ bodySound ed t
+pub body-is : (ed : Edition) (t : List ℤ) (n end : ℕ) (a b o z p m e : Bool) → n ≡ numAt t 0 → a ≡ isRange (getD t 1 (pos 0)) → b ≡ isRange (getD t 2 (pos 0)) → o ≡ eqb (numAt t 3) (ed .number) → z ≡ zeros t 4 8
+    → p ≡ all (λ i. partSound (partOf ed t i)) n → m ≡ mirnsDiffer (pointsFrom ed n (drop 8 t)) → end ≡ placeOf ed n → e ≡ zeros t end tableLength → (a && b && o && z && p && m && e) ≡ bodySound ed t
 unfolding bodySound
-body-is ed t n end a b z p m e q ea eb ez ep em g ee = rw (ea, eb, ez, ep, em, ee, g, q)
+body-is ed t n end a b o z p m e q ea eb eo ez ep em g ee = rw (ea, eb, eo, ez, ep, em, ee, g, q)
 
 module _ (ed : Edition) (t : List ℤ) where
   pub short-unsound : length t < 7688 → false ≡ sound ed t

@@ -16,6 +16,7 @@ use mir.Val.{toZ, ofZ, SFits}
 use Rattle.numbers.specs.Naturals.{natOf}
 use Rattle.numbers.specs.Search.{maybe}
 use Rattle.daybook.specs.declared.Edition.{Edition}
+use Rattle.daybook.specs.Editions.{editions}
 use Rattle.layout.specs.Layout.{tableLength, placeOf, Fits, editionOf, partOf}
 use Rattle.layout.specs.Sound.{sound}
 use Rattle.table.specs.declared.Located.{Located}
@@ -110,11 +111,11 @@ module _ {ed : Edition} {t : List ℤ} {m : ℤ} {early a b : ℕ} (fits : Fits 
       let n : placeOf ed (h .i + 1) ≤ tableLength = place-small ed fits (h .i + 1) (index-within ed t (h .isSound) (natOf m) (h .i) (h .index)) in
       (omega (arith, h .from, h .to, place-next ed fits (h .i)), omega (arith, h .to, n), sound-long ed t (h .isSound) .0)
 
-  pub looked-up : ed ≡ editionOf t → lent t a b ≡ lookUp t m
+  pub looked-up : ed ≡ editionOf t → lent t a b ≡ lookUp editions t m
   unfolding lookUp
   looked-up g = rw (← g, h .isSound, h .index) at-part
 
-pub nothing-found : {ed : Edition} {t : List ℤ} {m : ℤ} {r : ℕ} → ed ≡ editionOf t → SentBack ed t m 0 r → [] ≡ lookUp t m
+pub nothing-found : {ed : Edition} {t : List ℤ} {m : ℤ} {r : ℕ} → ed ≡ editionOf t → SentBack ed t m 0 r → [] ≡ lookUp editions t m
 unfolding lookUp
 nothing-found g (unsound s) = rw (← g, s)
 nothing-found g (by-numbers s r e) = absurd (omega arith)

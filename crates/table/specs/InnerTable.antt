@@ -11,7 +11,7 @@ use Rattle.numbers.specs.Search.{maybe}
 use Rattle.daybook.specs.declared.Edition.{Edition}
 use Rattle.daybook.specs.Notices.{Row, least, Numbers, decide, isRange}
 use Rattle.lists.specs.Lists.{Lists}
-use Rattle.layout.specs.Places.{pointsPlace, nondailyPlace, dailyPlace, headerSpare, headerLength}
+use Rattle.layout.specs.Places.{pointsPlace, nondailyPlace, dailyPlace, editionPlace, headerSpare, headerLength}
 use Rattle.layout.specs.Layout.{tableLength, placeOf, partOf, numAt, pointsFrom, pointNumbers, pointFrom}
 use Rattle.layout.specs.Sound.{zeros, partSound, mirnsDiffer, sound}
 use Rattle.layout.specs.InnerParts.{roomOf}
@@ -22,7 +22,8 @@ use Rattle.table.specs.declared.Located.the-variants.{Refused, At}
 -- What is tested of a table that is long enough and does not say that it has too many points.
 unfoldable pub bodySound : Edition → List ℤ → Bool
 bodySound ed t =
-    isRange (getD t nondailyPlace (pos 0)) && isRange (getD t dailyPlace (pos 0)) && zeros t headerSpare headerLength
+    isRange (getD t nondailyPlace (pos 0)) && isRange (getD t dailyPlace (pos 0))
+    && eqb (numAt t editionPlace) (ed .number) && zeros t headerSpare headerLength
     && all (λ i. partSound (partOf ed t i)) (numAt t pointsPlace)
     && mirnsDiffer (pointsFrom ed (numAt t pointsPlace) (drop headerLength t))
     && zeros t (placeOf ed (numAt t pointsPlace)) tableLength

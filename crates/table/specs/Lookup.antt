@@ -9,7 +9,8 @@ use Rattle.numbers.specs.Naturals.{natOf}
 use Rattle.numbers.specs.Search.{maybe, firstFrom}
 use Rattle.daybook.specs.declared.Edition.{Edition}
 use Rattle.layout.specs.Places.{pointsPlace}
-use Rattle.layout.specs.Layout.{placeOf, editionOf, partOf, numAt}
+use Rattle.daybook.specs.Editions.{Editions}
+use Rattle.layout.specs.Layout.{placeOf, editionIn, partOf, numAt}
 use Rattle.layout.specs.Sound.{sound}
 
 -- The first point, of those in use, whose MIRN is m.
@@ -17,6 +18,6 @@ unfoldable pub indexOf : Edition → List ℤ → ℕ → Option ℕ
 indexOf ed t m = firstFrom (λ i. eqb (numAt t (placeOf ed i)) m) 0 (numAt t pointsPlace)
 
 -- That point's numbers; nothing if the table is short or unsound or has no such point.
-unfoldable pub lookUp : List ℤ → ℤ → List ℤ
-lookUp t mirn =
-    let ed : Edition = editionOf t in cond (sound ed t) (maybe [] (partOf ed t) (indexOf ed t (natOf mirn))) []
+unfoldable pub lookUp : Editions → List ℤ → ℤ → List ℤ
+lookUp E t mirn =
+    let ed : Edition = editionIn E t in cond (sound ed t) (maybe [] (partOf ed t) (indexOf ed t (natOf mirn))) []

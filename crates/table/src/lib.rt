@@ -5,6 +5,7 @@ ghost use Prim.Native.Nat.{_<_, _≤_};
 ghost use lib.ListN.{length, drop};
 ghost use Rattle.numbers.specs.Rows.{all};
 ghost use Rattle.numbers.specs.Search.{maybe};
+ghost use Rattle.daybook.specs.Editions.{editions, editionNo};
 ghost use Rattle.layout.specs.Places.{pointsPlace, headerLength};
 ghost use Rattle.layout.specs.Layout.{tableLength, stride as strideOf, placeOf, Fits, editionOf, partOf, numAt, pointsFrom};
 ghost use Rattle.layout.specs.Sound.{partSound, mirnsDiffer, sound as tableSound};
@@ -18,15 +19,34 @@ pub enum Located {
     At { from: usize, to: usize },
 }
 
-// The edition of a table.
-pub fn edition(t: &[i64]) -> Edition
-    ensures { λ r. ⌜ (r ≡ editionOf (now (t .entry))) × Fits r ⌝ }
+// The edition of a number.
+pub fn edition_of(number: u64) -> Edition
+    ensures { λ r. ⌜ (r ≡ editionNo editions number) × Fits r ⌝ }
 {
+    if number == 1 {
+        return Edition {
+            number: 1,
+            points: 16,
+            records: 108,
+            reserve: 2,
+        };
+    }
     Edition {
+        number: 0,
         points: 32,
         records: 48,
         reserve: 4,
     }
+}
+
+// The edition of a table, by its header; of one that has none the standard edition.
+pub fn edition(t: &[i64]) -> Edition
+    ensures { λ r. ⌜ (r ≡ editionOf (now (t .entry))) × Fits r ⌝ }
+{
+    if t.len() <= places::EDITION {
+        return edition_of(0);
+    }
+    edition_of(numbers::get(t, places::EDITION))
 }
 
 // How many numbers a point has.
@@ -116,6 +136,7 @@ fn body_sound(t: &[i64], ed: Edition, n: usize) -> bool
     let end = place(ed, n);
     daybook::is_range(t[places::NONDAILY])
         & daybook::is_range(t[places::DAILY])
+        & (numbers::get(t, places::EDITION) == ed.number)
         & point::zeros_in(t, places::HEADER_SPARE, places::HEADER_LENGTH)
         & parts_sound(t, ed, n)
         & mirns_differ(t, ed, n)
@@ -177,7 +198,7 @@ pub fn locate(t: &[i64], ed: Edition, mirn: i64, early: u64) -> Located
 // The point of a MIRN: its part of the lent table itself, an empty part if the table is short or unsound or has no
 // such point.
 pub fn look_up(t: &[i64], m: i64) -> &[i64]
-    ensures { λ r. ⌜ now r ≡ lookUp (now (t .entry)) m ⌝ }
+    ensures { λ r. ⌜ now r ≡ lookUp editions (now (t .entry)) m ⌝ }
 {
     let ed = edition(t);
     let Located::At { from, to } = locate(t, ed, m, 0) else {

@@ -14,6 +14,7 @@ use Rattle.calendar.specs.Calendar.{isDay, holidayList, allowablePeriod}
 use Rattle.daybook.specs.declared.Edition.{Edition}
 use Rattle.daybook.specs.declared.TransferRequest.{TransferRequest}
 use Rattle.daybook.specs.Notices.{isMirn, isUser, isFlag, least, Numbers, requestEarly, requestRows, request}
+use Rattle.daybook.specs.Editions.{editions}
 use Rattle.lists.specs.InnerSteps.{withPendingLists, requestLists}
 use Rattle.lists.proofs.Rows.{above, upTo, least-first, least-skip, least-none}
 use Rattle.lists.proofs.Bounds.{within-bounds}
@@ -68,7 +69,7 @@ module _ (n : TransferRequest) (holidays : List ℤ) where
 -- ---- the call
 
 module _ (ed : Edition) (fits : Fits ed) (t : List ℤ) (g : ed ≡ editionOf t) (n : TransferRequest) (holidays : List ℤ) (e : ℕ) (is : e ≡ least (requestEarly n holidays)) where
-  whole : requestCall t n holidays ≡ onEdition 2 (request n holidays) ed t
+  whole : requestCall editions t n holidays ≡ onEdition 2 (request n holidays) ed t
   unfolding requestCall
   whole = ap (λ ed. onEdition 2 (request n holidays) ed t) (sym g)
 
@@ -93,7 +94,7 @@ module _ (ed : Edition) (fits : Fits ed) (t : List ℤ) (g : ed ≡ editionOf t)
       }
 
   -- a row of its numbers or of its holidays sends it back from any table
-  pub request-early : (r : ℕ) → e ≡ suc r → requestCall t n holidays ≡ (pos (cond (sound ed t) (suc r) 1) ∷ pos 0 ∷ pos 0 ∷ [], t)
+  pub request-early : (r : ℕ) → e ≡ suc r → requestCall editions t n holidays ≡ (pos (cond (sound ed t) (suc r) 1) ∷ pos 0 ∷ pos 0 ∷ [], t)
   request-early r z = whole ∙ go (sound ed t) refl
     where
       go : (s : Bool) → sound ed t ≡ s → onEdition 2 (request n holidays) ed t ≡ (pos (cond s (suc r) 1) ∷ pos 0 ∷ pos 0 ∷ [], t)
@@ -101,11 +102,11 @@ module _ (ed : Edition) (fits : Fits ed) (t : List ℤ) (g : ed ≡ editionOf t)
       go true s = on-early ed fits t s (call s) r (sym is ∙ z)
 
   pub request-back : (r : ℕ) → SentBack ed t (n .mirn) e r
-      → (pos r ∷ pos 0 ∷ pos 0 ∷ [] ≡ requestCall t n holidays .0) × (t ≡ requestCall t n holidays .1) × (true ≡ refused (pos r ∷ pos 0 ∷ pos 0 ∷ []))
-  request-back = call-back ed fits t call (requestCall t n holidays) whole e is
+      → (pos r ∷ pos 0 ∷ pos 0 ∷ [] ≡ requestCall editions t n holidays .0) × (t ≡ requestCall editions t n holidays .1) × (true ≡ refused (pos r ∷ pos 0 ∷ pos 0 ∷ []))
+  request-back = call-back ed fits t call (requestCall editions t n holidays) whole e is
 
   pub request-done : {a b : ℕ} → PartFound ed t (n .mirn) e a b → (x : Numbers) (p : List ℤ) {c : Bool}
       → (x ≡ requestPart user periodOf (lent t a b) .0) × (p ≡ requestPart user periodOf (lent t a b) .1) × (c ≡ refused x)
-      → (x ≡ requestCall t n holidays .0) × (backIn t a b p ≡ requestCall t n holidays .1) × (c ≡ refused x)
+      → (x ≡ requestCall editions t n holidays .0) × (backIn t a b p ≡ requestCall editions t n holidays .1) × (c ≡ refused x)
   unfolding requestPart
-  request-done = call-done ed fits t call (requestCall t n holidays) whole e is
+  request-done = call-done ed fits t call (requestCall editions t n holidays) whole e is

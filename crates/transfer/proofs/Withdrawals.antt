@@ -12,6 +12,7 @@ use Rattle.numbers.proofs.Bools.{both}
 use Rattle.daybook.specs.declared.Edition.{Edition}
 use Rattle.daybook.specs.declared.Withdrawal.{Withdrawal}
 use Rattle.daybook.specs.Notices.{isMirn, isUser, least, Numbers, withdrawEarly, withdrawRows, withdraw}
+use Rattle.daybook.specs.Editions.{editions}
 use Rattle.lists.specs.InnerSteps.{withPendingLists, withdrawLists}
 use Rattle.lists.proofs.Rows.{above, upTo, least-first, least-skip, least-none}
 use Rattle.lists.proofs.Bounds.{within-bounds}
@@ -50,7 +51,7 @@ module _ (n : Withdrawal) where
 -- ---- the call
 
 module _ (ed : Edition) (fits : Fits ed) (t : List ℤ) (g : ed ≡ editionOf t) (n : Withdrawal) (e : ℕ) (is : e ≡ least (withdrawEarly n)) where
-  whole : withdrawCall t n ≡ onEdition 0 (withdraw n) ed t
+  whole : withdrawCall editions t n ≡ onEdition 0 (withdraw n) ed t
   unfolding withdrawCall
   whole = ap (λ ed. onEdition 0 (withdraw n) ed t) (sym g)
 
@@ -69,11 +70,11 @@ module _ (ed : Edition) (fits : Fits ed) (t : List ℤ) (g : ed ≡ editionOf t)
       }
 
   pub withdraw-back : (r : ℕ) → SentBack ed t (n .mirn) e r
-      → (pos r ∷ [] ≡ withdrawCall t n .0) × (t ≡ withdrawCall t n .1) × (true ≡ refused (pos r ∷ []))
-  withdraw-back = call-back ed fits t call (withdrawCall t n) whole e is
+      → (pos r ∷ [] ≡ withdrawCall editions t n .0) × (t ≡ withdrawCall editions t n .1) × (true ≡ refused (pos r ∷ []))
+  withdraw-back = call-back ed fits t call (withdrawCall editions t n) whole e is
 
   pub withdraw-done : {a b : ℕ} → PartFound ed t (n .mirn) e a b → (x : Numbers) (p : List ℤ) {c : Bool}
       → (x ≡ withdrawPart (natOf (n .user)) (lent t a b) .0) × (p ≡ withdrawPart (natOf (n .user)) (lent t a b) .1) × (c ≡ refused x)
-      → (x ≡ withdrawCall t n .0) × (backIn t a b p ≡ withdrawCall t n .1) × (c ≡ refused x)
+      → (x ≡ withdrawCall editions t n .0) × (backIn t a b p ≡ withdrawCall editions t n .1) × (c ≡ refused x)
   unfolding withdrawPart
-  withdraw-done = call-done ed fits t call (withdrawCall t n) whole e is
+  withdraw-done = call-done ed fits t call (withdrawCall editions t n) whole e is

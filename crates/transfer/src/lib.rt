@@ -13,6 +13,7 @@ ghost use Rattle.numbers.specs.Answers.{refused};
 ghost use Rattle.calendar.specs.Calendar.{allowablePeriod};
 ghost use Rattle.daybook.specs.Notices.{least, requestEarly, withdrawEarly};
 ghost use Rattle.daybook.specs.Calls.{noticeNumbers, noticeRefused, requestNumbers, requestRefused};
+ghost use Rattle.daybook.specs.Editions.{editions};
 ghost use Rattle.layout.specs.InnerParts.{SoundPart};
 ghost use Rattle.transfer.specs.Transfer.{requestCall, withdrawCall};
 ghost use Rattle.transfer.specs.InnerParts.{requestPart, withdrawPart};
@@ -41,7 +42,7 @@ fn withdraw_at(p: &mut [i64], user: u64) -> NoticeAnswer
 
 // The withdraw call.
 pub fn withdraw(t: &mut [i64], n: Withdrawal) -> NoticeAnswer
-    ensures { λ r. ⌜ (noticeNumbers r ≡ withdrawCall (now (t .entry)) n .0) × (now (t .exit) ≡ withdrawCall (now (t .entry)) n .1) × (noticeRefused r ≡ refused (noticeNumbers r)) ⌝ }
+    ensures { λ r. ⌜ (noticeNumbers r ≡ withdrawCall editions (now (t .entry)) n .0) × (now (t .exit) ≡ withdrawCall editions (now (t .entry)) n .1) × (noticeRefused r ≡ refused (noticeNumbers r)) ⌝ }
 {
     let ed = table::edition(t);
     let mirn = n.mirn;
@@ -103,7 +104,7 @@ fn request_at(
 
 // The request call: its answer is the allowable period.
 pub fn request(t: &mut [i64], n: TransferRequest, holidays: &[i64]) -> RequestAnswer
-    ensures { λ r. ⌜ (requestNumbers r ≡ requestCall (now (t .entry)) n (now (holidays .entry)) .0) × (now (t .exit) ≡ requestCall (now (t .entry)) n (now (holidays .entry)) .1) × (requestRefused r ≡ refused (requestNumbers r)) ⌝ }
+    ensures { λ r. ⌜ (requestNumbers r ≡ requestCall editions (now (t .entry)) n (now (holidays .entry)) .0) × (now (t .exit) ≡ requestCall editions (now (t .entry)) n (now (holidays .entry)) .1) × (requestRefused r ≡ refused (requestNumbers r)) ⌝ }
 {
     let ed = table::edition(t);
     let mirn = n.mirn;

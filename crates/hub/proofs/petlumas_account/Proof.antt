@@ -2,6 +2,7 @@ use mathlib.Core.Path.{_≡_, ap, _∙_}
 use mir.Facts.{toZ-ofZ}
 use borrow.Author.Needs.{needs}
 use Rattle.daybook.specs.Notices.{Numbers}
+use Rattle.daybook.specs.Editions.{editions}
 use Rattle.account.specs.Account.{accountCall}
 use Rattle.words.specs.Words.{bitsOf}
 use Rattle.buffers.specs.Buffers.{tableIn}
@@ -20,7 +21,7 @@ start c = after-t (c .before .before) .before .before .before
 
 -- what the call gives
 abbrev given : tie.Start → Numbers
-given s = accountCall (tableIn (s .args .register .now)) (record { user = s .args .user; from = s .args .from; to = s .args .to })
+given s = accountCall editions (tableIn (s .args .register .now)) (record { user = s .args .user; from = s .args .from; to = s .args .to })
 
 -- the answer's numbers, with each number of the query read back from its bits
 gave : (c : tie.After-account-numbers) → c .account-numbers .result ≡ bitsOf (given (start c))

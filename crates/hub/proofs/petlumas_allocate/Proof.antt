@@ -6,6 +6,7 @@ use lib.ListN.{length}
 use mir.Facts.{toZ-ofZ}
 use borrow.Author.Needs.{needs}
 use Rattle.daybook.specs.Notices.{Numbers}
+use Rattle.daybook.specs.Editions.{editions}
 use Rattle.allocate.specs.Allocate.{allocateCall, placed}
 use Rattle.words.specs.Words.{bitsOf}
 use Rattle.buffers.specs.Buffers.{tableIn}
@@ -30,7 +31,7 @@ start c = after-t (after-table c .before .before) .before .before .before .befor
 abbrev given : tie.Start → Numbers × List ℤ
 given s =
     let a = s .args in
-    allocateCall (tableIn (a .register .now))
+    allocateCall editions (tableIn (a .register .now))
     (record { gasday = a .gasday; from = a .from; to = a .to; tdq = a .tdq; uag = a .uag; clp = a .clp }) (length (a .shares .now) / 8)
 
 -- the answer's numbers and the shares, with each number of the query read back from its bits

@@ -4,6 +4,7 @@ use lib.IntN.{ℤ}
 use mir.Facts.{toZ-ofZ}
 use borrow.Author.Needs.{needs}
 use Rattle.daybook.specs.Notices.{Numbers}
+use Rattle.daybook.specs.Editions.{editions}
 use Rattle.energy.specs.Energy.{energyCall}
 use Rattle.words.specs.Words.{bitsOf}
 use Rattle.buffers.specs.Buffers.{tableIn}
@@ -24,7 +25,7 @@ start c = after-t (c .before .before) .before .before .before .before
 abbrev given : tie.Start → Numbers × List ℤ
 given s =
     let a = s .args in
-    energyCall (tableIn (a .register .now))
+    energyCall editions (tableIn (a .register .now))
     (record { mirn = a .mirn; start = a .start; end = a .end; energy = a .energy; «type_» = a .type-; confirmed = a .confirmed })
 
 -- the answer's numbers and the table, with each number of the notice read back from its bits

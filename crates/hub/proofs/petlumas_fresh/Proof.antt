@@ -4,6 +4,7 @@ use lib.IntN.{ℤ}
 use mir.Facts.{toZ-ofZ}
 use borrow.Author.Needs.{needs}
 use Rattle.daybook.specs.Notices.{Numbers}
+use Rattle.daybook.specs.Editions.{editions}
 use Rattle.opening.specs.Opening.{freshCall}
 use Rattle.words.specs.Words.{bitsOf}
 use Rattle.buffers.specs.Buffers.{tableIn}
@@ -24,15 +25,15 @@ start c = after-t (c .before .before) .before .before .before .before
 abbrev given : tie.Start → Numbers × List ℤ
 given s =
     let a = s .args in
-    freshCall (tableIn (a .register .now))
-    (record { nondaily = a .nondaily; daily = a .daily })
+    freshCall editions (tableIn (a .register .now))
+    (record { nondaily = a .nondaily; daily = a .daily; edition = a .edition })
 
 -- the answer's numbers and the table, with each number of the notice read back from its bits
 gave : (c : tie.After-notice-numbers)
     → (c .notice-numbers .result ≡ bitsOf (given (start c) .0)) × (c .before .before .fresh .last .0 ≡ given (start c) .1)
 gave c =
     let f = start c .fits in
-    let e = rw (toZ-ofZ (f .nondaily), toZ-ofZ (f .daily), c .before .before .before .before .table-in .ensures .0) at (c .before .before .fresh .ensures) in
+    let e = rw (toZ-ofZ (f .nondaily), toZ-ofZ (f .daily), toZ-ofZ (f .edition), c .before .before .before .before .table-in .ensures .0) at (c .before .before .fresh .ensures) in
     (c .notice-numbers .ensures ∙ ap bitsOf (e .0), e .1)
 
 finish-requires : tie.Need-finish-requires

@@ -4,6 +4,7 @@ use lib.IntN.{ℤ}
 use mir.Facts.{toZ-ofZ}
 use borrow.Author.Needs.{needs}
 use Rattle.daybook.specs.Notices.{Numbers}
+use Rattle.daybook.specs.Editions.{editions}
 use Rattle.transfer.specs.Transfer.{requestCall}
 use Rattle.words.specs.Words.{bitsOf}
 use Rattle.buffers.specs.Buffers.{tableIn, holidaysIn}
@@ -25,7 +26,7 @@ start c = after-t (c .before .before .before .before) .before .before .before .b
 abbrev given : tie.Start → Numbers × List ℤ
 given s =
     let a = s .args in
-    requestCall (tableIn (a .register .now))
+    requestCall editions (tableIn (a .register .now))
     (record { mirn = a .mirn; user = a .user; proposed = a .proposed; nochange = a .nochange }) (holidaysIn (a .holidays .now))
 
 -- the answer's numbers and the table, with each number of the notice read back from its bits

@@ -5,6 +5,7 @@ use lib.Seq.{length-take-le}
 use mir.Facts.{toZ-ofZ}
 use borrow.Author.Needs.{needs}
 use Rattle.daybook.specs.Notices.{Numbers}
+use Rattle.daybook.specs.Editions.{editions}
 use Rattle.images.specs.Images.{restoreCall}
 use Rattle.words.specs.Words.{bitsOf}
 use Rattle.buffers.specs.Buffers.{tableIn, imageIn}
@@ -32,7 +33,7 @@ start c = begun (read (room (c .before .before)))
 abbrev given : tie.Start → Numbers × List ℤ
 given s =
     let a = s .args in
-    restoreCall (tableIn (a .register .now)) (a .state) (imageIn (a .image .now) (a .answer .now))
+    restoreCall editions (tableIn (a .register .now)) (a .state) (imageIn (a .image .now) (a .answer .now))
 
 -- the answer's numbers and the table, with the state number read back from its bits
 gave : (c : tie.After-notice-numbers)

@@ -9,6 +9,7 @@ use mir.Syntax.{w64}
 use mir.Val.{toZ, ofZ}
 use borrow.Author.Needs.{needs}
 use Rattle.daybook.specs.Notices.{Numbers}
+use Rattle.daybook.specs.Editions.{editions}
 use Rattle.images.specs.Images.{saveCall}
 use Rattle.images.proofs.Calls.{save-kept, save-length}
 use Rattle.words.specs.Words.{bitsOf}
@@ -40,7 +41,7 @@ start c = begun (read (room (saved c)))
 abbrev given : tie.Start → Numbers × List ℕ
 given s =
     let a = s .args in
-    saveCall (tableIn (a .register .now)) (a .state) (imageIn (a .image .now) (a .answer .now))
+    saveCall editions (tableIn (a .register .now)) (a .state) (imageIn (a .image .now) (a .answer .now))
 
 -- the answer's numbers and the lent bytes, with the state number read back from its bits
 gave : (c : tie.After-notice-numbers)
@@ -50,9 +51,9 @@ gave c =
     let a = start c .args in
     let lent : List ℕ = take (room r .image-room .result) (a .image .now) in
     let same =
-    ap (λ (u : List ℤ). saveCall u (toZ w64 (ofZ w64 (a .state))) lent) (read (room r) .table-in .ensures .0)
-    ∙ ap (λ (n : ℤ). saveCall (tableIn (a .register .now)) n lent) (toZ-ofZ (start c .fits .state))
-    ∙ ap (saveCall (tableIn (a .register .now)) (a .state)) (image-lent (a .image .now) (a .answer .now) _ (room r .image-room .ensures .0)) in (
+    ap (λ (u : List ℤ). saveCall editions u (toZ w64 (ofZ w64 (a .state))) lent) (read (room r) .table-in .ensures .0)
+    ∙ ap (λ (n : ℤ). saveCall editions (tableIn (a .register .now)) n lent) (toZ-ofZ (start c .fits .state))
+    ∙ ap (saveCall editions (tableIn (a .register .now)) (a .state)) (image-lent (a .image .now) (a .answer .now) _ (room r .image-room .ensures .0)) in (
       c .notice-numbers .ensures ∙ ap bitsOf (r .save .ensures .0 ∙ ap (λ (w : Numbers × List ℕ). w .0) same),
       r .save .ensures .1 ∙ ap (λ (w : Numbers × List ℕ). w .1) same,
     )
@@ -71,7 +72,7 @@ returns c =
     let n : ℕ = room (saved d) .image-room .result in
     let replies = ended-reply (d .notice-numbers .result) (w .0) (gave d .0) (save-small _ _ _) _ (search needs) _ (c .integer .ensures) _ _ (r .reply .ensures .0) in
     let left = ap (λ b. b ++ drop n (a .image .now)) (gave d .1)
-    ∙ image-left (saveCall (tableIn (a .register .now)) (a .state)) (save-kept _ _) (save-length _ _) (a .image .now) (a .answer .now) n (room (saved d) .image-room .ensures .0) in
+    ∙ image-left (saveCall editions (tableIn (a .register .now)) (a .state)) (save-kept _ _ _) (save-length _ _ _) (a .image .now) (a .answer .now) n (room (saved d) .image-room .ensures .0) in
     ap (λ (p : ℤ × List ℕ). (p .0, (saved d .save .last .1 .1 .0 ++ drop n (a .image .now), p .1))) replies
     ∙ ap (λ (i : List ℕ). (replied (w .0) (a .answer .now) .0, (i, replied (w .0) (a .answer .now) .1))) left
 

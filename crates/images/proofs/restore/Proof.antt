@@ -9,9 +9,10 @@ use mir.ValLaws.{toZ-ofZ}
 use borrow.Author.Needs.{needs}
 use borrow.Author.Tests.{not-true, not-false, ne-eqb}
 use Rattle.daybook.specs.States.{firstRow}
+use Rattle.daybook.specs.Editions.{editions}
 use Rattle.layout.specs.Layout.{tableLength, editionOf}
 use Rattle.layout.specs.Sound.{sound}
-use Rattle.layout.proofs.Editions.{edition-fits, edition-take}
+use Rattle.layout.proofs.Editions.{both-fit, edition-fits, edition-take}
 use Rattle.layout.proofs.Notices.{front-sound}
 use Rattle.table.proofs.Calls.{gives, tells}
 use Rattle.images.specs.Blocks.{imageNumbers}
@@ -48,16 +49,16 @@ sound-is : (a : tie.After-sound)
     → a .sound .result ≡ sound (editionOf (imageNumbers (start (asked (taken (a .before .before)) .before) .args .image .now))) (imageNumbers (start (asked (taken (a .before .before)) .before) .args .image .now))
 sound-is a =
     let u : List ℤ = taken (a .before .before) .take-blocks .last .1 .0 in
-    a .sound .ensures ∙ ap (λ ed. sound ed u) (a .before .before .edition .ensures .0) ∙ front-sound (editionOf u) (edition-fits u) u
-    ∙ ap (λ ed. sound ed (take tableLength u)) (edition-take u) ∙ ap (λ u. sound (editionOf u) u) (held-is (taken (a .before .before)))
+    a .sound .ensures ∙ ap (λ ed. sound ed u) (a .before .before .edition .ensures .0) ∙ front-sound (editionOf u) (edition-fits editions both-fit u) u
+    ∙ ap (λ ed. sound ed (take tableLength u)) (edition-take editions u) ∙ ap (λ u. sound (editionOf u) u) (held-is (taken (a .before .before)))
 
 returns : tie.Need-returns
-returns c = tells (restore-short _ _ _ (c .if1 .taken)) refl
+returns c = tells (restore-short editions _ _ _ (c .if1 .taken)) refl
 
 returns-2 : tie.Need-returns-2
 returns-2 c =
     let s = start (c .before) .args in
-    tells (restore-sent (s .t .now) (s .state) (s .image .now) (c .before .before .if1 .left) _ (row-is (c .before)) (c .if2 .taken))
+    tells (restore-sent editions (s .t .now) (s .state) (s .image .now) (c .before .before .if1 .left) _ (row-is (c .before)) (c .if2 .taken))
     (sym (ap not (ne-eqb _ _ (c .if2 .taken))))
 
 take-blocks-requires : tie.Need-take-blocks-requires
@@ -68,7 +69,7 @@ returns-3 : tie.Need-returns-3
 returns-3 c =
     let e = asked (taken (c .before .before .before)) in
     let s = start (e .before) .args in
-    tells (restore-unsound (s .t .now) (s .state) (s .image .now) (e .before .before .if1 .left) (clear e) (sym (sound-is (c .before)) ∙ not-true _ (c .if3 .taken))) refl
+    tells (restore-unsound editions (s .t .now) (s .state) (s .image .now) (e .before .before .if1 .left) (clear e) (sym (sound-is (c .before)) ∙ not-true _ (c .if3 .taken))) refl
 
 returns-4 : tie.Need-returns-4
 returns-4 c =
@@ -76,9 +77,9 @@ returns-4 c =
     let a = taken (e .before .before .before) in
     let n = asked a in
     let s = start (n .before) .args in
-    let w = gives (restore-entered (s .t .now) (s .state) (s .image .now) (n .before .before .if1 .left) (clear n) (sym (sound-is (e .before)) ∙ not-false _ (e .if3 .left))) in (
+    let w = gives (restore-entered editions (s .t .now) (s .state) (s .image .now) (n .before .before .if1 .left) (clear n) (sym (sound-is (e .before)) ∙ not-false _ (e .if3 .left))) in (
       w .0,
-      c .before .put-register .ensures ∙ ap (λ u. u ++ drop tableLength (s .t .now)) (held-is a) ∙ w .1,
+      c .before .copy-first .ensures ∙ ap (λ u. u ++ drop tableLength (s .t .now)) (held-is a) ∙ w .1,
       refl,
     )
 

@@ -7,6 +7,7 @@ use borrow.Author.Tests.{leb-true, not-true, not-false}
 use Rattle.numbers.proofs.Bools.{both}
 use Rattle.numbers.proofs.Naturals.{test-read, natural-read}
 use Rattle.daybook.specs.States.{isState, imageLength}
+use Rattle.daybook.specs.Editions.{editions}
 use Rattle.layout.specs.Layout.{editionOf}
 use Rattle.layout.specs.Sound.{sound}
 use Rattle.table.proofs.Laws.{sound-long}
@@ -42,10 +43,10 @@ passed : (e : tie.Else2) → asked (begun (e .before) .args .state) (begun (e .b
 passed e = sym (asked-is (e .before)) ∙ not-false _ (e .if2 .left)
 
 returns : tie.Need-returns
-returns c = tells (save-unsound _ _ _ (sym (sound-is (c .before)) ∙ not-true _ (c .if1 .taken))) refl
+returns c = tells (save-unsound editions _ _ _ (sym (sound-is (c .before)) ∙ not-true _ (c .if1 .taken))) refl
 
 returns-2 : tie.Need-returns-2
-returns-2 c = tells (save-out _ _ _ (whole (else1 (c .before))) (sym (asked-is (c .before)) ∙ not-true _ (c .if2 .taken))) refl
+returns-2 c = tells (save-out editions _ _ _ (whole (else1 (c .before))) (sym (asked-is (c .before)) ∙ not-true _ (c .if2 .taken))) refl
 
 put-blocks-requires : tie.Need-put-blocks-requires
 put-blocks-requires c κs =
@@ -60,7 +61,7 @@ returns-3 c =
     let a = c .before .before in
     let e = a .before .before .before in
     let s = begun (e .before) in
-    let w = gives (save-entered (s .args .t .now) (s .args .state) (s .args .image .now) (whole (else1 (e .before))) (passed e)) in (
+    let w = gives (save-entered editions (s .args .t .now) (s .args .state) (s .args .image .now) (whole (else1 (e .before))) (passed e)) in (
       w .0,
       a .put-blocks .ensures
           ∙ ap (λ n. withImage n (s .args .t .now) (s .args .image .now)) (a .before .before .natural .ensures .0 ∙ natural-read (s .args .state) (s .fits .state))

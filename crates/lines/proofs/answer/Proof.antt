@@ -31,8 +31,13 @@ returns-4 c =
 
 returns-5 : tie.Need-returns-5
 returns-5 c =
+    let f = c .before .before .before .before in
+    rw (f .before .before .before .enum-told4 .given .1) (f .convert .ensures)
+
+returns-6 : tie.Need-returns-6
+returns-6 c =
     let a = c .before .before .before .args in
-    nothing _ _ _ (no-line (a .command) (a .register .now) (a .lent) (a .room) (a .nums .now) (c .match .keys5))
+    nothing _ _ _ (no-line (a .command) (a .register .now) (a .lent) (a .room) (a .nums .now) (c .match .keys6))
 
 pub answer-spec : {M : Type 1} → statement M
 answer-spec =
@@ -41,7 +46,7 @@ answer-spec =
     (λ c. search needs) (λ c. search needs) (λ c. search needs) (λ c. search needs) (λ c. search needs)
     (λ c κs. search needs) (λ c. search needs) (λ c. search needs) (λ c. search needs) (λ c. search needs)
     (λ c κs. search needs) (λ c. search needs) (λ c κs. search needs) (λ c. search needs) (λ c κs. search needs)
-    (λ c. search needs) (λ c. search needs)
+    (λ c. search needs) (λ c κs. search needs) (λ c. search needs) (λ c. search needs)
     returns
     (λ c. search needs) (λ c. search needs)
     returns-2
@@ -49,4 +54,6 @@ answer-spec =
     returns-3
     (λ c. search needs) (λ c. search needs)
     returns-4
-    returns-5)
+    (λ c. search needs) (λ c. search needs)
+    returns-5
+    returns-6)
