@@ -1,41 +1,14 @@
+/* The notices and queries. */
 #include "plain.h"
-
-#include "places.h"
+#include "plain_rows.h"
 
 #include <string.h>
 
 enum {
-    LAST_DAY = 39999,
-    ENERGY_MOST = 1000000,
     AMOUNT_MOST = 1000000000,
-    USERS = 16,
     DAYS = LAST_DAY + 2, /* a registration may start on the day after the last */
     PERIOD = 425,
-    STATES = 4,
-    BLOCKS = 124,
-    BLOCK_NUMBERS = 62,
-    LABEL_AT = 8 * BLOCK_NUMBERS, /* state and block number, as one word */
-    CHECK_AT = LABEL_AT + 8,
-    BLOCK_BYTES = CHECK_AT + 8,
-    IMAGE_BYTES = BLOCKS * BLOCK_BYTES,
 };
-
-static const int64_t MIRN_MOST = 9999999999;
-
-static bool within(int64_t x, int64_t least, int64_t most) {
-    return least <= x && x <= most;
-}
-
-static bool is_day(int64_t x) {
-    return within(x, 0, LAST_DAY);
-}
-
-static bool all_zero(const int64_t *from, const int64_t *to) {
-    int64_t any = 0;
-    while (from < to)
-        any |= *from++;
-    return any == 0;
-}
 
 static int64_t least(int64_t a, int64_t b) {
     return a < b ? a : b;
@@ -50,134 +23,11 @@ static int64_t ceil_div(int64_t x, int64_t n) {
     return x / n + (x % n > 0);
 }
 
-static const int64_t *registrations(const int64_t *p) {
-    return p + REGISTRATION_ROWS;
-}
-
-static const int64_t *registrations_end(const int64_t *p) {
-    return p + REGISTRATION_ROWS + REGISTRATION_NUMBERS * p[REGISTRATION_COUNT];
-}
-
-static const int64_t *spans(const int64_t *p) {
-    return p + SPAN_ROWS;
-}
-
-static const int64_t *spans_end(const int64_t *p) {
-    return p + SPAN_ROWS + SPAN_NUMBERS * p[SPAN_COUNT];
-}
-
-static const int64_t *records(const int64_t *p) {
-    return p + RECORD_ROWS;
-}
-
-static const int64_t *records_end(const int64_t *p) {
-    return p + RECORD_ROWS + RECORD_NUMBERS * p[RECORD_COUNT];
-}
-
-static const int64_t *points_end(const int64_t *table) {
-    return table + HEADER_NUMBERS + POINT_NUMBERS * table[POINT_COUNT];
-}
-
-/* ---- soundness */
-
-static bool facts_sound(const int64_t *p) {
-    return within(p[MIRN], 1, MIRN_MOST) && within(p[KIND], 0, 1) && is_day(p[INSTALL]) &&
-           within(p[BASE], 0, 10000) && within(p[REGISTRATION_COUNT], 1, REGISTRATIONS) &&
-           within(p[SPAN_COUNT], 0, SPANS) && within(p[RECORD_COUNT], 0, RECORDS) &&
-           within(p[SECTION], 0, 1) && within(p[OPERATOR], 0, 4) &&
-           all_zero(p + SPARE, p + REGISTRATION_ROWS);
-}
-
-static bool registrations_sound(const int64_t *p) {
-    const int64_t *end = registrations_end(p);
-    if (p[REGISTRATION_ROWS] != p[INSTALL])
-        return false;
-    for (const int64_t *r = registrations(p); r < end; r += 2) {
-        if (!within(r[1], 1, USERS))
-            return false;
-        if (r > registrations(p) && (r[0] <= r[-2] || r[0] > LAST_DAY + 1 || r[1] == r[-1]))
-            return false;
-    }
-    return all_zero(end, p + SPAN_ROWS);
-}
-
-static bool spans_sound(const int64_t *p) {
-    const int64_t *end = spans_end(p);
-    int64_t from = p[INSTALL];
-    for (const int64_t *s = spans(p); s < end; s += 2) {
-        if (!within(s[0], from, LAST_DAY))
-            return false;
-        if (s[1] == -1 && s + 2 == end)
-            break;
-        if (!within(s[1], s[0] + 1, LAST_DAY))
-            return false;
-        from = s[1] + 1;
-    }
-    return all_zero(end, p + RECORD_ROWS);
-}
-
-static bool record_fits(const int64_t *p, const int64_t *r) {
-    return is_day(r[1]) && (p[KIND] == 1 ? r[0] == r[1] : r[0] < r[1]) &&
-           within(r[2], -ENERGY_MOST, ENERGY_MOST) && within(r[3], 0, 2);
-}
-
-/* Records and spans ascend, so one pass over both finds each record's only possible start. */
-static bool records_sound(const int64_t *p) {
-    const int64_t *s = spans(p);
-    const int64_t *off_end = spans_end(p);
-    const int64_t *end = records_end(p);
-    int64_t day = p[INSTALL];
-    for (const int64_t *r = records(p); r < end; r += 4) {
-        while (s < off_end && s[1] != -1 && s[1] <= day)
-            s += 2;
-        if (s < off_end && s[0] <= day) {
-            if (s[1] == -1)
-                return false;
-            day = s[1];
-            s += 2;
-        }
-        if (r[0] != day || !record_fits(p, r) || (s < off_end && s[0] <= r[1]))
-            return false;
-        day = r[1] + 1;
-    }
-    return all_zero(end, p + POINT_NUMBERS);
-}
-
-static bool pending_sound(const int64_t *p) {
-    if (p[PENDING] == 0)
-        return p[FIRST] == 0 && p[LAST] == 0;
-    return within(p[PENDING], 1, USERS) && p[PENDING] != registrations_end(p)[-1] &&
-           is_day(p[FIRST]) && within(p[LAST], p[FIRST], LAST_DAY) &&
-           p[REGISTRATION_COUNT] < REGISTRATIONS;
-}
-
-static bool mirns_differ(const int64_t *table) {
-    const int64_t *end = points_end(table);
-    for (const int64_t *p = table + HEADER_NUMBERS; p < end; p += POINT_NUMBERS)
-        for (const int64_t *q = table + HEADER_NUMBERS; q < p; q += POINT_NUMBERS)
-            if (p[MIRN] == q[MIRN])
-                return false;
-    return true;
-}
-
-bool plain_sound(const int64_t *table, size_t length) {
-    if (length < REGISTER_NUMBERS || !within(table[POINT_COUNT], 0, POINTS) ||
-        !within(table[NONDAILY], -1, ENERGY_MOST) || !within(table[DAILY], -1, ENERGY_MOST) ||
-        !all_zero(table + HEADER_SPARE, table + HEADER_NUMBERS))
-        return false;
-    const int64_t *end = points_end(table);
-    for (const int64_t *p = table + HEADER_NUMBERS; p < end; p += POINT_NUMBERS)
-        if (!facts_sound(p) || !registrations_sound(p) || !spans_sound(p) || !records_sound(p) ||
-            !pending_sound(p))
-            return false;
-    return mirns_differ(table) && all_zero(end, table + REGISTER_NUMBERS);
-}
-
 /* ---- energy */
 
 static int64_t *find_point(int64_t *table, int64_t mirn) {
     int64_t *p = table + HEADER_NUMBERS;
-    for (int64_t i = 0; i < table[POINT_COUNT]; i++, p += POINT_NUMBERS)
+    for (int64_t i = 0; i < table[POINT_COUNT]; i++, p += stride(table))
         if (p[MIRN] == mirn)
             return p;
     return NULL;
@@ -219,7 +69,7 @@ static int64_t refuse_record(const int64_t *table, const int64_t *p, int64_t row
         return 8;
     if (range >= 0 && confirmed == 0 && !within(energy, -range, range))
         return 9;
-    if (append && row == RECORDS)
+    if (append && row == edition_of(table)->records)
         return 16;
     return 0;
 }
@@ -389,7 +239,7 @@ struct plain_account plain_account(const int64_t *table, size_t length, int64_t 
     if (answer.refusal != 0)
         return answer;
     bool filled;
-    for (const int64_t *p = table + HEADER_NUMBERS; p < points_end(table); p += POINT_NUMBERS)
+    for (const int64_t *p = points(table); p < points_end(table); p += stride(table))
         for (const int64_t *r = registrations(p); r < registrations_end(p); r += 2)
             if (r[1] == user)
                 answer.sum += shares_between(p, most(from, r[0]),
@@ -417,7 +267,7 @@ struct plain_account plain_account_by_days(const int64_t *table, size_t length, 
     struct plain_account answer = {refuse_account(table, length, user, from, to), 0};
     if (answer.refusal != 0)
         return answer;
-    for (const int64_t *p = table + HEADER_NUMBERS; p < points_end(table); p += POINT_NUMBERS)
+    for (const int64_t *p = points(table); p < points_end(table); p += stride(table))
         answer.sum += point_by_days(p, user, from, to);
     return answer;
 }
@@ -479,10 +329,10 @@ static bool allocation_in_range(int64_t gasday, int64_t from, int64_t to, int64_
 /* Splits nsl among the points by their weights, which add up to total. */
 static void split(const int64_t *table, const int64_t *weights, int64_t total, int64_t gasday,
                   struct plain_allocation *answer, int64_t *shares) {
-    const int64_t *p = table + HEADER_NUMBERS;
+    const int64_t *p = points(table);
     int64_t before = 0;
-    for (int64_t i = 0; i < POINTS; i++, p += POINT_NUMBERS) {
-        shares[i] = 0;
+    memset(shares, 0, SHARES * sizeof *shares);
+    for (int64_t i = 0; i < table[POINT_COUNT]; i++, p += stride(table)) {
         if (weights[i] == 0)
             continue;
         shares[i] = answer->nsl * (before + weights[i]) / total - answer->nsl * before / total;
@@ -495,19 +345,19 @@ struct plain_allocation plain_allocate(const int64_t *table, size_t length, int6
                                        size_t shares_length, int64_t gasday, int64_t from,
                                        int64_t to, int64_t tdq, int64_t uag, int64_t clp) {
     struct plain_allocation answer = {0};
-    int64_t weights[POINTS] = {0};
+    int64_t weights[SHARES] = {0};
     int64_t total = 0;
     int64_t daily = 0;
     if (!plain_sound(table, length)) {
         answer.refusal = 1;
         return answer;
     }
-    if (!allocation_in_range(gasday, from, to, tdq, uag, clp) || shares_length < POINTS) {
+    if (!allocation_in_range(gasday, from, to, tdq, uag, clp) || shares_length < SHARES) {
         answer.refusal = 2;
         return answer;
     }
-    const int64_t *p = table + HEADER_NUMBERS;
-    for (int64_t i = 0; i < table[POINT_COUNT]; i++, p += POINT_NUMBERS) {
+    const int64_t *p = points(table);
+    for (int64_t i = 0; i < table[POINT_COUNT]; i++, p += stride(table)) {
         if (!is_active(p, gasday))
             continue;
         if (p[KIND] == 1)
@@ -522,75 +372,4 @@ struct plain_allocation plain_allocate(const int64_t *table, size_t length, int6
     answer.nsl = most(tdq - daily - uag - clp, 0);
     split(table, weights, total, gasday, &answer, shares);
     return answer;
-}
-
-/* ---- save and restore */
-
-/* Words go in and out of an image as they lie in memory. */
-_Static_assert(__BYTE_ORDER__ == __ORDER_LITTLE_ENDIAN__, "images are little endian");
-
-struct check {
-    uint64_t sum, sums;
-};
-
-static void add(struct check *check, uint64_t word) {
-    check->sum += word;
-    check->sums += check->sum;
-}
-
-static void save_block(const int64_t *numbers, uint64_t label, uint8_t *block) {
-    struct check check = {0, 0};
-    for (size_t k = 0; k < BLOCK_NUMBERS; k++) {
-        add(&check, (uint64_t)numbers[k]);
-        memcpy(block + 8 * k, &numbers[k], 8);
-    }
-    add(&check, label);
-    memcpy(block + LABEL_AT, &label, 8);
-    memcpy(block + CHECK_AT, &check.sums, 8);
-}
-
-/* False if the check is wrong. */
-static bool load_block(const uint8_t *block, int64_t *numbers, uint64_t *label) {
-    struct check check = {0, 0};
-    for (size_t k = 0; k < BLOCK_NUMBERS; k++) {
-        memcpy(&numbers[k], block + 8 * k, 8);
-        add(&check, (uint64_t)numbers[k]);
-    }
-    memcpy(label, block + LABEL_AT, 8);
-    add(&check, *label);
-    return memcmp(block + CHECK_AT, &check.sums, 8) == 0;
-}
-
-int64_t plain_save(const int64_t *table, size_t length, uint8_t *image, size_t image_length,
-                   int64_t state) {
-    if (!plain_sound(table, length))
-        return 1;
-    if (!within(state, 1, STATES) || image_length < IMAGE_BYTES)
-        return 2;
-    for (uint64_t b = 0; b < BLOCKS; b++)
-        save_block(table + BLOCK_NUMBERS * b, (uint64_t)state | b << 32, image + BLOCK_BYTES * b);
-    return 0;
-}
-
-int64_t plain_restore(int64_t *table, size_t length, const uint8_t *image, size_t image_length,
-                      int64_t state) {
-    int64_t held[REGISTER_NUMBERS];
-    bool other = false;
-    if (length < REGISTER_NUMBERS)
-        return 1;
-    if (!within(state, 1, STATES) || image_length < IMAGE_BYTES)
-        return 2;
-    for (uint64_t b = 0; b < BLOCKS; b++) {
-        uint64_t label;
-        if (!load_block(image + BLOCK_BYTES * b, held + BLOCK_NUMBERS * b, &label) ||
-            label >> 32 != b)
-            return 17;
-        other = other || (label & UINT32_MAX) != (uint64_t)state;
-    }
-    if (other)
-        return 18;
-    if (!plain_sound(held, REGISTER_NUMBERS))
-        return 1;
-    memcpy(table, held, sizeof held);
-    return 0;
 }

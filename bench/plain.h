@@ -48,5 +48,6 @@ int64_t plain_save(const int64_t *table, size_t length, uint8_t *image, size_t i
                    int64_t state);
 int64_t plain_restore(int64_t *table, size_t length, const uint8_t *image, size_t image_length,
                       int64_t state);
+int64_t plain_convert(const int64_t *table, size_t length, int64_t *other, size_t other_length);
 
 #endif

@@ -44,13 +44,17 @@ static int64_t mostly(struct chance *c, int64_t good) {
 
 /* ---- arguments */
 
-static size_t any_point(struct chance *c) {
-    int64_t points = get_number(c->reg, POINT_COUNT);
-    return HEADER_NUMBERS + POINT_NUMBERS * (points == 0 ? 0 : (size_t)below(c, (uint64_t)points));
-}
-
 static int64_t number_at(const struct chance *c, size_t place) {
     return get_number(c->reg, place);
+}
+
+static const struct edition *edition_of(const struct chance *c) {
+    return &editions[number_at(c, EDITION)];
+}
+
+static size_t any_point(struct chance *c) {
+    int64_t points = number_at(c, POINT_COUNT);
+    return point_place(edition_of(c), points == 0 ? 0 : (size_t)below(c, (uint64_t)points));
 }
 
 static int64_t choose_mirn(struct chance *c, size_t point) {
@@ -89,6 +93,7 @@ static int64_t choose_start(struct chance *c, size_t point) {
 void choose_fresh(struct chance *c, int64_t *args) {
     args[0] = mostly(c, between(c, -1, 1000000));
     args[1] = mostly(c, between(c, -1, 1000));
+    args[2] = mostly(c, between(c, STANDARD, LONG));
 }
 
 void choose_open(struct chance *c, int64_t *args) {
@@ -200,14 +205,18 @@ static size_t any_place(struct chance *c) {
         return (size_t)below(c, REGISTER_NUMBERS);
     if (one_in(c, 8))
         return (size_t)below(c, HEADER_NUMBERS);
-    size_t within = one_in(c, 2) ? (size_t)below(c, RECORD_ROWS) : (size_t)below(c, POINT_NUMBERS);
-    return any_point(c) + within;
+    size_t numbers = one_in(c, 2) ? RECORD_ROWS : edition_of(c)->point_numbers;
+    size_t point = any_point(c);
+    return point + (size_t)below(c, numbers);
 }
 
+/* Often the edition: a point of few records may then be sound in the other. */
 void damage_number(struct chance *c, uint8_t *reg) {
     size_t place = any_place(c);
     uint64_t byte = below(c, 8);
-    if (one_in(c, 4))
+    if (one_in(c, 12))
+        put_number(reg, EDITION, between(c, -1, EDITIONS));
+    else if (one_in(c, 4))
         reg[8 * place + byte] ^= (uint8_t)(1U << below(c, 8));
     else if (one_in(c, 2))
         put_number(reg, place, get_number(reg, any_place(c)));
@@ -240,15 +249,13 @@ static void feed(struct chance *c, uint64_t ways) {
 static void forget_operators(struct chance *c) {
     size_t points = (size_t)number_at(c, POINT_COUNT);
     for (size_t i = 0; i < points; i++)
-        put_number(c->reg, HEADER_NUMBERS + POINT_NUMBERS * i + OPERATOR, 0);
+        put_number(c->reg, point_place(edition_of(c), i) + OPERATOR, 0);
 }
 
-void start_register(struct chance *c) {
+static void open_points(struct chance *c, int64_t points) {
     uint8_t answer[8];
-    int64_t points = one_in(c, 2) ? between(c, 1, POINTS) : between(c, 1, 3);
-    int64_t least = one_in(c, 3) ? 4 : 1; /* operator 4 alone gets 19 where others' reserves begin */
-    petlumas_fresh(c->reg, PETLUMAS_REGISTER_BYTES, answer, sizeof answer, -1,
-                   between(c, -1, 1000000));
+    /* Operator 4 alone gets 19 where the others' reserves begin. */
+    int64_t least = one_in(c, 3) ? 4 : 1;
     for (int64_t i = 1; i <= points; i++) {
         /* One by one: C does not say in which order arguments are computed. */
         int64_t kind = between(c, 0, 1);
@@ -256,13 +263,21 @@ void start_register(struct chance *c) {
         int64_t install = between(c, 0, 60);
         int64_t base = between(c, 0, 1);
         int64_t section = between(c, 0, 1);
-        int64_t operator = between(c, least, 4);
+        int64_t operator_ = between(c, least, OPERATORS);
         petlumas_open(c->reg, PETLUMAS_REGISTER_BYTES, answer, sizeof answer, i, kind, user,
-                      install, base, section, operator);
+                      install, base, section, operator_);
     }
+}
+
+void start_register(struct chance *c, int64_t edition) {
+    uint8_t answer[8];
+    int64_t points = between(c, 1, one_in(c, 2) ? editions[between(c, STANDARD, LONG)].points : 3);
+    int64_t daily = between(c, -1, 1000000);
+    petlumas_fresh(c->reg, PETLUMAS_REGISTER_BYTES, answer, sizeof answer, -1, daily, edition);
+    open_points(c, points);
     if (one_in(c, 4))
         forget_operators(c);
     uint64_t ways = one_in(c, 2) ? 15 : 18;
-    for (uint64_t count = below(c, 500); count > 0; count--)
+    for (uint64_t count = below(c, 10 * (uint64_t)editions[edition].records); count > 0; count--)
         feed(c, ways);
 }

@@ -20,8 +20,8 @@ int64_t between(struct chance *c, int64_t least, int64_t most);
 /* A number from near a limit, or any at all. */
 int64_t wild(struct chance *c);
 
-/* A register made by calls: many points with few rows, or few points that fill up. */
-void start_register(struct chance *c);
+/* A register of an edition made by calls: many points with few rows, or few points that fill up. */
+void start_register(struct chance *c, int64_t edition);
 
 void damage_number(struct chance *c, uint8_t *reg);
 

@@ -1,9 +1,9 @@
 /* Calls every function on damaged registers and images and on buffers of odd lengths and looks at
    what it left in every buffer. */
-#include "chance.h"
+#include "conversions.h"
+#include "functions.h"
 #include "images.h"
-#include "lent.h"
-#include "petlumas.h"
+#include "places.h"
 #include "words.h"
 
 #include <inttypes.h>
@@ -16,7 +16,7 @@ enum {
     PAST_BYTES = 128, /* lent behind a register or an image at most */
     IMAGE_BYTES = PETLUMAS_IMAGE_BYTES,
     SHARES_BYTES = PETLUMAS_ALLOCATE_TABLE_BYTES,
-    REFUSALS = 22,
+    REFUSALS = 23,
     CASES_PER_REGISTER = 250,
 };
 
@@ -26,16 +26,9 @@ struct test {
     uint64_t calls;
     uint64_t failures;
     uint8_t work[REGISTER_BYTES + PAST_BYTES]; /* the chance's register, perhaps damaged */
+    uint8_t earlier[REGISTER_BYTES];           /* a sound one from before it */
     uint8_t copy[IMAGE_BYTES + PAST_BYTES];    /* what is lent as an image or expected of a call */
-    struct lent reg, answer, table, holidays, image;
-};
-
-struct function {
-    const char *name;
-    size_t fields; /* numbers of its answer */
-    bool writes;   /* into the register */
-    void (*choose)(struct chance *chance, int64_t *args);
-    int64_t (*call)(struct test *test, const int64_t *args);
+    struct buffers lent;
 };
 
 /* ---- lent buffers */
@@ -60,6 +53,7 @@ static size_t choose_length(struct test *t, size_t needed) {
     }
 }
 
+/* The same of a register. */
 static size_t choose_register_length(struct test *t) {
     switch (below(&t->chance, 12)) {
     case 0:
@@ -84,113 +78,44 @@ static void lend_holidays(struct test *t) {
         put_number(list, k, one_in(&t->chance, 200) ? wild(&t->chance) : day);
         day += between(&t->chance, 1, 40);
     }
-    lend(&t->chance, &t->holidays, list, 8 * count + (size_t)below(&t->chance, 8));
+    lend(&t->chance, &t->lent.holidays, list, 8 * count + (size_t)below(&t->chance, 8));
 }
 
-/* For restore an image of the case's register, which may be unsound, or of a sound one, as it is or
-   damaged; for save, and sometimes for restore, no image. */
+/* The register of an image: the case's, which may be unsound, the present sound one, or the last of
+   the list before, which was begun in the other edition. */
+static const uint8_t *choose_imaged(struct test *t) {
+    switch (below(&t->chance, 4)) {
+    case 0:
+        return t->earlier;
+    case 1:
+        return t->chance.reg;
+    default:
+        return t->work;
+    }
+}
+
+/* For restore an image, as it is or damaged; for save, and sometimes for restore, no image. */
 static void lend_image(struct test *t, bool restores, int64_t state) {
     struct chance *c = &t->chance;
     memset(t->copy, one_in(c, 2) ? 0 : (int)below(c, 256), sizeof t->copy);
     if (restores && !one_in(c, 20)) {
-        const uint8_t *reg = one_in(c, 2) ? t->work : c->reg;
+        const uint8_t *reg = choose_imaged(t);
         write_image(t->copy, reg, one_in(c, 10) ? (uint32_t)below(c, 6) : (uint32_t)state);
         if (one_in(c, 2))
             for (uint64_t k = 1 + below(c, 3); k > 0; k--)
                 damage_image(c, t->copy);
     }
-    lend(c, &t->image, t->copy, choose_length(t, IMAGE_BYTES));
+    lend(c, &t->lent.image, t->copy, choose_length(t, IMAGE_BYTES));
 }
 
-/* ---- calls */
-
-static int64_t call_fresh(struct test *t, const int64_t *a) {
-    return petlumas_fresh(t->reg.at, t->reg.length, t->answer.at, t->answer.length, a[0], a[1]);
+/* What is lent for a register of the other edition: bytes of one kind, or a register. */
+static void lend_other(struct test *t) {
+    size_t length = choose_register_length(t);
+    bool filled = one_in(&t->chance, 2);
+    if (filled)
+        memset(t->copy, (int)below(&t->chance, 256), length);
+    lend(&t->chance, &t->lent.other, filled ? t->copy : t->work, length);
 }
-
-static int64_t call_open(struct test *t, const int64_t *a) {
-    return petlumas_open(t->reg.at, t->reg.length, t->answer.at, t->answer.length, a[0], a[1], a[2],
-                         a[3], a[4], a[5], a[6]);
-}
-
-static int64_t call_energy(struct test *t, const int64_t *a) {
-    return petlumas_energy(t->reg.at, t->reg.length, t->answer.at, t->answer.length, a[0], a[1],
-                           a[2], a[3], a[4], a[5]);
-}
-
-static int64_t call_status(struct test *t, const int64_t *a) {
-    return petlumas_status(t->reg.at, t->reg.length, t->answer.at, t->answer.length, a[0], a[1],
-                           a[2]);
-}
-
-static int64_t call_request(struct test *t, const int64_t *a) {
-    return petlumas_request(t->reg.at, t->reg.length, t->answer.at, t->answer.length,
-                            t->holidays.at, t->holidays.length, a[0], a[1], a[2], a[3]);
-}
-
-static int64_t call_withdraw(struct test *t, const int64_t *a) {
-    return petlumas_withdraw(t->reg.at, t->reg.length, t->answer.at, t->answer.length, a[0], a[1]);
-}
-
-static int64_t call_correct(struct test *t, const int64_t *a) {
-    return petlumas_correct(t->reg.at, t->reg.length, t->answer.at, t->answer.length, a[0], a[1],
-                            a[2], a[3]);
-}
-
-static int64_t call_account(struct test *t, const int64_t *a) {
-    return petlumas_account(t->reg.at, t->reg.length, t->answer.at, t->answer.length, a[0], a[1],
-                            a[2]);
-}
-
-static int64_t call_allocate(struct test *t, const int64_t *a) {
-    return petlumas_allocate(t->reg.at, t->reg.length, t->answer.at, t->answer.length, t->table.at,
-                             t->table.length, a[0], a[1], a[2], a[3], a[4], a[5]);
-}
-
-static int64_t call_save(struct test *t, const int64_t *a) {
-    return petlumas_save(t->reg.at, t->reg.length, t->answer.at, t->answer.length, t->image.at,
-                         t->image.length, a[0]);
-}
-
-static int64_t call_restore(struct test *t, const int64_t *a) {
-    return petlumas_restore(t->reg.at, t->reg.length, t->answer.at, t->answer.length, t->image.at,
-                            t->image.length, a[0]);
-}
-
-static int64_t call_date(struct test *t, const int64_t *a) {
-    return petlumas_date(t->answer.at, t->answer.length, a[0], a[1], a[2]);
-}
-
-enum {
-    FRESH,
-    OPEN,
-    ENERGY,
-    STATUS,
-    REQUEST,
-    WITHDRAW,
-    CORRECT,
-    ACCOUNT,
-    ALLOCATE,
-    SAVE,
-    RESTORE,
-    DATE,
-    FUNCTIONS
-};
-
-static const struct function functions[FUNCTIONS] = {
-    [FRESH] = {"fresh", 1, true, choose_fresh, call_fresh},
-    [OPEN] = {"open", 1, true, choose_open, call_open},
-    [ENERGY] = {"energy", 5, true, choose_energy_notice, call_energy},
-    [STATUS] = {"status", 1, true, choose_status, call_status},
-    [REQUEST] = {"request", 3, true, choose_request, call_request},
-    [WITHDRAW] = {"withdraw", 1, true, choose_withdraw, call_withdraw},
-    [CORRECT] = {"correct", 17, true, choose_correct, call_correct},
-    [ACCOUNT] = {"account", 2, false, choose_account, call_account},
-    [ALLOCATE] = {"allocate", 18, false, choose_allocate, call_allocate},
-    [SAVE] = {"save", 1, false, choose_state, call_save},
-    [RESTORE] = {"restore", 1, true, choose_state, call_restore},
-    [DATE] = {"date", 2, false, choose_date, call_date},
-};
 
 /* ---- what a call must leave */
 
@@ -202,75 +127,92 @@ static void expect(struct test *t, bool holds, const struct function *f, const c
 }
 
 static void check_answer(struct test *t, const struct function *f, int64_t result) {
-    if (t->answer.length < 8 * f->fields) {
+    if (t->lent.answer.length < 8 * f->fields) {
         expect(t, result == 1 || result == 2, f, "a short answer is neither 1 nor 2");
-        expect(t, unchanged_from(&t->answer, 0), f, "a short answer was written");
+        expect(t, unchanged_from(&t->lent.answer, 0), f, "a short answer was written");
         return;
     }
-    expect(t, get_number(t->answer.at, 0) == result, f, "the result is not the refusal");
+    expect(t, get_number(t->lent.answer.at, 0) == result, f, "the result is not the refusal");
     for (size_t k = 1; k < f->fields && result != 0; k++)
-        expect(t, get_number(t->answer.at, k) == 0, f, "a field of a refusal is not 0");
-    expect(t, unchanged_from(&t->answer, 8 * f->fields), f, "bytes past the answer changed");
+        expect(t, get_number(t->lent.answer.at, k) == 0, f, "a field of a refusal is not 0");
+    expect(t, unchanged_from(&t->lent.answer, 8 * f->fields), f, "bytes past the answer changed");
 }
 
 static void check_register(struct test *t, const struct function *f, int64_t result) {
     if (f == &functions[DATE])
         return;
-    expect(t, t->reg.length >= REGISTER_BYTES || result == 1, f, "a short register is not 1");
+    expect(t, t->lent.reg.length >= REGISTER_BYTES || result == 1, f, "a short register is not 1");
     if (f->writes && result == 0)
-        expect(t, unchanged_from(&t->reg, REGISTER_BYTES), f, "bytes past the register changed");
+        expect(t, unchanged_from(&t->lent.reg, REGISTER_BYTES), f,
+               "bytes past the register changed");
     else
-        expect(t, unchanged_from(&t->reg, 0), f, "the register changed");
+        expect(t, unchanged_from(&t->lent.reg, 0), f, "the register changed");
 }
 
 static void check_others(struct test *t, const struct function *f, int64_t result) {
     if (f == &functions[REQUEST])
-        expect(t, unchanged_from(&t->holidays, 0), f, "the holidays changed");
+        expect(t, unchanged_from(&t->lent.holidays, 0), f, "the holidays changed");
     if (f != &functions[ALLOCATE])
         return;
-    expect(t, t->table.length >= SHARES_BYTES || result == 1 || result == 2, f,
+    expect(t, t->lent.table.length >= SHARES_BYTES || result == 1 || result == 2, f,
            "a short answer table is neither 1 nor 2");
-    expect(t, unchanged_from(&t->table, result == 0 ? SHARES_BYTES : 0), f,
+    expect(t, unchanged_from(&t->lent.table, result == 0 ? SHARES_BYTES : 0), f,
            "the answer table changed where it may not");
-}
-
-/* An account with good numbers is refused only for a short or unsound register. */
-static bool is_sound(const uint8_t *reg, size_t length) {
-    uint8_t answer[16];
-    return petlumas_account(reg, length, answer, sizeof answer, 1, 0, 0) == 0;
 }
 
 static void check_save(struct test *t, int64_t state, bool sound, int64_t result) {
     const struct function *f = &functions[SAVE];
-    bool good = 1 <= state && state <= 4 && t->image.length >= IMAGE_BYTES && t->answer.length >= 8;
+    bool good = 1 <= state && state <= 4 && t->lent.image.length >= IMAGE_BYTES &&
+                t->lent.answer.length >= 8;
     expect(t, result == (!sound ? 1 : good ? 0 : 2), f, "not the refusal that the bytes get");
-    expect(t, unchanged_from(&t->image, result == 0 ? IMAGE_BYTES : 0), f,
+    expect(t, unchanged_from(&t->lent.image, result == 0 ? IMAGE_BYTES : 0), f,
            "the image changed where it may not");
     if (result != 0)
         return;
-    write_image(t->copy, t->reg.before, (uint32_t)state);
-    expect(t, memcmp(t->image.at, t->copy, IMAGE_BYTES) == 0, f, "not the register's image");
+    write_image(t->copy, t->lent.reg.before, (uint32_t)state);
+    expect(t, memcmp(t->lent.image.at, t->copy, IMAGE_BYTES) == 0, f, "not the register's image");
 }
 
 /* The refusal that the lent bytes get; the image's register is copied where it is looked at. */
 static int64_t judge_restore(struct test *t, int64_t state) {
-    if (t->reg.length < REGISTER_BYTES)
+    if (t->lent.reg.length < REGISTER_BYTES)
         return 1;
-    if (t->answer.length < 8)
+    if (t->lent.answer.length < 8)
         return 2;
-    int64_t refusal = judge_image(t->image.before, t->image.length, state);
+    int64_t refusal = judge_image(t->lent.image.before, t->lent.image.length, state);
     if (refusal != 0)
         return refusal;
-    read_image(t->image.before, t->copy);
+    read_image(t->lent.image.before, t->copy);
     return is_sound(t->copy, REGISTER_BYTES) ? 0 : 1;
 }
 
 static void check_restore(struct test *t, int64_t state, int64_t result) {
     const struct function *f = &functions[RESTORE];
     expect(t, result == judge_restore(t, state), f, "not the refusal that the bytes get");
-    expect(t, unchanged_from(&t->image, 0), f, "the image changed");
+    expect(t, unchanged_from(&t->lent.image, 0), f, "the image changed");
     if (result == 0)
-        expect(t, memcmp(t->reg.at, t->copy, REGISTER_BYTES) == 0, f, "not the image's register");
+        expect(t, memcmp(t->lent.reg.at, t->copy, REGISTER_BYTES) == 0, f,
+               "not the image's register");
+}
+
+/* The refusal that the lent bytes get, in the order of document 02. */
+static int64_t judge_convert(const struct test *t, bool sound) {
+    if (!sound || t->lent.other.length < REGISTER_BYTES)
+        return 1;
+    return t->lent.answer.length < 8 ? 2 : judge_room(t->lent.reg.before);
+}
+
+static void check_convert(struct test *t, bool sound, int64_t result) {
+    const struct function *f = &functions[CONVERT];
+    expect(t, result == judge_convert(t, sound), f, "not the refusal that the bytes get");
+    expect(t, unchanged_from(&t->lent.other, result == 0 ? REGISTER_BYTES : 0), f,
+           "the other register changed where it may not");
+    if (result != 0)
+        return;
+    write_converted(t->copy, t->lent.reg.before);
+    expect(t, memcmp(t->lent.other.at, t->copy, REGISTER_BYTES) == 0, f,
+           "not the register in the other edition");
+    expect(t, is_sound(t->lent.other.at, t->lent.other.length), f, "an unsound register was made");
 }
 
 /* ---- cases */
@@ -292,29 +234,41 @@ static void lend_register(struct test *t, bool restores, size_t length) {
     bool any = restores && one_in(&t->chance, 2);
     if (any)
         memset(t->copy, (int)below(&t->chance, 256), length);
-    lend(&t->chance, &t->reg, any ? t->copy : t->work, length);
+    lend(&t->chance, &t->lent.reg, any ? t->copy : t->work, length);
 }
 
 static void lend_buffers(struct test *t, const struct function *f, size_t length, int64_t state) {
     lend_register(t, f == &functions[RESTORE], length);
-    lend_filled(t, &t->answer, choose_length(t, 8 * f->fields));
-    lend_filled(t, &t->table, choose_length(t, SHARES_BYTES));
+    lend_filled(t, &t->lent.answer, choose_length(t, 8 * f->fields));
+    lend_filled(t, &t->lent.table, choose_length(t, SHARES_BYTES));
     lend_holidays(t);
     if (f == &functions[SAVE] || f == &functions[RESTORE])
         lend_image(t, f == &functions[RESTORE], state);
+    if (f == &functions[CONVERT])
+        lend_other(t);
 }
 
 static void take_all_back(struct test *t) {
-    take_back(&t->reg);
-    take_back(&t->answer);
-    take_back(&t->table);
-    take_back(&t->holidays);
-    take_back(&t->image);
+    take_back(&t->lent.reg);
+    take_back(&t->lent.answer);
+    take_back(&t->lent.table);
+    take_back(&t->lent.holidays);
+    take_back(&t->lent.image);
+    take_back(&t->lent.other);
 }
 
 /* Whether the soundness of the lent register is asked for. */
 static bool asks_sound(const struct function *f) {
     return f != &functions[FRESH] && f != &functions[RESTORE] && f != &functions[DATE];
+}
+
+/* The register that later calls go on in: what a notice left, and at times what a conversion made.
+   Fresh and restore would undo what other calls entered. */
+static void go_on(struct test *t, const struct function *f) {
+    if (f->writes && asks_sound(f))
+        memcpy(t->chance.reg, t->lent.reg.at, REGISTER_BYTES);
+    if (f == &functions[CONVERT] && one_in(&t->chance, 8))
+        memcpy(t->chance.reg, t->lent.other.at, REGISTER_BYTES);
 }
 
 static void check_call(struct test *t, const struct function *f, const int64_t *args, bool sound,
@@ -327,10 +281,12 @@ static void check_call(struct test *t, const struct function *f, const int64_t *
         check_save(t, args[0], sound, result);
     if (f == &functions[RESTORE])
         check_restore(t, args[0], result);
-    if (asks_sound(f))
+    if (f == &functions[CONVERT])
+        check_convert(t, sound, result);
+    else if (asks_sound(f))
         expect(t, (result == 1) == !sound, f, "1 is not for what is short or unsound alone");
     if (f->writes && result == 0)
-        expect(t, is_sound(t->reg.at, t->reg.length), f, "an unsound register was left");
+        expect(t, is_sound(t->lent.reg.at, t->lent.reg.length), f, "an unsound register was left");
 }
 
 static void try_function(struct test *t, const struct function *f, size_t length, bool sound,
@@ -338,20 +294,25 @@ static void try_function(struct test *t, const struct function *f, size_t length
     int64_t args[ARGS_MOST] = {0};
     f->choose(&t->chance, args);
     lend_buffers(t, f, length, args[0]);
-    int64_t result = f->call(t, args);
+    int64_t result = f->call(&t->lent, args);
     t->calls++;
     check_call(t, f, args, sound, result);
     if (0 <= result && result < REFUSALS)
         refusals[result]++;
-    /* Fresh and restore would undo what other calls entered. */
-    if (f->writes && result == 0 && asks_sound(f))
-        memcpy(t->chance.reg, t->reg.at, REGISTER_BYTES);
+    if (result == 0)
+        go_on(t, f);
     take_all_back(t);
+}
+
+/* The editions take turns. */
+static void start_list(struct test *t) {
+    memcpy(t->earlier, t->chance.reg, REGISTER_BYTES);
+    start_register(&t->chance, (int64_t)(t->number / CASES_PER_REGISTER % EDITIONS));
 }
 
 static void run_case(struct test *t, uint64_t refusals[FUNCTIONS][REFUSALS]) {
     if (t->number % CASES_PER_REGISTER == 0)
-        start_register(&t->chance);
+        start_list(t);
     make_work(t);
     size_t length = choose_register_length(t);
     bool sound = is_sound(t->work, length);
@@ -379,11 +340,12 @@ int main(int argc, char **argv) {
     test.chance.random = seed != 0 ? seed : 1; /* the generator stays at 0 */
     printf("seed %" PRIu64 "\n", seed);
     fflush(stdout); /* an access outside a buffer may end the program */
-    make_arena(&test.reg);
-    make_arena(&test.answer);
-    make_arena(&test.table);
-    make_arena(&test.holidays);
-    make_arena(&test.image);
+    make_arena(&test.lent.reg);
+    make_arena(&test.lent.answer);
+    make_arena(&test.lent.table);
+    make_arena(&test.lent.holidays);
+    make_arena(&test.lent.image);
+    make_arena(&test.lent.other);
     for (test.number = 0; test.number < cases && test.failures < 20; test.number++)
         run_case(&test, refusals);
     print_counts(refusals);

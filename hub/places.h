@@ -2,13 +2,16 @@
 #ifndef HUB_PLACES_H
 #define HUB_PLACES_H
 
-/* Room. */
+#include <stddef.h>
+#include <stdint.h>
+
+/* The same in both editions. */
 enum {
     REGISTER_NUMBERS = 7688,
-    POINTS = 32,
     REGISTRATIONS = 8,
     SPANS = 8,
-    RECORDS = 48,
+    OPERATORS = 4,
+    SHARES = 32, /* numbers of allocate's answer table; no edition has more points */
 };
 
 /* The header. */
@@ -16,6 +19,7 @@ enum {
     POINT_COUNT,
     NONDAILY,
     DAILY,
+    EDITION,
     HEADER_SPARE,
     HEADER_NUMBERS = 8,
 };
@@ -44,8 +48,26 @@ enum {
     SPARE,
     REGISTRATION_ROWS = 16,
     SPAN_ROWS = 32,
-    RECORD_ROWS = 48,
-    POINT_NUMBERS = RECORD_ROWS + RECORD_NUMBERS * RECORDS,
+    RECORD_ROWS = 48, /* up to the point's end */
 };
+
+/* The editions, by their number in the header. */
+enum { STANDARD, LONG, EDITIONS };
+
+struct edition {
+    int64_t points, records; /* at most, records a point */
+    int64_t reserve;         /* points reserved for each operator */
+    size_t point_numbers;
+};
+
+static const struct edition editions[EDITIONS] = {
+    [STANDARD] = {.points = 32, .records = 48, .reserve = 4, .point_numbers = 240},
+    [LONG] = {.points = 16, .records = 108, .reserve = 2, .point_numbers = 480},
+};
+
+/* The place of a point's first number; points count from 0. */
+static inline size_t point_place(const struct edition *edition, size_t point) {
+    return HEADER_NUMBERS + edition->point_numbers * point;
+}
 
 #endif

@@ -29,7 +29,7 @@ void start_player(struct player *player, FILE *out) {
         put_number(player->buffer, REGISTER_NUMBERS + k, 1000 + (int64_t)k);
     memset(player->images, 0, sizeof player->images);
     player->lent = REGISTER_NUMBERS;
-    player->shares = POINTS;
+    player->shares = SHARES;
     player->out = out;
 }
 
@@ -43,6 +43,24 @@ static bool is_length(int64_t n, int64_t most) {
 
 static bool is_image(int64_t n) {
     return 0 <= n && n < IMAGES;
+}
+
+/* ---- buffers of any length, each of its own exact size on the heap, so that a memory checker sees
+   every access outside */
+
+struct bytes {
+    uint8_t *at;
+    size_t length;
+};
+
+static struct bytes make_bytes(int64_t length) {
+    struct bytes b = {malloc(length == 0 ? 1 : (size_t)length), (size_t)length};
+    if (b.at == NULL) {
+        perror("hub");
+        exit(2);
+    }
+    memset(b.at, 0xaa, b.length);
+    return b;
 }
 
 /* ---- rows */
@@ -91,7 +109,7 @@ static struct sums sum_bytes(const uint8_t *bytes, size_t count) {
 
 static bool play_fresh(struct player *p, struct numbers n) {
     uint8_t answer[PETLUMAS_FRESH_ANSWER_BYTES];
-    petlumas_fresh(p->buffer, lent_bytes(p), answer, sizeof answer, n.at[0], n.at[1]);
+    petlumas_fresh(p->buffer, lent_bytes(p), answer, sizeof answer, n.at[0], n.at[1], n.at[2]);
     return print_answer(p, answer, sizeof answer / 8);
 }
 
@@ -184,6 +202,21 @@ static bool play_restore(struct player *p, struct numbers n) {
     return print_answer(p, answer, sizeof answer / 8);
 }
 
+/* The journal goes on in the second table; the numbers past the register stay its own. */
+static bool play_convert(struct player *p, struct numbers n) {
+    uint8_t answer[PETLUMAS_CONVERT_ANSWER_BYTES];
+    if (!is_length(n.at[0], BUFFER_NUMBERS))
+        return false;
+    struct bytes second = make_bytes(8 * n.at[0]);
+    for (size_t k = 0; k < second.length / 8; k++)
+        put_number(second.at, k, -5);
+    if (petlumas_convert(p->buffer, lent_bytes(p), answer, sizeof answer, second.at,
+                         second.length) == 0)
+        memcpy(p->buffer, second.at, 8 * REGISTER_NUMBERS);
+    free(second.at);
+    return print_answer(p, answer, sizeof answer / 8);
+}
+
 static bool play_date(struct player *p, struct numbers n) {
     uint8_t answer[PETLUMAS_DATE_ANSWER_BYTES];
     petlumas_date(answer, sizeof answer, n.at[0], n.at[1], n.at[2]);
@@ -198,21 +231,27 @@ static bool is_sound(const struct player *p) {
     return petlumas_account(p->buffer, lent_bytes(p), answer, sizeof answer, 1, 0, 0) == 0;
 }
 
+/* Of a sound register. */
+static const struct edition *edition_of(const struct player *p) {
+    return &editions[get_number(p->buffer, EDITION)];
+}
+
 /* The place of a point's first number; 0, which is no point's, if there is no such point. */
 static size_t find_point(const struct player *p, int64_t mirn) {
     if (!is_sound(p))
         return 0;
-    int64_t points = get_number(p->buffer, POINT_COUNT);
-    size_t place = HEADER_NUMBERS;
-    for (int64_t i = 0; i < points; i++, place += POINT_NUMBERS)
+    size_t points = (size_t)get_number(p->buffer, POINT_COUNT);
+    for (size_t i = 0; i < points; i++) {
+        size_t place = point_place(edition_of(p), i);
         if (get_number(p->buffer, place + MIRN) == mirn)
             return place;
+    }
     return 0;
 }
 
 static bool play_look(struct player *p, struct numbers n) {
     size_t place = find_point(p, n.at[0]);
-    size_t count = place == 0 ? 0 : POINT_NUMBERS;
+    size_t count = place == 0 ? 0 : edition_of(p)->point_numbers;
     struct sums sums = sum_numbers(p->buffer + 8 * place, count);
     fprintf(p->out, "%zu %" PRIu64 " %" PRIu64 "\n", count, sums.s1, sums.s2);
     return true;
@@ -263,23 +302,7 @@ static bool play_image(struct player *p, struct numbers n) {
     return true;
 }
 
-/* ---- hub lines: buffers of any length, each of its own exact size on the heap, so that a memory
-   checker sees every access outside */
-
-struct bytes {
-    uint8_t *at;
-    size_t length;
-};
-
-static struct bytes make_bytes(int64_t length) {
-    struct bytes b = {malloc(length == 0 ? 1 : (size_t)length), (size_t)length};
-    if (b.at == NULL) {
-        perror("hub");
-        exit(2);
-    }
-    memset(b.at, 0xaa, b.length);
-    return b;
-}
+/* ---- hub lines: buffers of any length */
 
 static void print_hex(const struct player *p, struct bytes b) {
     fputs(b.length == 0 ? " -" : " ", p->out);
@@ -346,16 +369,13 @@ static bool hub_allocate(struct player *p, struct numbers n) {
 /* ---- lines */
 
 static const struct call calls[] = {
-    {"fresh", 2, play_fresh},       {"open", 7, play_open},
-    {"energy", 6, play_energy},     {"status", 3, play_status},
-    {"request", ANY, play_request}, {"withdraw", 2, play_withdraw},
-    {"correct", 4, play_correct},   {"account", 3, play_account},
-    {"allocate", 6, play_allocate}, {"save", 3, play_save},
-    {"restore", 3, play_restore},   {"date", 3, play_date},
-    {"look", 1, play_look},         {"poke", 2, play_poke},
-    {"tlen", 1, play_tlen},         {"alen", 1, play_alen},
-    {"table", 0, play_table},       {"imgpoke", 3, play_imgpoke},
-    {"image", 1, play_image},       {NULL, 0, NULL},
+    {"fresh", 3, play_fresh},     {"open", 7, play_open},         {"energy", 6, play_energy},
+    {"status", 3, play_status},   {"request", ANY, play_request}, {"withdraw", 2, play_withdraw},
+    {"correct", 4, play_correct}, {"account", 3, play_account},   {"allocate", 6, play_allocate},
+    {"save", 3, play_save},       {"restore", 3, play_restore},   {"convert", 1, play_convert},
+    {"date", 3, play_date},       {"look", 1, play_look},         {"poke", 2, play_poke},
+    {"tlen", 1, play_tlen},       {"alen", 1, play_alen},         {"table", 0, play_table},
+    {"imgpoke", 3, play_imgpoke}, {"image", 1, play_image},       {NULL, 0, NULL},
 };
 
 static const struct call hub_calls[] = {

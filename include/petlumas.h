@@ -4,6 +4,12 @@
  * caller keeps, saves and copies as it likes: 7,688 signed numbers of 8 bytes,
  * little endian. petlumas_fresh makes a register of any bytes.
  *
+ * A register is of one of two editions, which its fourth number names. The
+ * standard one (0) has room for 32 points of 48 records and reserves 4 points
+ * for each operator, the long one (1) has room for 16 points of 108 records and
+ * reserves 2. What was made before there were editions is standard. Every call
+ * on a register takes both; petlumas_convert makes one of the other.
+ *
  * An image is a register saved under a state number, in a buffer of
  * PETLUMAS_IMAGE_BYTES bytes or more: 124 blocks of 512 bytes. A block has 62
  * of the register's numbers in order, 8 bytes each, then the state number and
@@ -15,13 +21,14 @@
  * else the first number of its own list, under "Refusals", that applies: the
  * lowest, but for petlumas_correct, which tests 16 last, and petlumas_restore,
  * which tests last whether the image's register is sound. After a refusal the
- * register and the image are as they were.
+ * registers and the image are as they were.
  *
  *    1  the register is too short or (petlumas_fresh and petlumas_restore
- *       aside) unsound, or the register in an image to restore is unsound
+ *       aside) unsound, or the register in an image to restore is unsound, or
+ *       the buffer for a converted register is too short
  *    2  a number out of range, no such date, from after to (for an allocation
  *       after to + 1), to not before the gas day, more than 400 days, or a
- *       buffer other than the register too short
+ *       buffer that is no register's too short
  *    3  the holidays are more than 512, or not strictly ascending, or one is
  *       no day
  *    4  the MIRN is unknown
@@ -36,37 +43,41 @@
  *   13  the allowable period leaves the days 0 to 39,999
  *   14  off while off, on while on, or a day that is too early
  *   15  there is nothing to split the load by
- *   16  no room: 33rd point, 49th record, 9th off span, 9th registration, or an
- *       8th beside a request that stays pending
+ *   16  no room: a point or a record more than the edition has room for, 9th
+ *       off span, 9th registration, or an 8th beside a request that stays
+ *       pending
  *   17  a block of the image has a wrong check or a wrong block number
  *   18  an intact image has another state number in some block
  *   19  the points left would not cover the other operators' unfilled reserves
  *   20  the correction day is after the notice day or more than 425 days before
  *       it, or before install
  *   21  the User is FRO on every day from the correction day on already
+ *   22  the register has more points, or a point more records, than the other
+ *       edition has room for, or the points left there would not cover the
+ *       operators' unfilled reserves
  *
  * The answer is the refusal and then the fields that a function names, 8 bytes
  * each, little endian. It is written on a refusal too, with every field 0. An
  * answer buffer shorter than the function's PETLUMAS_.._ANSWER_BYTES is the one
- * exception: then no buffer is written, and the result is 2, or 1 where the
- * lent register gets 1, whatever an image holds.
+ * exception: then no buffer is written, and the result is 2, or 1 where a lent
+ * register gets 1, whatever an image holds.
  *
  * Bytes of a buffer past those named here are never read or written.
  *
  * A day is 0 to 39,999, from 1 January 1970 to 7 July 2079. A MIRN is 1 to
  * 9,999,999,999, a User 1 to 16, a kind 0 (non-daily) or 1 (daily metered), a
  * type 0 (actual), 1 (estimated) or 2 (substituted), a section 1 (Wagga Wagga
- * and Tamworth) or 0 (the rest), an operator 1 to 4, a state number 1 to 4, a
- * yes 1 and a no 0. Energy is in whole MJ, -1,000,000 to 1,000,000. Any other
- * number gets its refusal.
+ * and Tamworth) or 0 (the rest), an operator 1 to 4, an edition 0 (standard) or
+ * 1 (long), a state number 1 to 4, a yes 1 and a no 0. Energy is in whole MJ,
+ * -1,000,000 to 1,000,000. Any other number gets its refusal.
  *
  * What the caller owes, since no proof can see it:
  *   - A pointer is not null and has as many bytes behind it as its length says.
  *   - The buffers of one call do not overlap, and no other thread touches them
  *     meanwhile. There are no globals, so calls on different buffers may run at
  *     the same time.
- *   - The thread has 80 KiB of stack left, for petlumas_restore 144 KiB.
- *     Nothing is allocated.
+ *   - The thread has 80 KiB of stack left, for petlumas_restore and
+ *     petlumas_convert 144 KiB. Nothing is allocated.
  */
 #ifndef PETLUMAS_H
 #define PETLUMAS_H
@@ -88,6 +99,7 @@
 #define PETLUMAS_ALLOCATE_ANSWER_BYTES 144
 #define PETLUMAS_SAVE_ANSWER_BYTES 8
 #define PETLUMAS_RESTORE_ANSWER_BYTES 8
+#define PETLUMAS_CONVERT_ANSWER_BYTES 8
 #define PETLUMAS_DATE_ANSWER_BYTES 16
 
 #define PETLUMAS_ALLOCATE_TABLE_BYTES 256
@@ -102,19 +114,21 @@ extern "C" {
 /* Makes a register with no points.
  * nondaily, daily: the validation ranges of the two kinds, 0 to 1,000,000, or
  *   -1 for no range.
+ * edition: the register's.
  * Answer: no field.
  * Refusals: 1 (too short only), 2. */
 int64_t petlumas_fresh(uint8_t *PETLUMAS_RESTRICT reg, size_t reg_len,
                        uint8_t *PETLUMAS_RESTRICT answer, size_t answer_len,
-                       int64_t nondaily, int64_t daily);
+                       int64_t nondaily, int64_t daily, int64_t edition);
 
 /* Opens a point.
  * mirn, kind, user, install: the point, its User and its first day.
  * base: the base load, MJ for one day, 0 to 10,000, or -1 for 1,000.
  * section: in section 1 a transfer is registered on an actual reading only.
- * operator_: the network operator whose point it is. Four points are reserved for
- *   each: in a register that began with petlumas_fresh, one with fewer than four
- *   gets neither 16 nor 19, whatever the others opened.
+ * operator_: the network operator whose point it is. In a register that began
+ *   with petlumas_fresh, conversions and restores of its own images included,
+ *   one with fewer points than the edition reserves gets neither 16 nor 19,
+ *   whatever the others opened.
  * Answer: no field.
  * Refusals: 1, 2, 5, 16, 19. */
 int64_t petlumas_open(uint8_t *PETLUMAS_RESTRICT reg, size_t reg_len,
@@ -222,7 +236,7 @@ int64_t petlumas_save(const uint8_t *PETLUMAS_RESTRICT reg, size_t reg_len,
                       uint8_t *PETLUMAS_RESTRICT image, size_t image_len,
                       int64_t state);
 
-/* Restores the register that an image holds, over any bytes.
+/* Restores the register that an image holds, in its edition, over any bytes.
  * image: PETLUMAS_IMAGE_BYTES bytes or more.
  * state: the state number that the image was saved under.
  * Answer: no field.
@@ -233,6 +247,18 @@ int64_t petlumas_restore(uint8_t *PETLUMAS_RESTRICT reg, size_t reg_len,
                          const uint8_t *PETLUMAS_RESTRICT image,
                          size_t image_len,
                          int64_t state);
+
+/* Makes a register of the other edition with the same points and all that was
+ * entered of them. A point from before points had operators counts as operator
+ * 1's and is written as one.
+ * other: PETLUMAS_REGISTER_BYTES bytes or more, whatever they hold. Where the
+ *   result is 0 its first PETLUMAS_REGISTER_BYTES bytes are that register; else
+ *   it is as it was.
+ * Answer: no field.
+ * Refusals: 1 (other too short included), 22. */
+int64_t petlumas_convert(const uint8_t *PETLUMAS_RESTRICT reg, size_t reg_len,
+                         uint8_t *PETLUMAS_RESTRICT answer, size_t answer_len,
+                         uint8_t *PETLUMAS_RESTRICT other, size_t other_len);
 
 /* Turns a date into a day. It needs no register.
  * year, month, day: a date from 1 January 1970 to 7 July 2079.
