@@ -5,7 +5,7 @@ use lib.IntN.{ℤ}
 use lib.ListN.{length}
 use Rattle.calendar.specs.Calendar.{dateCall}
 use Rattle.daybook.specs.Notices.{Numbers}
-use Rattle.daybook.specs.Conversions.{num, newRegisterOf, openingOf, energyNoticeOf, statusOf, requestOf, withdrawalOf, correctionOf, accountQueryOf, allocationQueryOf}
+use Rattle.daybook.specs.FromNumbers.{num, newRegisterOf, openingOf, energyNoticeOf, statusOf, requestOf, withdrawalOf, correctionOf, accountQueryOf, allocationQueryOf}
 use Rattle.daybook.specs.Editions.{editions}
 use Rattle.opening.specs.Opening.{freshCall, openCall}
 use Rattle.energy.specs.Energy.{energyCall}

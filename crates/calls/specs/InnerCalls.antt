@@ -1,7 +1,7 @@
 -- A call's numbers as the code has them.
 use mathlib.Core.List.{List, [], _∷_}
 use lib.IntN.{ℤ}
-use Rattle.daybook.specs.Conversions.{num}
+use Rattle.daybook.specs.FromNumbers.{num}
 use Rattle.calls.specs.declared.Seven.{Seven}
 
 -- The first seven numbers of a line, 0 where it is shorter.

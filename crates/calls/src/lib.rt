@@ -3,7 +3,7 @@
 ghost use mathlib.Core.Path.{_≡_};
 ghost use Prim.Native.Nat.{_/_};
 ghost use lib.ListN.{length};
-ghost use Rattle.daybook.specs.Conversions.{num};
+ghost use Rattle.daybook.specs.FromNumbers.{num};
 ghost use Rattle.buffers.specs.Buffers.{tableIn, holidaysIn, written};
 ghost use Rattle.calls.specs.Calls.{transferred, noticed, asked, called};
 ghost use Rattle.calls.specs.InnerCalls.{sevenOf, listed};

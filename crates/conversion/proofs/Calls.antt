@@ -11,7 +11,6 @@ use Rattle.daybook.specs.declared.Edition.{Edition}
 use Rattle.daybook.specs.Book.{Book}
 use Rattle.daybook.specs.Notices.{least, Numbers, decide}
 use Rattle.daybook.specs.Editions.{tableLength, Editions, otherThan, noRoom, convertRows}
-use Rattle.daybook.proofs.Kept.{Kept, kept-by}
 use Rattle.lists.proofs.Rows.{least-skip}
 use Rattle.layout.specs.Layout.{editionIn, tableBook, withNewBook}
 use Rattle.layout.specs.Sound.{sound}
@@ -42,10 +41,6 @@ module _ (E : Editions) (t second : List ℤ) where
   convert-is : convertCall E t second ≡ by (sound ed t) (ltb (length second) tableLength) (noRoom to B)
   unfolding convertCall convertRows
   convert-is = refl
-
-  pub convert-kept : Kept second (convertCall E t second)
-  unfolding convertCall
-  convert-kept = kept-by _ second _
 
   pub convert-unsound : sound ed t ≡ false → convertCall E t second ≡ (pos 1 ∷ [], second)
   unfolding least decide

@@ -7,4 +7,4 @@ pub mod Queries
 pub mod States
 pub mod Editions
 pub mod Calls
-pub mod Conversions
+pub mod FromNumbers

@@ -4,7 +4,7 @@ use mathlib.Core.List.{List}
 use Prim.Native.Nat.{ℕ, _+_}
 use lib.IntN.{ℤ}
 use Rattle.numbers.specs.Naturals.{natOf}
-use Rattle.daybook.specs.Conversions.{num}
+use Rattle.daybook.specs.FromNumbers.{num}
 use Rattle.journal.specs.declared.NoticeWord.{NoticeWord}
 use Rattle.journal.specs.declared.NoticeWord.the-variants.{Fresh, Open, Energy, Status, Transfer}
 use Rattle.journal.specs.declared.TransferWord.{TransferWord}

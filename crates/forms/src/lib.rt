@@ -4,7 +4,7 @@ ghost use Prim.Native.Nat.{_≤_, _^_};
 ghost use lib.Dec.{eqb};
 ghost use lib.ListN.{length};
 ghost use Rattle.numbers.specs.Naturals.{natOf};
-ghost use Rattle.daybook.specs.Conversions.{num};
+ghost use Rattle.daybook.specs.FromNumbers.{num};
 ghost use Rattle.forms.specs.Forms.{shapeOf, transferForm, noticeForm, queryForm, formOf, ownNumbers, sizeOf};
 ghost use Rattle.forms.specs.InnerForms.{Formed};
 use journal::CallWord;

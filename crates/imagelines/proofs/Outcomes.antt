@@ -10,7 +10,7 @@ use lib.IntN.{ℤ, pos}
 use lib.ListN.{take, drop, set}
 use lib.Seq.{drop-drop}
 use Rattle.words.specs.Sums.{sumsOf}
-use Rattle.daybook.specs.Conversions.{num}
+use Rattle.daybook.specs.FromNumbers.{num}
 use Rattle.daybook.specs.Editions.{editions}
 use Rattle.images.specs.Images.{saveCall, restoreCall}
 use Rattle.buffers.specs.Buffers.{tableIn, writtenBytes, written, imageIn}

@@ -13,7 +13,7 @@ use Rattle.numbers.specs.Search.{maybe}
 use Rattle.words.specs.Words.{wordAt}
 use Rattle.words.specs.Sums.{sumsOf}
 use Rattle.daybook.specs.Notices.{Numbers}
-use Rattle.daybook.specs.Conversions.{num}
+use Rattle.daybook.specs.FromNumbers.{num}
 use Rattle.daybook.specs.Editions.{editions}
 use Rattle.images.specs.Images.{saveCall, restoreCall}
 use Rattle.buffers.specs.Buffers.{tableIn, writtenBytes, written, imageIn}

@@ -15,7 +15,7 @@ use lib.IntN.{ℤ, pos, negsuc}
 use lib.ListN.{length, take, replicate, length-replicate}
 use Rattle.numbers.specs.Naturals.{natOf, sameZ}
 use Rattle.numbers.proofs.Bools.{both}
-use Rattle.daybook.specs.Conversions.{num}
+use Rattle.daybook.specs.FromNumbers.{num}
 use Rattle.daybook.specs.Editions.{editions}
 use Rattle.conversion.specs.Conversion.{convertCall}
 use Rattle.buffers.specs.Buffers.{withNumbers, tableIn, written}

@@ -13,7 +13,7 @@ use Rattle.numbers.specs.Naturals.{natOf}
 use Rattle.numbers.proofs.Bools.{cond-same}
 use Rattle.words.specs.Words.{withWord, bitsOf}
 use Rattle.words.specs.Sums.{sumsOf}
-use Rattle.daybook.specs.Conversions.{num}
+use Rattle.daybook.specs.FromNumbers.{num}
 use Rattle.daybook.specs.Editions.{editions}
 use Rattle.table.specs.Lookup.{lookUp}
 use Rattle.buffers.specs.Buffers.{numbersIn}

@@ -1,4 +1,4 @@
--- fresh and open: on the book's days they are the steps on the lists, and they keep the register well-formed.
+-- fresh makes a well-formed register; open is the step on the lists, and keeps the register well-formed.
 use mathlib.Core.Path.{_≡_, refl, sym, _∙_, ap, ap₂}
 use mathlib.Core.Bool.{Bool, true, false, cond, true≢false}
 use mathlib.Core.Option.{Option, none, some, Option·none-ne-some}

@@ -58,11 +58,6 @@ one-kept old q e = go (old .facts .operator) (q .facts .operator) e refl
     go zero o e h = ap from (sym (h ∙ e))
     go (suc a) o e h = rw (eqb·suc-zero a) (ap from (named o (omega arith) ∙ sym h))
 
-pub kept-none : (before : List Lists) → OperatorsKept before []
-unfolding unnamedAgain
-kept-none [] = refl
-kept-none (old ∷ before) = refl
-
 pub kept-same : (qs : List Lists) → OperatorsKept qs qs
 unfolding unnamedAgain
 kept-same [] = refl

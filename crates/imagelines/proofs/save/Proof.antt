@@ -2,7 +2,7 @@ use mathlib.Core.Path.{sym, _∙_}
 use mir.Facts.{toZ-ofZ}
 use mir.Syntax.{w64}
 use borrow.Author.Tests.{not-false}
-use Rattle.daybook.specs.Conversions.{num}
+use Rattle.daybook.specs.FromNumbers.{num}
 use Rattle.lines.proofs.Outcomes.{nothing}
 use Rattle.imagelines.proofs.Tests.{Lent, lent}
 use Rattle.imagelines.proofs.Outcomes.{not-saved, saved}

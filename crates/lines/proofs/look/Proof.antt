@@ -2,7 +2,7 @@ use native.Mathlib.Omega.{arith}
 use borrow.Author.Tests.{ne-eqb}
 use mir.Facts.{toZ-ofZ}
 use mir.Syntax.{w64}
-use Rattle.daybook.specs.Conversions.{num}
+use Rattle.daybook.specs.FromNumbers.{num}
 use Rattle.lines.specs.Lines.{lookLine}
 use Rattle.lines.proofs.Outcomes.{nothing}
 use Rattle.lines.proofs.Rows.{looked}

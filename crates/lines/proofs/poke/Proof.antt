@@ -1,7 +1,7 @@
 use native.Mathlib.Omega.{arith}
 use mir.Facts.{toZ-ofZ}
 use mir.Syntax.{w64}
-use Rattle.daybook.specs.Conversions.{num}
+use Rattle.daybook.specs.FromNumbers.{num}
 use Rattle.lines.proofs.Outcomes.{nothing}
 use Rattle.lines.proofs.Rows.{poke-miscounted, poke-outside, poked}
 use borrow.Author.Needs.{needs}

@@ -1,4 +1,4 @@
--- The numbers of each call as a list has them, in the order of a line or of a table.
+-- Each call from the numbers of a list, in the order of a line or of a table.
 use mathlib.Core.List.{List}
 use Prim.Native.Nat.{ℕ}
 use lib.IntN.{ℤ, pos}
