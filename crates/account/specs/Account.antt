@@ -9,4 +9,4 @@ use Rattle.layout.specs.Calls.{ofTable}
 
 -- One field: the sum.
 unfoldable pub accountCall : Editions → List ℤ → AccountQuery → Numbers
-accountCall E t n = ofTable E (pos 1 ∷ pos 0 ∷ []) (account n) t
+accountCall E t n = ofTable E (pos 1 ∷ pos 0 ∷ []) (λ ed. account n) t

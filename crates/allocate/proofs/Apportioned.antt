@@ -21,7 +21,7 @@ use Rattle.daybook.specs.Queries.{allocationInRange, atLeast0, tdmOf, nslOf, we
 use Rattle.lists.proofs.Bounds.{within-bounds}
 use Rattle.lists.proofs.Splits.{split-length}
 use Rattle.layout.specs.Layout.{numAt, tableBook}
-use Rattle.allocate.specs.Allocate.{placed}
+use Rattle.layout.specs.Calls.{placed}
 use Rattle.allocate.specs.InnerParts.{pointsOf, padded, SharesBelow, totalTo, loadOf, MaySplit, givenOf}
 use Rattle.allocate.proofs.Loads.{isLoad, next-order}
 use Rattle.allocate.proofs.Arrays.{points-few}

@@ -16,9 +16,9 @@ use Rattle.daybook.specs.Editions.{editions}
 use Rattle.lists.proofs.Rows.{above, least-first, least-skip, decide-taken, decide-refused}
 use Rattle.layout.specs.Layout.{editionOf, tableBook}
 use Rattle.layout.specs.Sound.{sound}
-use Rattle.layout.specs.Calls.{ofEdition}
+use Rattle.layout.specs.Calls.{ofEdition, placed}
 use Rattle.table.proofs.Calls.{query-unsound, query-sound}
-use Rattle.allocate.specs.Allocate.{allocateCall, placed}
+use Rattle.allocate.specs.Allocate.{allocateCall}
 use Rattle.allocate.specs.InnerParts.{givenOf}
 
 -- a refusal gives the answer table nothing

@@ -1,3 +1,3 @@
--- What allocate answers, and what it leaves of the answer table.
+-- What allocate answers, and what it gives the answer table.
 pub mod Allocate
 pub mod InnerParts

@@ -18,7 +18,8 @@ ghost use Rattle.daybook.specs.Editions.{editions};
 ghost use Rattle.layout.specs.Places.{pointsPlace};
 ghost use Rattle.layout.specs.Layout.{Fits, numAt, tableBook};
 ghost use Rattle.layout.specs.Sound.{sound};
-ghost use Rattle.allocate.specs.Allocate.{allocateCall, placed};
+ghost use Rattle.layout.specs.Calls.{placed};
+ghost use Rattle.allocate.specs.Allocate.{allocateCall};
 ghost use Rattle.allocate.specs.InnerParts.{pointsOf, padded, mostTotal, SharesBelow, totalTo, loadOf, MaySplit, givenOf};
 
 // Is this an amount of unaccounted gas or of a linepack change?

@@ -22,9 +22,9 @@ withNumbers xs b = encodedInto b 0 xs 0 (length xs)
 unfoldable pub tableIn : List ℕ → List ℤ
 tableIn register = numbersIn register (cond (leb (8 * tableLength) (length register)) tableLength 0)
 
--- A list of holidays; bytes at its end that are no whole number are not read.
-unfoldable pub holidaysIn : List ℕ → List ℤ
-holidaysIn b = numbersIn b (length b / 8)
+-- The whole numbers that bytes hold; bytes at the end that are none are not read.
+abbrev pub numbersHeld : List ℕ → List ℤ
+numbersHeld b = numbersIn b (length b / 8)
 
 -- The result, and the answer's bytes. The result is the answer's refusal, its first number. Where the answer's buffer is
 -- too short nothing is written, and the result is 1 where that is the refusal, else 2.

@@ -43,26 +43,26 @@ pub fn table_in<'a, 'b>(register: &'a [u8], t: &'b mut [i64]) -> &'b mut [i64]
     numbers_in(register, t, places::TABLE_LENGTH)
 }
 
-// The holidays, in t; of more than 513 the first 513, which are too many as well.
-pub fn holidays_in<'a, 'b>(holidays: &'a [u8], t: &'b mut [i64]) -> &'b mut [i64]
-    requires { ⌜ length (now t) ≡ 513 ⌝ }
-    ensures { λ r. ⌜ now r ≡ numbersIn (now (holidays .entry)) (min 513 (length (now (holidays .entry)) / 8)) ⌝ }
+// The numbers of a list, in t; of more than t has room for the first ones.
+pub fn list_in<'a, 'b>(list: &'a [u8], t: &'b mut [i64]) -> &'b mut [i64]
+    ensures { λ r. ⌜ now r ≡ numbersIn (now (list .entry)) (min (length (now (t .entry))) (length (now (list .entry)) / 8)) ⌝ }
 {
-    let n = holidays.len() / 8;
-    if 513 < n {
-        return numbers_in(holidays, t, 513);
+    let n = list.len() / 8;
+    let most = t.len();
+    if most < n {
+        return numbers_in(list, t, most);
     }
-    numbers_in(holidays, t, n)
+    numbers_in(list, t, n)
 }
 
-// Room for the numbers of an answer table, at most the 32 that an allocation writes.
-pub fn shares_in<'a, 'b>(shares: &'a [u8], t: &'b mut [i64]) -> &'b mut [i64]
-    requires { ⌜ length (now t) ≡ 32 ⌝ }
-    ensures { λ r. ⌜ (length (now r) ≡ min 32 (length (now (shares .entry)) / 8)) × (8 * length (now r) ≤ length (now (shares .entry))) ⌝ }
+// Room for the numbers of an answer table, at most as many as t has.
+pub fn room_in<'a, 'b>(table: &'a [u8], t: &'b mut [i64]) -> &'b mut [i64]
+    ensures { λ r. ⌜ (length (now r) ≡ min (length (now (t .entry))) (length (now (table .entry)) / 8)) × (8 * length (now r) ≤ length (now (table .entry))) ⌝ }
 {
-    let n = shares.len() / 8;
-    if 32 < n {
-        return &mut t[..32];
+    let n = table.len() / 8;
+    let most = t.len();
+    if most < n {
+        return &mut t[..most];
     }
     &mut t[..n]
 }

@@ -18,16 +18,16 @@ use Rattle.daybook.specs.declared.AccountQuery.{AccountQuery}
 use Rattle.daybook.specs.declared.AllocationQuery.{AllocationQuery}
 use Rattle.daybook.specs.States.{under}
 use Rattle.daybook.specs.Editions.{Editions}
-use Rattle.daybook.specs.Calls.{Notice, open!, energy!, status!, request!, withdraw!, correct!, Query, account!, allocate!, StateCall, save!, restore!, Call, fresh!, notice!, query!, state!, convert!, State, Answer, step}
+use Rattle.daybook.specs.Calls.{Notice, open!, energy!, status!, request!, withdraw!, correct!, Query, account!, allocate!, trial!, StateCall, save!, restore!, Call, fresh!, notice!, query!, state!, convert!, State, Answer, step}
 use Rattle.history.specs.Runs.{Lent, noticeCall, queryCall}
 use Rattle.opening.specs.Opening.{freshCall}
 use Rattle.images.specs.Images.{saveCall, restoreCall}
 use Rattle.conversion.specs.Conversion.{convertCall}
-use Rattle.buffers.specs.Buffers.{tableIn, holidaysIn, writtenBytes, written, imageIn}
+use Rattle.buffers.specs.Buffers.{tableIn, numbersHeld, writtenBytes, written, imageIn}
 
 -- The exported functions that take a register, each with its numbers: those that may change it, those that only read,
--- those of a named state, which say beside its number how many of its image's bytes they are lent; and the two that
--- make a register.
+-- of which a trial says beside its count the bytes of its notices, those of a named state, which say beside its number
+-- how many of its image's bytes they are lent; and the two that make a register.
 pub data HubNotice : Type 0 where
   petlumas-open : Opening → HubNotice
   petlumas-energy : EnergyNotice → HubNotice
@@ -39,6 +39,7 @@ pub data HubNotice : Type 0 where
 pub data HubQuery : Type 0 where
   petlumas-account : AccountQuery → HubQuery
   petlumas-allocate : AllocationQuery → HubQuery
+  petlumas-trial : ℤ → List ℕ → HubQuery
 
 pub data HubState : Type 0 where
   petlumas-save : ℤ → ℕ → HubState
@@ -51,9 +52,9 @@ pub data HubCall : Type 0 where
   hub-state : HubState → HubCall
   petlumas-convert : HubCall
 
--- A call, and the bytes that it lends beside the register and the images: its second buffer, a request's holidays, an
--- allocation's answer table or a conversion's second register (no other call has one: its bytes do not matter and
--- stay), and its answer buffer.
+-- A call, and the bytes that it lends beside the register, the images and a trial's notices: its second buffer, a
+-- request's holidays, an allocation's or a trial's answer table or a conversion's second register (no other call has
+-- one: its bytes do not matter and stay), and its answer buffer.
 pub record LentCall : Type 0 where
   pub call : HubCall
   pub second : List ℕ
@@ -70,7 +71,7 @@ unfoldable pub noticeIn : HubNotice → List ℕ → Notice
 noticeIn (petlumas-open n) second = open! n
 noticeIn (petlumas-energy n) second = energy! n
 noticeIn (petlumas-status n) second = status! n
-noticeIn (petlumas-request n) second = request! n (holidaysIn second)
+noticeIn (petlumas-request n) second = request! n (numbersHeld second)
 noticeIn (petlumas-withdraw n) second = withdraw! n
 noticeIn (petlumas-correct n) second = correct! n
 
@@ -78,6 +79,7 @@ noticeIn (petlumas-correct n) second = correct! n
 unfoldable pub queryIn : HubQuery → List ℕ → Query
 queryIn (petlumas-account n) second = account! n
 queryIn (petlumas-allocate n) second = allocate! n (length second / 8)
+queryIn (petlumas-trial count notices) second = trial! count (numbersHeld notices) (length second / 8)
 
 unfoldable pub stateIn : HubState → StateCall
 stateIn (petlumas-save n lent) = save! n lent

@@ -11,7 +11,7 @@ use Rattle.numbers.specs.Naturals.{sameZ}
 use Rattle.numbers.proofs.Bools.{cond-same}
 use Rattle.words.specs.Tables.{encodedInto}
 use Rattle.daybook.specs.Notices.{Numbers}
-use Rattle.buffers.specs.Buffers.{tableIn, holidaysIn, withNumbers, replied, written}
+use Rattle.buffers.specs.Buffers.{tableIn, numbersHeld, withNumbers, replied, written}
 use Rattle.journal.specs.declared.NoticeWord.{NoticeWord}
 use Rattle.journal.specs.declared.NoticeWord.the-variants.{Fresh, Open, Energy, Status, Transfer}
 use Rattle.journal.specs.declared.TransferWord.the-variants.{Request, Withdraw, Correct}
@@ -55,8 +55,8 @@ abbrev after-query : List ℕ → ℤ × (List ℕ × List ℕ) → Left
 after-query register w = record { result = w .0; register = register; answer = w .1 .1; table = w .1 .0 }
 
 module _ (xs : List ℤ) (seven : Seven) (list register answer table : List ℕ) {w : ℤ × (List ℕ × List ℕ)} (e : seven ≡ sevenOf xs) where
-  pub notice-left : {call : CallWord} {n : NoticeWord} → call ≡ Call·.Notice n → w ≡ written (noticed n (tableIn register) (listed seven) (holidaysIn list)) register answer → called call xs list register answer table ≡ after-notice table w
-  notice-left {n = n} t h = rw t (ap (after-notice table) (sym (rw (e, seven-noticed n (tableIn register) xs (holidaysIn list)) at h)))
+  pub notice-left : {call : CallWord} {n : NoticeWord} → call ≡ Call·.Notice n → w ≡ written (noticed n (tableIn register) (listed seven) (numbersHeld list)) register answer → called call xs list register answer table ≡ after-notice table w
+  notice-left {n = n} t h = rw t (ap (after-notice table) (sym (rw (e, seven-noticed n (tableIn register) xs (numbersHeld list)) at h)))
 
   pub query-left : {call : CallWord} {q : QueryWord} → call ≡ Call·.Query q → w ≡ written (asked q (tableIn register) (listed seven) (length table / 8)) table answer → called call xs list register answer table ≡ after-query register w
   query-left {q = q} t h = rw t (ap (after-query register) (sym (rw (e, seven-asked q (tableIn register) xs (length table / 8)) at h)))

@@ -14,7 +14,7 @@ use Rattle.transfer.specs.Transfer.{requestCall, withdrawCall}
 use Rattle.correction.specs.Correction.{correctCall}
 use Rattle.account.specs.Account.{accountCall}
 use Rattle.allocate.specs.Allocate.{allocateCall}
-use Rattle.buffers.specs.Buffers.{tableIn, holidaysIn, written}
+use Rattle.buffers.specs.Buffers.{tableIn, numbersHeld, written}
 use Rattle.journal.specs.declared.NoticeWord.{NoticeWord}
 use Rattle.journal.specs.declared.NoticeWord.the-variants.{Fresh, Open, Energy, Status, Transfer}
 use Rattle.journal.specs.declared.TransferWord.{TransferWord}
@@ -53,7 +53,7 @@ pub record Left : Type 0 where
 -- A call with the numbers xs, on the bytes of its list, the register, the answer and the answer table.
 abbrev pub called : CallWord → List ℤ → List ℕ → List ℕ → List ℕ → List ℕ → Left
 called (Call·.Notice n) xs list register answer table =
-    let w : ℤ × (List ℕ × List ℕ) = written (noticed n (tableIn register) xs (holidaysIn list)) register answer in
+    let w : ℤ × (List ℕ × List ℕ) = written (noticed n (tableIn register) xs (numbersHeld list)) register answer in
     record { result = w .0; register = w .1 .0; answer = w .1 .1; table = table }
 called (Call·.Query q) xs list register answer table =
     let w : ℤ × (List ℕ × List ℕ) = written (asked q (tableIn register) xs (length table / 8)) table answer in

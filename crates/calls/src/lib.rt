@@ -4,7 +4,7 @@ ghost use mathlib.Core.Path.{_≡_};
 ghost use Prim.Native.Nat.{_/_};
 ghost use lib.ListN.{length};
 ghost use Rattle.daybook.specs.FromNumbers.{num};
-ghost use Rattle.buffers.specs.Buffers.{tableIn, holidaysIn, written};
+ghost use Rattle.buffers.specs.Buffers.{tableIn, numbersHeld, written};
 ghost use Rattle.calls.specs.Calls.{transferred, noticed, asked, called};
 ghost use Rattle.calls.specs.InnerCalls.{sevenOf, listed};
 use journal::CallWord;
@@ -49,7 +49,7 @@ fn first_seven(nums: &[i64]) -> Seven
 
 // A notice of a transfer with the numbers a, through its exported function.
 fn transfer(w: TransferWord, a: Seven, list: &[u8], register: &mut [u8], answer: &mut [u8]) -> i64
-    ensures { λ r. ⌜ (r, (now (register .exit), now (answer .exit))) ≡ written (transferred w (tableIn (now (register .entry))) (listed a) (holidaysIn (now (list .entry)))) (now (register .entry)) (now (answer .entry)) ⌝ }
+    ensures { λ r. ⌜ (r, (now (register .exit), now (answer .exit))) ≡ written (transferred w (tableIn (now (register .entry))) (listed a) (numbersHeld (now (list .entry)))) (now (register .entry)) (now (answer .entry)) ⌝ }
 {
     match w {
         TransferWord::Request => {
@@ -62,7 +62,7 @@ fn transfer(w: TransferWord, a: Seven, list: &[u8], register: &mut [u8], answer:
 
 // Any notice.
 fn notify(n: NoticeWord, a: Seven, list: &[u8], register: &mut [u8], answer: &mut [u8]) -> i64
-    ensures { λ r. ⌜ (r, (now (register .exit), now (answer .exit))) ≡ written (noticed n (tableIn (now (register .entry))) (listed a) (holidaysIn (now (list .entry)))) (now (register .entry)) (now (answer .entry)) ⌝ }
+    ensures { λ r. ⌜ (r, (now (register .exit), now (answer .exit))) ≡ written (noticed n (tableIn (now (register .entry))) (listed a) (numbersHeld (now (list .entry)))) (now (register .entry)) (now (answer .entry)) ⌝ }
 {
     match n {
         NoticeWord::Fresh => hub::petlumas_fresh(register, answer, a.n0, a.n1, a.n2),

@@ -18,7 +18,7 @@ use Rattle.daybook.specs.Queries.{active, someFilled, weight}
 use Rattle.daybook.specs.Editions.{editions}
 use Rattle.daybook.specs.Calls.{Call, State}
 use Rattle.lists.specs.Lists.{Lists, userOn, offOn, entryOn, pointOf, bookOf, withFacts, unnamedAgain}
-use Rattle.cases.specs.Journal.{Fresh, OpenIn, OpenBy, Open, Read, Energy, Status, Request, Withdraw, Account, Allocate, answersFrom, answersIn, alone, answersOf, sized, naturals}
+use Rattle.cases.specs.Journal.{Fresh, OpenIn, OpenBy, Open, Read, Energy, Status, Request, Withdraw, Account, Allocate, repliesFrom, answersFrom, answersIn, alone, answersOf, sized, naturals}
 
 -- an odd megajoule goes early, also below 0 and over the most days; 0 is shared as 0 (document 02, f)
 odd :
@@ -30,7 +30,7 @@ odd :
     × (map (share (negsuc 999999) 40000) (0 ∷ 19999 ∷ 39999 ∷ []) ≡ replicate 3 (negsuc 24))
     × (map (share (pos 999999) 40000) (0 ∷ 39998 ∷ 39999 ∷ []) ≡ pos 25 ∷ pos 25 ∷ pos 24 ∷ [])
     × (map (share (negsuc 999998) 40000) (0 ∷ 1 ∷ 39999 ∷ []) ≡ negsuc 23 ∷ negsuc 24 ∷ negsuc 24 ∷ [])
-unfolding answersFrom
+unfolding repliesFrom
 odd = (refl, refl, refl, refl, refl, refl, refl, refl)
 
 -- 1 point of 1 record, where only the bounds of the edition count
@@ -62,7 +62,7 @@ full-answers :
     ∷ (16 ∷ [])
     ∷ (5 ∷ [])
     ∷ [])
-unfolding answersFrom full
+unfolding repliesFrom full
 full-answers = refl
 
 -- off while off, at or before the last on day or the last filled day, before install; on while on, not after the off day
@@ -98,7 +98,7 @@ switched-answers :
     ∷ (0 ∷ 1 ∷ 0 ∷ 0 ∷ 0 ∷ [])
     ∷ (0 ∷ [])
     ∷ [])
-unfolding answersFrom switched
+unfolding repliesFrom switched
 switched-answers = refl
 
 -- with eight closed spans an off notice would be the ninth; an on notice is refused by 14
@@ -108,7 +108,7 @@ eight =
 
 ninth-span :
     (least (statusRows 16 0 0 none eight) ≡ 16) × (least (statusRows 15 0 0 none eight) ≡ 14) × (least (statusRows 16 1 0 none eight) ≡ 14)
-unfolding answersFrom eight
+unfolding repliesFrom eight
 ninth-span = (refl, refl, refl)
 
 -- with eight registrations no request is taken; of two rows that apply the lower is returned
@@ -116,7 +116,7 @@ ninth-registration :
     (least (requestRows 2 (some (0, 28)) none (replicate 8 (0, 1)) 1) ≡ 16)
     × (least (requestRows 2 (some (0, 28)) none (replicate 7 (0, 1)) 1) ≡ 0)
     × (least (requestRows 1 none none (replicate 8 (0, 1)) 1) ≡ 12)
-unfolding answersFrom
+unfolding repliesFrom
 ninth-registration = (refl, refl, refl)
 
 -- an append that ends before the window leaves the request, on its first and on its last day it registers, unless a
@@ -179,7 +179,7 @@ sectioned-answers :
     ∷ (0 ∷ 30 ∷ [])
     ∷ (0 ∷ 30 ∷ [])
     ∷ [])
-unfolding answersFrom sectioned
+unfolding repliesFrom sectioned
 sectioned-answers = refl
 
 -- n openings by operator o, of the MIRNs from m on
@@ -200,7 +200,7 @@ reserves-answers :
     ≡ naturals
     (map (λ r. r ∷ [])
     (0 ∷ 2 ∷ 2 ∷ 2 ∷ (replicate 20 0 ++ (19 ∷ 5 ∷ 0 ∷ 0 ∷ 0 ∷ 0 ∷ 19 ∷ 0 ∷ 0 ∷ 0 ∷ 0 ∷ 19 ∷ 0 ∷ 0 ∷ 0 ∷ 0 ∷ 16 ∷ 5 ∷ []))))
-unfolding answersFrom reserves by
+unfolding repliesFrom reserves by
 reserves-answers = refl
 
 -- where every reserve is filled, the last points are anybody's; with a reserve of 0 all are
@@ -210,7 +210,7 @@ unreserved-answers :
     × (answersOf (sized 6 1 1) (by 1 1 1 ++ by 2 11 1 ++ by 3 21 1 ++ by 4 31 1 ++ by 1 41 3)
     ≡ naturals (map (λ r. r ∷ []) (0 ∷ 0 ∷ 0 ∷ 0 ∷ 0 ∷ 0 ∷ 16 ∷ [])))
     × (answersOf (sized 3 1 0) (by 4 1 4) ≡ naturals (map (λ r. r ∷ []) (0 ∷ 0 ∷ 0 ∷ 16 ∷ [])))
-unfolding answersFrom by
+unfolding repliesFrom by
 unreserved-answers = (refl, refl, refl)
 
 -- an older register: points with 0 for the operator are operator 1's, so that operator 1 has filled its reserve of 2 and
@@ -234,7 +234,7 @@ older-answers :
     }) (by 1 11 1 ++ by 2 21 3)
     ≡ naturals (map (λ r. r ∷ []) (19 ∷ 0 ∷ 0 ∷ 19 ∷ [])))
     × (unnamedAgain (older 1 0 ∷ older 2 3 ∷ []) (older 1 1 ∷ older 2 3 ∷ older 3 4 ∷ []) ≡ older 1 0 ∷ older 2 3 ∷ older 3 4 ∷ [])
-unfolding answersFrom by older bookOf pointOf userOn offOn entryOn unnamedAgain withFacts
+unfolding repliesFrom by older bookOf pointOf userOn offOn entryOn unnamedAgain withFacts
 older-answers = (refl, refl)
 
 -- so a replacement in the window and a recut past it leave a request that can be withdrawn, and nobody is registered
@@ -262,7 +262,7 @@ corrected-answers :
     ∷ (0 ∷ [])
     ∷ (0 ∷ 29 ∷ [])
     ∷ [])
-unfolding answersFrom corrected
+unfolding repliesFrom corrected
 corrected-answers = refl
 
 -- a lapsed request is gone
@@ -280,7 +280,7 @@ lapsed-answers :
     answersOf small lapsed
     ≡ naturals
     ((0 ∷ []) ∷ (0 ∷ []) ∷ (0 ∷ 0 ∷ 28 ∷ []) ∷ (10 ∷ 0 ∷ 0 ∷ []) ∷ (0 ∷ 1 ∷ 0 ∷ 0 ∷ 1 ∷ []) ∷ (11 ∷ []) ∷ [])
-unfolding answersFrom lapsed
+unfolding repliesFrom lapsed
 lapsed-answers = refl
 
 -- the last days: a window that would end on day 40,000, a registration from day 40,000, and no day left to append
@@ -312,7 +312,7 @@ last-days-answers :
     ∷ (7 ∷ 0 ∷ 0 ∷ 0 ∷ 0 ∷ [])
     ∷ (0 ∷ 5 ∷ [])
     ∷ [])
-unfolding answersFrom last-days
+unfolding repliesFrom last-days
 last-days-answers = refl
 
 -- TDM: day g; else g - 7 where all seven days are filled; else g - 1; else 0. Here day d of a daily point has 10 + d,
@@ -345,7 +345,7 @@ metered-answers :
     (answersFrom (alone small) (metered 6) (Allocate 6 0 1 50 ∷ Allocate 7 0 1 50 ∷ []) ≡ naturals (load 35 ∷ load 50 ∷ []))
     × (answersFrom (alone small) (metered 7) (Allocate 6 0 1 50 ∷ Allocate 7 0 1 50 ∷ Allocate 7 0 1 5 ∷ Allocate 8 0 1 50 ∷ []) ≡ naturals (load 34 ∷ load 40 ∷ load 0 ∷ load 50 ∷ []))
     × (answersFrom (alone small) (metered 7) (Allocate 9 0 1 50 ∷ Allocate 8 8 8 50 ∷ []) ≡ naturals ((15 ∷ replicate 17 0) ∷ (2 ∷ replicate 17 0) ∷ []))
-unfolding answersFrom metered load
+unfolding repliesFrom metered load
 metered-answers = (refl, refl, refl)
 
 -- a window of no days, a = b + 1: T of an active non-daily point is its base load, once (document 02, h)
@@ -357,5 +357,5 @@ no-days g b p = let no-day : suc b - suc b ≡ 0 = omega arith in rw (no-day, mu
 no-days-answers :
     answersFrom (alone small) (metered 7) (Allocate 8 8 7 50 ∷ Allocate 8 9 8 50 ∷ Allocate 8 9 7 50 ∷ Account 2 8 7 ∷ [])
     ≡ naturals (load 50 ∷ (2 ∷ replicate 17 0) ∷ (2 ∷ replicate 17 0) ∷ (2 ∷ 0 ∷ []) ∷ [])
-unfolding answersFrom metered load
+unfolding repliesFrom metered load
 no-days-answers = refl

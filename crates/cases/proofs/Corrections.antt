@@ -5,7 +5,7 @@ use Prim.Native.Nat.{ℕ}
 use Rattle.daybook.specs.Book.{fromOn}
 use Rattle.daybook.specs.Notices.{least}
 use Rattle.daybook.specs.Corrections.{affected, permitted, correctRows}
-use Rattle.cases.specs.Journal.{answersFrom}
+use Rattle.cases.specs.Journal.{repliesFrom}
 
 -- before install, on it and after the notice day; 425 and 426 days before the notice day
 period :
@@ -19,7 +19,7 @@ order :
     (least (correctRows true true true) ≡ 20) × (least (correctRows true false true) ≡ 20)
     × (least (correctRows false true true) ≡ 21)
     × (least (correctRows false false true) ≡ 16) × (least (correctRows false false false) ≡ 0)
-unfolding answersFrom
+unfolding repliesFrom
 order = (refl, refl, refl, refl, refl)
 
 -- User 1 from day 39,980 on, User 2 on day 40,000
@@ -31,5 +31,5 @@ marks :
     (affected users (fromOn 39990 3 users) 1 ≡ true) × (affected users (fromOn 39990 3 users) 2 ≡ true)
     × (affected users (fromOn 39990 3 users) 3 ≡ false)
     × (affected users (fromOn 39990 1 users) 1 ≡ false) × (affected users (fromOn 39990 1 users) 2 ≡ true)
-unfolding answersFrom users
+unfolding repliesFrom users
 marks = (refl, refl, refl, refl, refl)

@@ -6,7 +6,7 @@ use lib.IntN.{pos, negsuc}
 use lib.ListN.{replicate}
 use Rattle.daybook.specs.Editions.{Editions, editions}
 use Rattle.daybook.specs.Calls.{Call}
-use Rattle.cases.specs.Journal.{FreshIn, Fresh, OpenBy, Open, Energy, Convert, Save, Restore, answersFrom, answersIn, sized, naturals}
+use Rattle.cases.specs.Journal.{FreshIn, Fresh, OpenBy, Open, Energy, Convert, Save, Restore, repliesFrom, answersIn, sized, naturals}
 
 -- the answers of calls that answer a refusal alone
 abbrev refusals : List ℕ → List (List ℕ)
@@ -23,7 +23,7 @@ long-points =
 long-points-answers :
     answersIn editions long-points
     ≡ naturals (refusals (2 ∷ 2 ∷ 0 ∷ (replicate 10 0 ++ (19 ∷ 0 ∷ 0 ∷ 19 ∷ 0 ∷ 0 ∷ 0 ∷ 0 ∷ 16 ∷ []))))
-unfolding answersFrom long-points
+unfolding repliesFrom long-points
 long-points-answers = refl
 
 -- 3 points of 1 record and none reserved, or 2 points of 2 records
@@ -78,7 +78,7 @@ conversions-answers :
     ∷ (0 ∷ [])
     ∷ (16 ∷ [])
     ∷ [])
-unfolding answersFrom two conversions
+unfolding repliesFrom two conversions
 conversions-answers = refl
 
 -- three points are operator 1's, and two are reserved for each of the others: eight are too few, and nine are enough
@@ -90,5 +90,5 @@ reserved-answers :
     ≡ naturals (refusals (0 ∷ 0 ∷ 0 ∷ 0 ∷ 22 ∷ [])))
     × (answersIn (record { standard = sized 4 1 0; long = record { number = 1; points = 9; records = 1; reserve = 2 } }) reserved
     ≡ naturals (refusals (0 ∷ 0 ∷ 0 ∷ 0 ∷ 0 ∷ [])))
-unfolding answersFrom reserved
+unfolding repliesFrom reserved
 reserved-answers = (refl, refl)

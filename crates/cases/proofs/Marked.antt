@@ -4,16 +4,16 @@ use mathlib.Core.List.{_++_}
 use lib.ListN.{take, drop}
 use Rattle.calendar.specs.Calendar.{dateCall, isDate, dayOf, newYear, daysBefore}
 use Rattle.daybook.specs.Editions.{editions}
-use Rattle.cases.specs.Journal.{answersFrom, answersIn}
+use Rattle.cases.specs.Journal.{repliesFrom, answersIn}
 use Rattle.cases.specs.Marked.{Marked, story, accountsAnswers, recutAnswers}
 
 -- The story is computed once for both of its cases.
 whole : answersIn editions story ≡ accountsAnswers ++ recutAnswers
-unfolding answersFrom
+unfolding repliesFrom
 whole = refl
 
 pub marked : Marked
-unfolding answersFrom dateCall isDate dayOf newYear daysBefore
+unfolding repliesFrom dateCall isDate dayOf newYear daysBefore
 marked =
     record {
       ten = refl;

@@ -5,7 +5,7 @@ use mathlib.Core.List.{List, [], _∷_, map}
 use lib.IntN.{pos, negsuc}
 use Rattle.daybook.specs.States.{firstRow}
 use Rattle.daybook.specs.Calls.{save!, restore!, Call, state! }
-use Rattle.cases.specs.Journal.{Fresh, OpenBy, Save, Restore, answersFrom, answersOf, sized, naturals}
+use Rattle.cases.specs.Journal.{Fresh, OpenBy, Save, Restore, repliesFrom, answersOf, sized, naturals}
 
 -- restore's rows in their order, not by their numbers: 2 before 17 before 18 before 1
 order :
@@ -13,7 +13,7 @@ order :
     × (firstRow ((1, false) ∷ (2, false) ∷ (17, true) ∷ (18, true) ∷ (1, true) ∷ []) ≡ 17)
     × (firstRow ((1, false) ∷ (2, false) ∷ (17, false) ∷ (18, true) ∷ (1, true) ∷ []) ≡ 18)
     × (firstRow ((1, false) ∷ (2, false) ∷ (17, false) ∷ (18, false) ∷ (1, true) ∷ []) ≡ 1)
-unfolding answersFrom
+unfolding repliesFrom
 order = (refl, refl, refl, refl)
 
 -- nothing saved; state numbers 0, 5 and −1, and an image a byte short; a point that is there again or not after each
@@ -49,5 +49,5 @@ calls-answers :
     ≡ naturals
     (map (λ r. r ∷ [])
     (0 ∷ 17 ∷ 2 ∷ 2 ∷ 2 ∷ 2 ∷ 17 ∷ 0 ∷ 0 ∷ 0 ∷ 2 ∷ 5 ∷ 0 ∷ 0 ∷ 0 ∷ 0 ∷ 5 ∷ 0 ∷ 0 ∷ 17 ∷ 0 ∷ 5 ∷ []))
-unfolding answersFrom calls
+unfolding repliesFrom calls
 calls-answers = refl

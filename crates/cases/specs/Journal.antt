@@ -1,6 +1,6 @@
 -- Calls as a journal writes them, numbers in document 01's order, and what the day book answers to a list of them.
 use mathlib.Core.Option.{none}
-use mathlib.Core.List.{List, [], _∷_, map}
+use mathlib.Core.List.{List, [], _∷_, map, flatten}
 use Prim.Native.Nat.{ℕ}
 use lib.IntN.{ℤ, pos, negsuc}
 use lib.ListN.{replicate}
@@ -10,13 +10,14 @@ use Rattle.numbers.specs.Sums.{sumFrom}
 use Rattle.numbers.specs.Shares.{floorPart, ceilPart, partialEnergy, share}
 use Rattle.calendar.specs.Calendar.{allowablePeriod, businessDayBefore, businessDayAfter, listed, holidayList}
 use Rattle.daybook.specs.declared.Edition.{Edition}
-use Rattle.daybook.specs.Book.{Book, fromOn, fill, withEntries, withOff, withFro, withPending, lastOf, gather, recordAt, records, begins, registrationAt, registrations, latest, spanAt, spans, lastFilled, appendDay, dayShare}
+use Rattle.daybook.specs.Book.{fromOn, fill, withEntries, withOff, withFro, withPending, lastOf, gather, recordAt, records, begins, registrationAt, registrations, latest, spanAt, spans, lastFilled, appendDay, dayShare}
 use Rattle.daybook.specs.Notices.{least, Numbers, decide, find, put, withPoint, onPoint, freshRows, factsOf, opened, held, othersUnfilled, openingRows, opening, which, entryOf, energyEarly, offWithin, energyRows, laterStarts, entered, enter, energyRowsAt, energy, statusEarly, statusRows, switched, status, requestEarly, requestRows, request, withdrawEarly, withdrawRows, withdraw}
 use Rattle.daybook.specs.Corrections.{corrected, froChanged, affected, flags, correctEarly, full, correctRows, correctRowsAt, correctAt, correct}
 use Rattle.daybook.specs.Queries.{sumOf, ownShare, accountOf, accountRows, account, someFilled, allFilled, dailyGas, meteredOf, tdmOf, nslOf, weight, weights, total, split, pointShares, totalOf, allocateRows, allocate}
 use Rattle.daybook.specs.States.{imageLength, firstRow}
-use Rattle.daybook.specs.Editions.{Editions, editionNo, mostRecords, noRoom, convertRows}
-use Rattle.daybook.specs.Calls.{open!, energy!, status!, request!, withdraw!, account!, allocate!, save!, restore!, Call, fresh!, notice!, query!, state!, convert!, Answer, noted, given, State, renewed, converted, stated, step, answers}
+use Rattle.daybook.specs.Editions.{Editions, editionNo, largest, mostRecords, noRoom, convertRows}
+use Rattle.daybook.specs.Trials.{noticesIn, answersTo, booksOnTheWay, trialRows, trial}
+use Rattle.daybook.specs.Calls.{open!, energy!, status!, request!, withdraw!, account!, allocate!, trial!, save!, restore!, Call, fresh!, notice!, query!, state!, convert!, Answer, noted, given, State, renewed, converted, stated, step, answers}
 
 -- in an edition
 abbrev pub FreshIn : ℤ → ℤ → ℤ → Call
@@ -75,6 +76,10 @@ abbrev pub Allocate : ℕ → ℕ → ℕ → ℕ → Call
 Allocate g a b tdq =
     query! (allocate! (record { gasday = pos g; from = pos a; to = pos b; tdq = pos tdq; uag = pos 0; clp = pos 0 }) 32)
 
+-- so many of these notices' numbers, with an answer table of `room` numbers
+abbrev pub Trial : ℤ → List (List ℤ) → ℕ → Call
+Trial count notices room = query! (trial! count (flatten notices) room)
+
 -- lent all bytes of an image
 abbrev pub Save : ℤ → Call
 Save n = state! (save! n imageLength)
@@ -86,16 +91,29 @@ abbrev numbers : List Answer → List Numbers
 numbers [] = []
 numbers (a ∷ l) = a .0 ∷ numbers l
 
--- Each call's numbers, the refusal first. To unfold this definition is to unfold the whole day book.
-unfoldable pub answersFrom : Editions → State → List Call → List Numbers
-unfolding all firstFrom lastBelow sumFrom floorPart ceilPart partialEnergy share allowablePeriod businessDayBefore businessDayAfter listed holidayList fromOn fill withEntries withOff withFro withPending lastOf gather recordAt records begins registrationAt registrations latest spanAt spans lastFilled appendDay dayShare least decide find put withPoint onPoint freshRows factsOf opened held othersUnfilled openingRows opening which entryOf energyEarly offWithin energyRows laterStarts entered enter energyRowsAt energy statusEarly statusRows switched status requestEarly requestRows request withdrawEarly withdrawRows withdraw corrected froChanged affected flags correctEarly full correctRows correctRowsAt correctAt correct sumOf ownShare accountOf accountRows account someFilled allFilled dailyGas meteredOf tdmOf nslOf weight weights total split pointShares totalOf allocateRows allocate firstRow editionNo mostRecords noRoom convertRows noted given renewed converted stated step answers
-answersFrom E S calls = numbers (answers E calls S)
+-- Each call's answer, and its numbers for an answer table. To unfold this definition is to unfold the whole day book.
+unfoldable pub repliesFrom : Editions → State → List Call → List Answer
+unfolding all firstFrom lastBelow sumFrom floorPart ceilPart partialEnergy share allowablePeriod businessDayBefore businessDayAfter listed holidayList fromOn fill withEntries withOff withFro withPending lastOf gather recordAt records begins registrationAt registrations latest spanAt spans lastFilled appendDay dayShare least decide find put withPoint onPoint freshRows factsOf opened held othersUnfilled openingRows opening which entryOf energyEarly offWithin energyRows laterStarts entered enter energyRowsAt energy statusEarly statusRows switched status requestEarly requestRows request withdrawEarly withdrawRows withdraw corrected froChanged affected flags correctEarly full correctRows correctRowsAt correctAt correct sumOf ownShare accountOf accountRows account someFilled allFilled dailyGas meteredOf tdmOf nslOf weight weights total split pointShares totalOf allocateRows allocate firstRow editionNo largest mostRecords noRoom convertRows noticesIn answersTo booksOnTheWay trialRows trial flatten noted given renewed converted stated step answers
+repliesFrom E S calls = answers E calls S
+
+-- Each call's numbers, the refusal first.
+abbrev pub answersFrom : Editions → State → List Call → List Numbers
+answersFrom E S calls = numbers (repliesFrom E S calls)
 
 -- From nothing: what stands in the book before fresh does not matter, and nothing is saved.
+abbrev nothing : Editions → State
+nothing E =
+    record {
+      edition = E .standard;
+      book = record { nondaily = pos 0; daily = pos 0; points = [] };
+      saved = λ n. none;
+    }
+
+abbrev pub repliesIn : Editions → List Call → List Answer
+repliesIn E calls = repliesFrom E (nothing E) calls
+
 abbrev pub answersIn : Editions → List Call → List Numbers
-answersIn E calls =
-    let nothing : Book = record { nondaily = pos 0; daily = pos 0; points = [] } in
-    answersFrom E (record { edition = E .standard; book = nothing; saved = λ n. none }) calls
+answersIn E calls = answersFrom E (nothing E) calls
 
 -- Where there is one edition, which fresh names by 0.
 abbrev pub alone : Edition → Editions

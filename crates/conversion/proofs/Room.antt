@@ -1,59 +1,22 @@
--- The largest number of records, point by point, and what an edition has room for. Assumes nothing.
+-- What an edition has room for. Assumes nothing.
 use mathlib.Core.Path.{_≡_, refl, sym, _∙_, ap, ap₂}
 use mathlib.Core.Bool.{Bool, true, false, not, _&&_, _||_}
-use mathlib.Core.List.{List, [], _∷_, _++_, map}
-use Prim.Native.Nat.{ℕ, zero, suc, _+_, _≤_, _<_, max}
+use mathlib.Core.List.{List}
+use Prim.Native.Nat.{ℕ, _+_, _≤_, _<_}
 use native.Mathlib.Omega.{arith}
 use lib.Dec.{leb, ltb}
 use lib.IntN.{ℤ}
 use lib.ListN.{length}
 use borrow.Author.Tests.{le-leb, lt-leb, le-ltb, ltb-true, ltb-false}
 use Rattle.daybook.specs.declared.Edition.{Edition}
-use Rattle.daybook.specs.Book.{Point, records}
+use Rattle.daybook.specs.Book.{records}
 use Rattle.daybook.specs.Notices.{operatorsIn, unfilled, overFour}
 use Rattle.daybook.specs.Editions.{mostRecords, noRoom}
-use Rattle.lists.specs.Lists.{pointOf, bookOf}
-use Rattle.lists.proofs.Records.{records-is}
 use Rattle.lists.proofs.OtherRoom.{has-room}
-use Rattle.layout.specs.Layout.{Fits, partOf, numAt, pointFrom, tableBook}
+use Rattle.layout.specs.Layout.{Fits, partOf, numAt, tableBook}
 use Rattle.layout.specs.Sound.{sound}
-use Rattle.layout.specs.InnerParts.{SoundPart}
-use Rattle.layout.proofs.Cells.{place-recs}
-use Rattle.layout.proofs.SoundParts.{part-well, part-laid, sound-at}
-use Rattle.point.proofs.Rows.{rowsAt, length-rows, rows-join, map-rows, points-read}
-
--- ---- the most records
-
-most-append : (l m : List Point) → mostRecords (l ++ m) ≡ max (mostRecords l) (mostRecords m)
-unfolding mostRecords
-most-append [] m = omega arith
-most-append (p ∷ l) m = omega (arith, most-append l m)
-
--- one point more
-pub most-next : (f : ℕ → Point) (n : ℕ) → max (mostRecords (rowsAt f 0 n)) (length (records (f n))) ≡ mostRecords (rowsAt f 0 (n + 1))
-unfolding rowsAt mostRecords
-most-next f n =
-    let last : length (records (f n)) ≡ mostRecords (f n ∷ []) = omega arith in
-    ap (max (mostRecords (rowsAt f 0 n))) last ∙ sym (most-append (rowsAt f 0 n) (f n ∷ []))
-    ∙ ap mostRecords (rows-join f n 1 0 n (omega arith))
-
--- the records that a part says it has
-pub part-records : {p : List ℤ} → SoundPart p → numAt p 6 ≡ length (records (pointOf (pointFrom p)))
-part-records s = place-recs (part-well s) (part-laid s) ∙ ap length (sym (records-is (part-well s)))
-
-module _ (ed : Edition) (t : List ℤ) where
-  -- The book's point i.
-  abbrev pub pointAt : ℕ → Point
-  pointAt i = pointOf (pointFrom (partOf ed t i))
-
-  pub points-at : tableBook ed t .points ≡ rowsAt pointAt 0 (numAt t 0)
-  unfolding tableBook bookOf
-  points-at = ap (λ qs. map pointOf qs) (points-read ed t) ∙ map-rows pointOf (λ i. pointFrom (partOf ed t i)) 0 (numAt t 0)
-
-  count-at : length (tableBook ed t .points) ≡ numAt t 0
-  count-at = ap length points-at ∙ length-rows pointAt 0 (numAt t 0)
-
--- ---- room in another edition
+use Rattle.layout.proofs.SoundParts.{sound-at}
+use Rattle.table.proofs.MostRecords.{most-at, part-records, pointAt, points-at, count-at}
 
 -- more points than there is room for are also more with the reserves
 room-is : (P Q n m u : ℕ) → (leb (n + u) P && leb m Q) ≡ not (ltb P n || ltb Q m || ltb P (n + u))
@@ -86,12 +49,6 @@ unfolding noRoom
 has-room-is ed to t n u m en eu em =
     rw (en ∙ sym (count-at ed t), eu, em)
     (room-is (to .points) (to .records) (length (tableBook ed t .points)) (mostRecords (tableBook ed t .points)) (overFour (unfilled to (operatorsIn (tableBook ed t .points)))))
-
-most-at : (f : ℕ → Point) (n k i : ℕ) → i < n → length (records (f (k + i))) ≤ mostRecords (rowsAt f k n)
-unfolding rowsAt mostRecords
-most-at f zero k i h = absurd (omega arith)
-most-at f (suc n) k zero h = let e : k + 0 ≡ k = omega arith in rw e (omega arith)
-most-at f (suc n) k (suc i) h = let e : k + suc i ≡ suc k + i = omega arith in rw e (omega (arith, most-at f n (suc k) i (omega arith)))
 
 -- the points of a table, and the records of each that is sound, have room where their book has
 pub points-fit : (ed to : Edition) (t : List ℤ) → noRoom to (tableBook ed t) ≡ false → numAt t 0 ≤ to .points

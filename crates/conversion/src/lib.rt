@@ -4,42 +4,17 @@ use daybook::Edition;
 use daybook::NoticeAnswer;
 ghost use mathlib.Core.Path.{_≡_};
 ghost use mathlib.Core.Bool.{true, not};
-ghost use Prim.Native.Nat.{_%_, _≤_, max};
+ghost use Prim.Native.Nat.{_%_, _≤_};
 ghost use lib.ListN.{length};
 ghost use Rattle.numbers.specs.Answers.{refused};
 ghost use Rattle.daybook.specs.Calls.{noticeNumbers, noticeRefused};
-ghost use Rattle.daybook.specs.Editions.{editions, mostRecords, noRoom};
+ghost use Rattle.daybook.specs.Editions.{editions, noRoom};
 ghost use Rattle.layout.specs.Places.{pointsPlace, recCount, recPlace};
 ghost use Rattle.layout.specs.Layout.{Fits, numAt, tableBook, withNewBook};
 ghost use Rattle.layout.specs.Sound.{sound};
 ghost use Rattle.layout.specs.InnerParts.{roomOf, SoundPart};
 ghost use Rattle.conversion.specs.InnerConversion.{Convertible, copiedPart, partsInto};
 ghost use Rattle.conversion.specs.Conversion.{convertCall};
-
-// The larger of two numbers.
-fn larger(a: usize, b: usize) -> usize
-    ensures { λ r. ⌜ r ≡ max a b ⌝ }
-{
-    if a < b {
-        return b;
-    }
-    a
-}
-
-// The largest number of records that a point has, 0 with no point.
-fn most_records(t: &[i64], ed: Edition) -> usize
-    requires { ⌜ Fits ed × (sound ed (now t) ≡ true) ⌝ }
-    ensures { λ r. ⌜ r ≡ mostRecords (tableBook ed (now (t .entry)) .points) ⌝ }
-{
-    let n = places::points(t);
-    let mut most: usize = 0;
-    let mut i: usize = 0;
-    while i < n {
-        most = larger(most, places::records(table::part(t, ed, i)));
-        i += 1;
-    }
-    most
-}
 
 // Has the edition `to` room for the register? Where it has too few points, too few are left for the reserves as well.
 fn has_room(t: &[i64], ed: Edition, to: Edition) -> bool
@@ -48,7 +23,7 @@ fn has_room(t: &[i64], ed: Edition, to: Edition) -> bool
 {
     let n = places::points(t);
     let reserved = reserves::all_unfilled(t, ed, to);
-    (n + reserved <= to.points) & (most_records(t, ed) <= to.records)
+    (n + reserved <= to.points) & (table::most_records(t, ed) <= to.records)
 }
 
 // A point's numbers p in a part q of another edition, which has room for its records; its operator is named.

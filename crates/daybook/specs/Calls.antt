@@ -26,6 +26,8 @@ use Rattle.daybook.specs.declared.CorrectionAnswer.{CorrectionAnswer}
 use Rattle.daybook.specs.declared.AccountAnswer.{AccountAnswer}
 use Rattle.daybook.specs.declared.AccountAnswer.the-variants as Account
 use Rattle.daybook.specs.declared.AllocationAnswer.{AllocationAnswer}
+use Rattle.daybook.specs.declared.TrialAnswer.{TrialAnswer}
+use Rattle.daybook.specs.declared.TrialAnswer.the-variants as Trial
 use Rattle.daybook.specs.declared.Edition.{Edition}
 use Rattle.daybook.specs.Book.{Book}
 use Rattle.daybook.specs.Notices.{least, Numbers, decide, freshRows, freshBook, opening, energy, status, request, withdraw}
@@ -33,6 +35,7 @@ use Rattle.daybook.specs.Corrections.{correct}
 use Rattle.daybook.specs.Queries.{account, allocate}
 use Rattle.daybook.specs.States.{stateRow, under}
 use Rattle.daybook.specs.Editions.{Editions, editionNo, otherThan, convertRows}
+use Rattle.daybook.specs.Trials.{trial}
 
 -- ---- the numbers of an answer: the refusal first, then the fields, every one 0 on a refusal
 
@@ -58,6 +61,10 @@ accountNumbers (Account.Refused r) = pos r ∷ pos 0 ∷ []
 abbrev pub allocationNumbers : AllocationAnswer → Numbers
 allocationNumbers a = pos (a .refusal) ∷ a .nsl ∷ a .totals
 
+abbrev pub trialNumbers : TrialAnswer → Numbers
+trialNumbers (Trial.Given most removed) = pos 0 ∷ pos most ∷ pos removed ∷ []
+trialNumbers (Trial.Refused r) = pos r ∷ replicate 2 (pos 0)
+
 -- ---- which case an answer is: its numbers alone do not tell Refused(0) from an answer without a refusal, so that a
 -- contract says this too
 
@@ -77,6 +84,10 @@ abbrev pub accountRefused : AccountAnswer → Bool
 accountRefused (Account.Given sum) = false
 accountRefused (Account.Refused r) = true
 
+abbrev pub trialRefused : TrialAnswer → Bool
+trialRefused (Trial.Given most removed) = false
+trialRefused (Trial.Refused r) = true
+
 -- ---- calls
 
 -- A call that may change the book, in its edition: its numbers, and the holidays that a request lends.
@@ -88,10 +99,12 @@ pub data Notice : Type 0 where
   withdraw! : Withdrawal → Notice
   correct! : Correction → Notice
 
--- A call that only reads: its numbers, and the length of the answer table that an allocation lends.
+-- A call that only reads: its numbers, and the length of the answer table that an allocation or a trial lends. A trial
+-- says how many notices it tries and lends them as a table of numbers.
 pub data Query : Type 0 where
   account! : AccountQuery → Query
   allocate! : AllocationQuery → ℕ → Query
+  trial! : ℤ → List ℤ → ℕ → Query
 
 -- A call on a named state: its number, and how many of its image's bytes are lent.
 pub data StateCall : Type 0 where
@@ -119,10 +132,11 @@ noted (request! n holidays) ed B = request n holidays B
 noted (withdraw! n) ed B = withdraw n B
 noted (correct! n) ed B = correct n B
 
--- What the book answers to a query.
-unfoldable pub given : Query → Book → Answer
-given (account! n) B = (account n B, [])
-given (allocate! n room) B = allocate n room B
+-- What the book answers to a query, in an edition of the table.
+unfoldable pub given : Query → Edition → Book → Answer
+given (account! n) ed B = (account n B, [])
+given (allocate! n room) ed B = allocate n room B
+given (trial! count notices room) ed B = trial ed count notices room B
 
 -- ---- lists of calls, from state to state
 
@@ -162,7 +176,7 @@ unfoldable pub step : Editions → Call → State → Answer × State
 step E (fresh! n) S = let w : Numbers × State = renewed E n S in ((w .0, []), w .1)
 step E (notice! c) S =
     let w : Numbers × Book = noted c (S .edition) (S .book) in ((w .0, []), onWith S (S .edition, w .1))
-step E (query! q) S = (given q (S .book), S)
+step E (query! q) S = (given q (S .edition) (S .book), S)
 step E (state! c) S = let w : Numbers × State = stated c S in ((w .0, []), w .1)
 step E (convert! t) S = let w : Numbers × State = converted E (length t) S in ((w .0, []), w .1)
 

@@ -1,6 +1,6 @@
 -- The editions of the table, and the conversion of a book from one to the other (document 02, k).
 use mathlib.Core.Bool.{Bool, _||_, cond}
-use mathlib.Core.List.{List, [], _∷_}
+use mathlib.Core.List.{List, [], _∷_, map}
 use Prim.Native.Nat.{ℕ, _+_, _-_, max}
 use lib.Dec.{ltb, eqb}
 use lib.ListN.{length}
@@ -35,10 +35,14 @@ otherThan E ed = editionNo E (1 - ed .number)
 
 -- ---- convert: the same book in the other edition
 
+-- The largest of some numbers, 0 of none.
+unfoldable pub largest : List ℕ → ℕ
+largest [] = 0
+largest (n ∷ ns) = max n (largest ns)
+
 -- The largest number of records that a point has, 0 with no point.
 unfoldable pub mostRecords : List Point → ℕ
-mostRecords [] = 0
-mostRecords (p ∷ ps) = max (length (records p)) (mostRecords ps)
+mostRecords ps = largest (map (λ (p : Point). length (records p)) ps)
 
 -- An edition has no room for a book with more points or more records than it holds, or with fewer points left there
 -- than its operators' unfilled reserves. (The first follows from the last: more points than it holds leave fewer than

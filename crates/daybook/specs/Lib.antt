@@ -6,5 +6,6 @@ pub mod Corrections
 pub mod Queries
 pub mod States
 pub mod Editions
-pub mod Calls
 pub mod FromNumbers
+pub mod Trials
+pub mod Calls

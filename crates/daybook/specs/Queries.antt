@@ -1,4 +1,4 @@
--- The two calls that read the book: account and allocate.
+-- Two calls that read the book: account and allocate.
 use mathlib.Core.Bool.{Bool, not, _&&_, cond}
 use mathlib.Core.List.{List, [], _∷_, _++_, map}
 use Prim.Native.Nat.{ℕ, suc, _+_, _-_, _*_, max}

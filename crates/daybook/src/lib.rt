@@ -8,7 +8,7 @@ ghost use Rattle.words.specs.Words.{bitsOf};
 ghost use Rattle.calendar.specs.Calendar.{dateNumbers};
 ghost use Rattle.daybook.specs.Notices.{isMirn, isUser, isFlag, isRange, isEdition};
 ghost use Rattle.daybook.specs.States.{isState};
-ghost use Rattle.daybook.specs.Calls.{noticeNumbers, energyNumbers, requestNumbers, correctionNumbers, accountNumbers, allocationNumbers};
+ghost use Rattle.daybook.specs.Calls.{noticeNumbers, energyNumbers, requestNumbers, correctionNumbers, accountNumbers, allocationNumbers, trialNumbers};
 
 // Beside the book stands the edition of the table: its number, how many points it holds, how many records of each, and
 // how many points it reserves for each operator (document 02, g and k).
@@ -139,6 +139,13 @@ pub struct AllocationAnswer {
     pub totals: [i64; 16],
 }
 
+// Of a trial: the largest number of records that any point would hold on the way, and how many would be removed in all
+// (document 02, i).
+pub enum TrialAnswer {
+    Given { most: u64, removed: u64 },
+    Refused(u64),
+}
+
 pub fn is_mirn(x: i64) -> bool
     ensures { λ r. ⌜ r ≡ isMirn x ⌝ }
 {
@@ -257,4 +264,13 @@ pub fn allocation_numbers(a: AllocationAnswer) -> [u64; 18]
         k += 1;
     }
     numbers
+}
+
+pub fn trial_numbers(a: TrialAnswer) -> [u64; 3]
+    ensures { λ r. ⌜ r ≡ bitsOf (trialNumbers a) ⌝ }
+{
+    match a {
+        TrialAnswer::Given { most, removed } => [0, most, removed],
+        TrialAnswer::Refused(r) => [r, 0, 0],
+    }
 }

@@ -23,7 +23,6 @@ use Rattle.lists.proofs.Rows.{above, upTo, least-first, least-skip, least-none}
 use Rattle.lists.proofs.EnergyStep.{energy-step, energy-keeps, energy-clear, enter-keeps}
 use Rattle.layout.specs.Layout.{Fits, editionOf, registerOf}
 use Rattle.layout.specs.Sound.{sound}
-use Rattle.layout.specs.Calls.{onEdition}
 use Rattle.layout.specs.InnerParts.{roomOf}
 use Rattle.layout.proofs.Numbers.{few}
 use Rattle.layout.proofs.TableSound.{sound-lays}
@@ -34,7 +33,7 @@ use Rattle.table.proofs.OnPart.{CallOn, room-found, call-back, call-done}
 use Rattle.entering.specs.declared.RaisedNotice.{RaisedNotice}
 use Rattle.energy.specs.Energy.{energyCall}
 use Rattle.entering.specs.InnerEntering.{raisedNotice, noticeOf, inRange}
-use Rattle.energy.specs.InnerParts.{editionWith, energyRowsOf, energyPart}
+use Rattle.energy.specs.InnerParts.{editionWith, energyRowsOf, energyPart, energyIn}
 use Rattle.energy.proofs.Raised.{in-range-tells}
 
 -- ---- row 2
@@ -59,11 +58,12 @@ module _ (n : EnergyNotice) where
 
 -- ---- the call
 
-module _ (ed : Edition) (fits : Fits ed) (t : List ℤ) (g : ed ≡ editionOf t) (n : EnergyNotice) (e : ℕ) (is : e ≡ least (energyEarly n)) where
-  whole : energyCall editions t n ≡ onEdition 4 (energy ed n) ed t
-  unfolding energyCall
-  whole = ap (λ ed. onEdition 4 (energy ed n) ed t) (sym g)
+-- the table's own edition is the one that the call goes by
+pub own-edition : (ed : Edition) (t : List ℤ) → ed ≡ editionOf t → (n : EnergyNotice) → energyIn ed t n ≡ energyCall editions t n
+unfolding energyCall
+own-edition ed t g n = ap (λ ed. energyIn ed t n) g
 
+module _ (ed : Edition) (fits : Fits ed) (t : List ℤ) (n : EnergyNotice) (e : ℕ) (is : e ≡ least (energyEarly n)) where
   abbrev R : Register
   R = registerOf ed t
 
@@ -85,8 +85,8 @@ module _ (ed : Edition) (fits : Fits ed) (t : List ℤ) (g : ed ≡ editionOf t)
       }
 
   pub energy-back : (r : ℕ) → SentBack ed t (n .mirn) e r
-      → (pos r ∷ replicate 4 (pos 0) ≡ energyCall editions t n .0) × (t ≡ energyCall editions t n .1) × (true ≡ refused (pos r ∷ replicate 4 (pos 0)))
-  energy-back = call-back ed fits t call (energyCall editions t n) whole e is
+      → (pos r ∷ replicate 4 (pos 0) ≡ energyIn ed t n .0) × (t ≡ energyIn ed t n .1) × (true ≡ refused (pos r ∷ replicate 4 (pos 0)))
+  energy-back = call-back ed fits t call (energyIn ed t n) refl e is
 
   module _ {a b : ℕ} (h : PartFound ed t (n .mirn) e a b) (nondaily daily : ℕ)
       (is-nondaily : nondaily ≡ biasOf (getD t 1 (pos 0))) (is-daily : daily ≡ biasOf (getD t 2 (pos 0))) where
@@ -116,6 +116,6 @@ module _ (ed : Edition) (fits : Fits ed) (t : List ℤ) (g : ed ≡ editionOf t)
 
       pub energy-done : (r : Numbers) (p : List ℤ) {c : Bool}
           → (r ≡ energyPart x nondaily daily (lent t a b) .0) × (p ≡ energyPart x nondaily daily (lent t a b) .1) × (c ≡ refused r)
-          → (r ≡ energyCall editions t n .0) × (backIn t a b p ≡ energyCall editions t n .1) × (c ≡ refused r)
+          → (r ≡ energyIn ed t n .0) × (backIn t a b p ≡ energyIn ed t n .1) × (c ≡ refused r)
       energy-done r p g =
-          call-done ed fits t call (energyCall editions t n) whole e is h r p (g .0 ∙ ap (λ w. w .0) given, g .1 ∙ ap (λ w. w .1) given, g .2)
+          call-done ed fits t call (energyIn ed t n) refl e is h r p (g .0 ∙ ap (λ w. w .0) given, g .1 ∙ ap (λ w. w .1) given, g .2)

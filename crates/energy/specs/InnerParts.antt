@@ -1,13 +1,15 @@
--- The rows of a notice's point and the whole notice, on the point's part.
+-- The rows of a notice's point and the whole notice, on the point's part and on a table of an edition.
 use mathlib.Core.List.{List, []}
 use Prim.Native.Nat.{ℕ}
 use lib.IntN.{ℤ}
 use Rattle.numbers.specs.InnerEnergies.{energyOf}
 use Rattle.daybook.specs.declared.Edition.{Edition}
-use Rattle.daybook.specs.Notices.{Row, Numbers}
+use Rattle.daybook.specs.declared.EnergyNotice.{EnergyNotice}
+use Rattle.daybook.specs.Notices.{Row, Numbers, energy}
 use Rattle.lists.specs.Lists.{Lists, Register}
 use Rattle.lists.specs.InnerSteps.{enterLists, energyListsRows}
 use Rattle.layout.specs.InnerParts.{roomOf}
+use Rattle.layout.specs.Calls.{onEdition}
 use Rattle.table.specs.InnerTable.{onPart}
 use Rattle.entering.specs.declared.RaisedNotice.{RaisedNotice}
 use Rattle.entering.specs.InnerEntering.{noticeOf, entryFrom}
@@ -28,3 +30,7 @@ energyRowsOf x nondaily daily room q =
 -- The whole notice, on its point's part: its four fields and what it leaves.
 unfoldable pub energyPart : RaisedNotice → ℕ → ℕ → List ℤ → Numbers × List ℤ
 energyPart x nondaily daily p = onPart 4 (energyRowsOf x nondaily daily (roomOf p)) (enterLists (entryFrom x)) p
+
+-- The whole call on a table of an edition.
+abbrev pub energyIn : Edition → List ℤ → EnergyNotice → Numbers × List ℤ
+energyIn ed t n = onEdition 4 (energy ed n) ed t

@@ -1,21 +1,25 @@
 // energy: an energy notice fills days of its point as an append, a replacement or a recut; an append alone settles a
-// pending request. The public call finds the point; the functions before it work on that point's part alone.
+// pending request. The public call tests the table, the one before it finds the point, and the others work on that point's
+// part alone.
+use daybook::Edition;
 use daybook::EnergyAnswer;
 use daybook::EnergyNotice;
 use entering::RaisedNotice;
 use table::Located;
 ghost use mathlib.Core.Path.{_≡_};
+ghost use mathlib.Core.Bool.{true};
 ghost use Prim.Native.Nat.{_≤_};
 ghost use Rattle.numbers.specs.InnerEnergies.{energyOf};
 ghost use Rattle.numbers.specs.Answers.{refused};
 ghost use Rattle.daybook.specs.Notices.{least, energyEarly, beyond};
 ghost use Rattle.daybook.specs.Calls.{energyNumbers, energyRefused};
 ghost use Rattle.daybook.specs.Editions.{editions};
-ghost use Rattle.layout.specs.Layout.{pointFrom};
+ghost use Rattle.layout.specs.Layout.{Fits, pointFrom};
+ghost use Rattle.layout.specs.Sound.{sound};
 ghost use Rattle.layout.specs.InnerParts.{roomOf, SoundPart};
 ghost use Rattle.entering.specs.InnerEntering.{raisedNotice, InRange};
 ghost use Rattle.energy.specs.Energy.{energyCall};
-ghost use Rattle.energy.specs.InnerParts.{energyRowsOf, energyPart};
+ghost use Rattle.energy.specs.InnerParts.{energyRowsOf, energyPart, energyIn};
 
 // The row of a notice's own numbers, 0 if none applies.
 fn own_row(n: EnergyNotice) -> u64
@@ -127,13 +131,13 @@ fn enter(p: &mut [i64], x: RaisedNotice, nondaily: u64, daily: u64) -> EnergyAns
     }
 }
 
-// On any table and any numbers.
-pub fn energy(t: &mut [i64], n: EnergyNotice) -> EnergyAnswer
-    ensures { λ r. ⌜ (energyNumbers r ≡ energyCall editions (now (t .entry)) n .0) × (now (t .exit) ≡ energyCall editions (now (t .entry)) n .1) × (energyRefused r ≡ refused (energyNumbers r)) ⌝ }
+// A notice on a table that is known to be sound.
+pub fn enter_in_sound(t: &mut [i64], ed: Edition, n: EnergyNotice) -> EnergyAnswer
+    requires { ⌜ Fits ed × (sound ed (now t) ≡ true) ⌝ }
+    ensures { λ r. ⌜ (energyNumbers r ≡ energyIn ed (now (t .entry)) n .0) × (now (t .exit) ≡ energyIn ed (now (t .entry)) n .1) × (energyRefused r ≡ refused (energyNumbers r)) ⌝ }
 {
-    let ed = table::edition(t);
     let mirn = n.mirn;
-    match table::locate(t, ed, mirn, own_row(n)) {
+    match table::locate_in_sound(t, ed, mirn, own_row(n)) {
         Located::Refused(row) => EnergyAnswer::Refused(row),
         Located::At { from, to } => {
             let x = read(n);
@@ -142,4 +146,15 @@ pub fn energy(t: &mut [i64], n: EnergyNotice) -> EnergyAnswer
             enter(&mut t[from..to], x, nondaily, daily)
         }
     }
+}
+
+// On any table and any numbers.
+pub fn energy(t: &mut [i64], n: EnergyNotice) -> EnergyAnswer
+    ensures { λ r. ⌜ (energyNumbers r ≡ energyCall editions (now (t .entry)) n .0) × (now (t .exit) ≡ energyCall editions (now (t .entry)) n .1) × (energyRefused r ≡ refused (energyNumbers r)) ⌝ }
+{
+    let ed = table::edition(t);
+    if !table::sound(t, ed) {
+        return EnergyAnswer::Refused(1);
+    }
+    enter_in_sound(t, ed, n)
 }

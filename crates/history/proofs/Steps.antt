@@ -1,7 +1,7 @@
 -- A call on what stands for a state answers as the day book does, and leaves what stands for the state after it. Assumes
 -- nothing.
 use mathlib.Core.Path.{_≡_, refl, sym, _∙_, ap, subst}
-use mathlib.Core.Bool.{Bool, true, false, cond}
+use mathlib.Core.Bool.{true}
 use mathlib.Core.List.{List, []}
 use mathlib.Core.Option.{Option}
 use Prim.Native.Nat.{ℕ, zero, suc}
@@ -10,20 +10,19 @@ use lib.IntN.{ℤ}
 use lib.ListN.{length}
 use borrow.Author.Tests.{le-ltb}
 use Rattle.numbers.specs.Naturals.{natOf}
-use Rattle.numbers.specs.Answers.{refused}
 use Rattle.daybook.specs.declared.Edition.{Edition}
 use Rattle.daybook.specs.declared.NewRegister.{NewRegister}
 use Rattle.daybook.specs.Book.{Book}
 use Rattle.daybook.specs.Notices.{least, Numbers, decide, freshRows, freshBook}
 use Rattle.daybook.specs.Editions.{Editions, editionNo, otherThan, convertRows}
-use Rattle.daybook.specs.Calls.{Notice, open!, energy!, status!, request!, withdraw!, correct!, Query, account!, allocate!, Call, fresh!, notice!, query!, state!, convert!, Answer, noted, given, State, onWith, renewed, converted, step}
+use Rattle.daybook.specs.Calls.{Notice, open!, energy!, status!, request!, withdraw!, correct!, Query, account!, allocate!, trial!, Call, fresh!, notice!, query!, state!, convert!, Answer, noted, given, State, onWith, renewed, converted, step}
 use Rattle.lists.specs.Lists.{bookOf}
 use Rattle.lists.proofs.Rows.{least-skip, least-none, decide-keeps}
 use Rattle.lists.proofs.OpenStep.{no-points}
-use Rattle.layout.specs.Layout.{BothFit, editionIn, tableBook, withBook, withNewBook}
+use Rattle.layout.specs.Layout.{BothFit, editionIn, tableBook, withNewBook}
 use Rattle.layout.specs.Sound.{sound}
 use Rattle.layout.specs.Calls.{answerAndTable, onEdition}
-use Rattle.layout.proofs.Editions.{number-fits, number-known, edition-fits, edition-left, edition-new}
+use Rattle.layout.proofs.Editions.{number-fits, number-known, edition-fits, edition-after, edition-new}
 use Rattle.layout.proofs.Notices.{Holds, notice-holds}
 use Rattle.layout.proofs.NewBooks.{new-holds}
 use Rattle.table.proofs.Laws.{sound-long}
@@ -35,6 +34,7 @@ use Rattle.transfer.specs.Transfer.{requestCall, withdrawCall}
 use Rattle.correction.specs.Correction.{correctCall}
 use Rattle.account.specs.Account.{accountCall}
 use Rattle.allocate.specs.Allocate.{allocateCall}
+use Rattle.trial.specs.Trial.{trialCall}
 use Rattle.conversion.specs.Conversion.{convertCall}
 use Rattle.conversion.proofs.Calls.{convert-rows}
 use Rattle.conversion.proofs.SameBook.{in-edition}
@@ -85,19 +85,15 @@ module _ (E : Editions) (fit : BothFit E) (t : List ℤ) (s : sound (editionIn E
   notice-is (correct! n) = rw s
 
   -- a query is the book's
-  pub query-is : (q : Query) → queryCall E q t ≡ given q (tableBook ed t)
-  unfolding queryCall given accountCall allocateCall
+  pub query-is : (q : Query) → queryCall E q t ≡ given q ed (tableBook ed t)
+  unfolding queryCall given accountCall allocateCall trialCall
   query-is (account! n) = ap (λ (a : Numbers). (a, [])) (query-sound _ _ ed t s)
   query-is (allocate! n room) = query-sound _ _ ed t s
+  query-is (trial! count notices room) = query-sound _ _ ed t s
 
   -- the edition stays
   pub left-edition : (c : Notice) → editionIn E (noticeCall E c t .1) ≡ ed
-  left-edition c =
-      ap (λ (w : Numbers × List ℤ). editionIn E (w .1)) (notice-is c) ∙ go (refused (noted c ed (tableBook ed t) .0)) (noted c ed (tableBook ed t) .1)
-    where
-      go : (b : Bool) (B : Book) → editionIn E (cond b t (withBook ed t B)) ≡ ed
-      go true B = refl
-      go false B = edition-left E fit t B
+  left-edition c = ap (λ (w : Numbers × List ℤ). editionIn E (w .1)) (notice-is c) ∙ edition-after E fit t (noted c ed (tableBook ed t))
 
   -- and what a notice leaves stands for the book after it
   pub notice-table : (c : Notice) → TableOf E ed (noted c ed (tableBook ed t) .1) (noticeCall E c t .1)

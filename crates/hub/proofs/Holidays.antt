@@ -16,7 +16,7 @@ use Rattle.layout.specs.Layout.{editionOf}
 use Rattle.layout.proofs.Editions.{both-fit, edition-fits}
 use Rattle.transfer.specs.Transfer.{requestCall}
 use Rattle.transfer.proofs.Requests.{inRange, request-range, request-holidays, request-early}
-use Rattle.buffers.specs.Buffers.{numbersIn, holidaysIn}
+use Rattle.buffers.specs.Buffers.{numbersIn, numbersHeld}
 use Rattle.buffers.proofs.Bytes.{numbers-length}
 
 too-many : (hs : List ℤ) → 512 < length hs → holidayList hs ≡ false
@@ -32,8 +32,7 @@ refused-alike t n hs ks h k = go (inRange n) refl
     go false f = request-early (editionOf t) (edition-fits editions both-fit t) t refl n hs 2 (request-range n hs f) 1 refl ∙ sym (request-early (editionOf t) (edition-fits editions both-fit t) t refl n ks 2 (request-range n ks f) 1 refl)
     go true f = request-early (editionOf t) (edition-fits editions both-fit t) t refl n hs 3 (request-holidays n hs f h) 2 refl ∙ sym (request-early (editionOf t) (edition-fits editions both-fit t) t refl n ks 3 (request-holidays n ks f k) 2 refl)
 
-pub first-513 : (t : List ℤ) (n : TransferRequest) (b : List ℕ) → requestCall editions t n (numbersIn b (min 513 (length b / 8))) ≡ requestCall editions t n (holidaysIn b)
-unfolding holidaysIn
+pub first-513 : (t : List ℤ) (n : TransferRequest) (b : List ℕ) → requestCall editions t n (numbersIn b (min 513 (length b / 8))) ≡ requestCall editions t n (numbersHeld b)
 first-513 t n b =
     let k : ℕ = length b / 8 in
     ⊎-elim

@@ -2,3 +2,4 @@
 mod Refusals
 mod Holidays
 mod Shares
+mod Batches

@@ -29,6 +29,7 @@ use Rattle.daybook.specs.Corrections.{correctEarly, correctRows, correctRowsAt,
 use Rattle.daybook.specs.Queries.{accountRows, account, allocateRows, allocate}
 use Rattle.daybook.specs.States.{stateRow, firstRow}
 use Rattle.daybook.specs.Editions.{editions, otherThan, convertRows}
+use Rattle.daybook.specs.Trials.{trialRows, trial}
 use Rattle.lists.proofs.Rows.{upTo, up-to-append, up-to-least}
 use Rattle.layout.specs.Layout.{tableLength, editionOf, tableBook}
 use Rattle.layout.specs.Sound.{sound}
@@ -40,6 +41,7 @@ use Rattle.transfer.specs.Transfer.{requestCall, withdrawCall}
 use Rattle.correction.specs.Correction.{correctCall}
 use Rattle.account.specs.Account.{accountCall}
 use Rattle.allocate.specs.Allocate.{allocateCall}
+use Rattle.trial.specs.Trial.{trialCall}
 use Rattle.images.specs.Images.{saveCall, restoreRow, restoreCall}
 use Rattle.conversion.specs.Conversion.{convertCall}
 use Rattle.buffers.proofs.Ends.{refusalOf}
@@ -126,6 +128,14 @@ allocate-small t q room = go (sound (editionOf t) t)
   where
     go : (s : Bool) → refusalOf (cond s (allocate q room (tableBook (editionOf t) t)) (pos 1 ∷ replicate 17 (pos 0), []) .0) ≤ highestRefusal
     go true = rw decided (up-to-least highestRefusal (allocateRows q room (tableBook (editionOf t) t)) refl)
+    go false = omega arith
+
+pub trial-small : (t : List ℤ) (count : ℤ) (notices : List ℤ) (room : ℕ) → refusalOf (trialCall editions t count notices room .0) ≤ highestRefusal
+unfolding trialCall trial trialRows ofEdition upTo
+trial-small t count notices room = go (sound (editionOf t) t)
+  where
+    go : (s : Bool) → refusalOf (cond s (trial (editionOf t) count notices room (tableBook (editionOf t) t)) (pos 1 ∷ replicate 2 (pos 0), []) .0) ≤ highestRefusal
+    go true = rw decided (up-to-least highestRefusal (trialRows count (length notices) room) refl)
     go false = omega arith
 
 pub save-small : (t : List ℤ) (n : ℤ) (image : List ℕ) → refusalOf (saveCall editions t n image .0) ≤ highestRefusal

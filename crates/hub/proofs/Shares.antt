@@ -17,9 +17,9 @@ use Rattle.daybook.specs.Editions.{editions}
 use Rattle.lists.proofs.Splits.{split-length}
 use Rattle.layout.specs.Layout.{editionOf, tableBook}
 use Rattle.layout.specs.Sound.{sound}
-use Rattle.layout.specs.Calls.{ofEdition}
+use Rattle.layout.specs.Calls.{ofEdition, placed}
 use Rattle.layout.proofs.Editions.{both-fit, edition-fits}
-use Rattle.allocate.specs.Allocate.{allocateCall, placed}
+use Rattle.allocate.specs.Allocate.{allocateCall}
 use Rattle.allocate.specs.InnerParts.{givenOf}
 use Rattle.allocate.proofs.Arrays.{points-few}
 use Rattle.allocate.proofs.Apportioned.{in-range-tells}

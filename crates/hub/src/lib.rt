@@ -12,9 +12,10 @@ ghost use Rattle.transfer.specs.Transfer.{requestCall, withdrawCall};
 ghost use Rattle.correction.specs.Correction.{correctCall};
 ghost use Rattle.account.specs.Account.{accountCall};
 ghost use Rattle.allocate.specs.Allocate.{allocateCall};
+ghost use Rattle.trial.specs.Trial.{trialCall};
 ghost use Rattle.images.specs.Images.{saveCall, restoreCall};
 ghost use Rattle.conversion.specs.Conversion.{convertCall};
-ghost use Rattle.buffers.specs.Buffers.{tableIn, holidaysIn, replied, writtenBytes, written, imageIn};
+ghost use Rattle.buffers.specs.Buffers.{tableIn, numbersHeld, replied, writtenBytes, written, imageIn};
 use calendar::YearMonthDay;
 use daybook::AccountQuery;
 use daybook::AllocationQuery;
@@ -134,7 +135,7 @@ pub extern "C" fn petlumas_request(
     proposed: i64,
     nochange: i64,
 ) -> i64
-    ensures { λ r. ⌜ (r, (now (register .exit), now (answer .exit))) ≡ written (requestCall editions (tableIn (now (register .entry))) (record { mirn = mirn; user = user; proposed = proposed; nochange = nochange }) (holidaysIn (now (holidays .entry)))) (now (register .entry)) (now (answer .entry)) ⌝ }
+    ensures { λ r. ⌜ (r, (now (register .exit), now (answer .exit))) ≡ written (requestCall editions (tableIn (now (register .entry))) (record { mirn = mirn; user = user; proposed = proposed; nochange = nochange }) (numbersHeld (now (holidays .entry)))) (now (register .entry)) (now (answer .entry)) ⌝ }
 {
     let n = TransferRequest {
         mirn,
@@ -145,7 +146,7 @@ pub extern "C" fn petlumas_request(
     let mut t = [0i64; places::TABLE_LENGTH];
     let table = buffers::table_in(register, &mut t);
     let mut list = [0i64; 513];
-    let days = buffers::holidays_in(holidays, &mut list);
+    let days = buffers::list_in(holidays, &mut list);
     let a = transfer::request(table, n, days);
     let numbers = daybook::request_numbers(a);
     buffers::finish(register, answer, table, &numbers)
@@ -236,10 +237,33 @@ pub extern "C" fn petlumas_allocate(
     let mut t = [0i64; places::TABLE_LENGTH];
     let table = buffers::table_in(register, &mut t);
     let mut list = [0i64; 32];
-    let room = buffers::shares_in(shares, &mut list);
+    let room = buffers::room_in(shares, &mut list);
     let a = allocate::allocate(table, q, room);
     let numbers = daybook::allocation_numbers(a);
     buffers::finish(shares, answer, room, &numbers)
+}
+
+// The batch and its answers have as many numbers as their buffers have bytes for.
+#[no_mangle]
+pub extern "C" fn petlumas_trial(
+    register: &[u8],
+    answer: &mut [u8],
+    notices: &[u8],
+    answers: &mut [u8],
+    count: i64,
+) -> i64
+    ensures { λ r. ⌜ (r, (now (answers .exit), now (answer .exit))) ≡ written (trialCall editions (tableIn (now (register .entry))) count (numbersHeld (now (notices .entry))) (length (now (answers .entry)) / 8)) (now (answers .entry)) (now (answer .entry)) ⌝ }
+{
+    let mut t = [0i64; places::TABLE_LENGTH];
+    let table = buffers::table_in(register, &mut t);
+    let mut batch = [0i64; 600];
+    let list = buffers::list_in(notices, &mut batch);
+    let mut five = [0i64; 500];
+    let room = buffers::room_in(answers, &mut five);
+    let a = trial::trial(table, count, list, room);
+    let given = trial::answers_in(room, count);
+    let numbers = daybook::trial_numbers(a);
+    buffers::finish(answers, answer, given, &numbers)
 }
 
 #[no_mangle]

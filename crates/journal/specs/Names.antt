@@ -13,7 +13,7 @@ use Rattle.journal.specs.declared.CallWord.the-variants as Call·
 use Rattle.journal.specs.declared.ImageWord.{ImageWord}
 use Rattle.journal.specs.declared.ImageWord.the-variants as Image·
 use Rattle.journal.specs.declared.Command.{Command}
-use Rattle.journal.specs.declared.Command.the-variants.{Call, Look, Table, Poke, Lend, Room, Hub, Unknown, Image, Convert}
+use Rattle.journal.specs.declared.Command.the-variants.{Call, Look, Table, Poke, Lend, Room, Hub, Unknown, Image, Convert, Trial}
 
 unfoldable pub sameBytes : List ℕ → List ℕ → Bool
 sameBytes [] [] = true
@@ -72,13 +72,14 @@ imageOr w other =
     (image w (115 ∷ 97 ∷ 118 ∷ 101 ∷ []) Image·.Save
     other))))
 
--- a transfer, another notice, a query, a line on images; convert, hub, alen, tlen, poke, table, look
+-- a transfer, another notice, a query, a line on images; trial, convert, hub, alen, tlen, poke, table, look
 unfoldable pub commandNamed : List ℕ → Command
 commandNamed w =
     transferOr w
     (noticeOr w
     (queryOr w
     (imageOr w
+    (pick (sameBytes w (116 ∷ 114 ∷ 105 ∷ 97 ∷ 108 ∷ [])) Trial
     (pick (sameBytes w (99 ∷ 111 ∷ 110 ∷ 118 ∷ 101 ∷ 114 ∷ 116 ∷ [])) Convert
     (pick (sameBytes w (104 ∷ 117 ∷ 98 ∷ [])) Hub
     (pick (sameBytes w (97 ∷ 108 ∷ 101 ∷ 110 ∷ [])) Room
@@ -86,7 +87,7 @@ commandNamed w =
     (pick (sameBytes w (112 ∷ 111 ∷ 107 ∷ 101 ∷ [])) Poke
     (pick (sameBytes w (116 ∷ 97 ∷ 98 ∷ 108 ∷ 101 ∷ [])) Table
     (pick (sameBytes w (108 ∷ 111 ∷ 111 ∷ 107 ∷ [])) Look
-    Unknown))))))))))
+    Unknown)))))))))))
 
 -- energy, allocate, account: the words that may follow `hub`
 unfoldable pub namedOnBytes : List ℕ → Command

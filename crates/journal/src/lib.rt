@@ -55,6 +55,7 @@ pub enum Command {
     Unknown,
     Image(ImageWord),
     Convert,
+    Trial,
 }
 
 // What a word stands for.
@@ -254,6 +255,7 @@ pub fn named(w: &[u8]) -> Command
     let c = pick(w, b"alen", Command::Room, c);
     let c = pick(w, b"hub", Command::Hub, c);
     let c = pick(w, b"convert", Command::Convert, c);
+    let c = pick(w, b"trial", Command::Trial, c);
     transfer_or(w, notice_or(w, query_or(w, image_or(w, c))))
 }
 

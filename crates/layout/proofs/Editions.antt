@@ -10,11 +10,14 @@ use lib.ListN.{length, take, List·getD-append}
 use lib.Seq.{getD-take, length-take-le}
 use borrow.Author.Tests.{eqb-true, eqb-false}
 use Rattle.numbers.specs.Naturals.{natOf}
+use Rattle.numbers.specs.Answers.{refused}
 use Rattle.daybook.specs.declared.Edition.{Edition}
 use Rattle.daybook.specs.Book.{Book}
+use Rattle.daybook.specs.Notices.{Numbers}
 use Rattle.daybook.specs.Editions.{Editions, editions, editionNo}
 use Rattle.lists.specs.Lists.{Register}
 use Rattle.layout.specs.Layout.{tableLength, Fits, BothFit, editionIn, pad, layout, withBook, withNewBook}
+use Rattle.layout.specs.Calls.{answerAndTable}
 
 -- the two that there are
 pub both-fit : BothFit editions
@@ -72,11 +75,20 @@ module _ (E : Editions) (fit : BothFit E) where
   unfolding editionIn layout pad
   edition-laid ed k R rest = k
 
-  -- a book written over a table leaves its edition, and one laid out anew names its own
-  pub edition-left : (t : List ℤ) (B : Book) → editionIn E (withBook (editionIn E t) t B) ≡ editionIn E t
+  -- a book written over a table leaves its edition
+  edition-left : (t : List ℤ) (B : Book) → editionIn E (withBook (editionIn E t) t B) ≡ editionIn E t
   unfolding withBook
   edition-left t B = edition-laid (editionIn E t) (edition-known t) _ _
 
+  -- so does a call, be it sent back or not
+  pub edition-after : (t : List ℤ) (w : Numbers × Book) → editionIn E (answerAndTable (editionIn E t) t w .1) ≡ editionIn E t
+  edition-after t w = go (refused (w .0))
+    where
+      go : (b : Bool) → editionIn E (cond b t (withBook (editionIn E t) t (w .1))) ≡ editionIn E t
+      go true = refl
+      go false = edition-left t (w .1)
+
+  -- a book laid out anew names its own edition
   pub edition-new : (ed : Edition) → Known ed → (t : List ℤ) (B : Book) → editionIn E (withNewBook ed t B) ≡ ed
   unfolding withNewBook
   edition-new ed k t B = edition-laid ed k _ _

@@ -1,9 +1,9 @@
 -- What a call does to a lent table, and what a query answers of it.
 use mathlib.Core.Bool.{cond}
-use mathlib.Core.List.{List, _∷_}
+use mathlib.Core.List.{List, _∷_, _++_}
 use Prim.Native.Nat.{ℕ}
 use lib.IntN.{ℤ, pos}
-use lib.ListN.{replicate}
+use lib.ListN.{length, drop, replicate}
 use Rattle.numbers.specs.Answers.{refused}
 use Rattle.daybook.specs.declared.Edition.{Edition}
 use Rattle.daybook.specs.Book.{Book}
@@ -34,5 +34,11 @@ ofEdition {A} refusal query ed t = let given : A = query (tableBook ed t) in con
 abbrev pub onTable : Editions → ℕ → (Edition → Book → Numbers × Book) → List ℤ → Numbers × List ℤ
 onTable E k step t = onEdition k (step (editionIn E t)) (editionIn E t) t
 
-abbrev pub ofTable : {A : Type 0} → Editions → A → (Book → A) → List ℤ → A
-ofTable E refusal query t = ofEdition refusal query (editionIn E t) t
+abbrev pub ofTable : {A : Type 0} → Editions → A → (Edition → Book → A) → List ℤ → A
+ofTable E refusal query t = ofEdition refusal (query (editionIn E t)) (editionIn E t) t
+
+-- ---- on an answer table that is lent beside it
+
+-- The answer table with these numbers in its first places; all others are as they were.
+unfoldable pub placed : List ℤ → List ℤ → List ℤ
+placed xs out = xs ++ drop (length xs) out

@@ -9,17 +9,17 @@ use native.Mathlib.Omega.{arith}
 use borrow.Author.Tests.{eqb-true, leb-true, not-true}
 use lib.Dec.{eqb, leb}
 use lib.IntN.{ℤ, negsuc}
-use lib.ListN.{length, take, drop, replicate, length-drop, length-replicate}
+use lib.ListN.{length, take, drop, replicate, length-drop}
 use Rattle.numbers.proofs.Bools.{both}
-use Rattle.buffers.specs.Buffers.{withNumbers}
+use Rattle.buffers.specs.Buffers.{numbersHeld, withNumbers}
 use Rattle.journal.specs.declared.CallWord.{CallWord}
 use Rattle.printing.specs.Rows.{rowBytes, rowOf, Printed}
+use Rattle.lending.specs.Lending.{bytesOf, answerBytes}
+use Rattle.lending.proofs.Bytes.{take-replicate, in-zeros, filled-in-zeros}
 use Rattle.forms.specs.declared.Form.{Form}
 use Rattle.forms.specs.Forms.{formOf, ownNumbers, sizeOf}
 use Rattle.calls.specs.Calls.{Left, called}
-use Rattle.lines.specs.Lines.{lineNumbers, mostRoom, numbersHeld, bytesOf, tableRoom, acted, callLine, lengths, size, mostBytes, bufferBytes, buffer, lendable, shown, showed, hubLine, Played}
-use Rattle.lines.specs.InnerLines.{answerBytes, tableBytes}
-use Rattle.lines.proofs.Bytes.{take-replicate}
+use Rattle.lines.specs.Lines.{lineNumbers, mostRoom, tableRoom, acted, callLine, lengths, size, mostBytes, bufferBytes, buffer, lendable, shown, showed, hubLine, Played}
 use Rattle.lines.proofs.Outcomes.{on-lent}
 use Rattle.lines.proofs.Rows.{rest}
 
@@ -52,14 +52,14 @@ module _ (call : CallWord) (xs : List ℤ) (f : Form) (t : Bool) (is : f ≡ for
       → t ≡ true → own ≡ ownNumbers f → own ≤ length xs → length xs ≤ lineNumbers
       → list ≡ withNumbers (take (length xs - own) (drop own xs)) (take (8 * length (take (length xs - own) (drop own xs))) (replicate (8 * lineNumbers) 0))
       → n ≡ tableRoom f room → n ≤ mostRoom
-      → table ≡ withNumbers (replicate n (negsuc 6)) (take (8 * n) (replicate tableBytes 0))
+      → table ≡ withNumbers (replicate n (negsuc 6)) (take (8 * n) (replicate (8 * mostRoom) 0))
       → gives ≡ 8 * f .gives → gives ≤ answerBytes → answer ≡ take (gives - 0) (replicate answerBytes 0)
       → Played (some (acted (called call xs list b answer table))) b out at b' out' r → Played (callLine call b room xs) b out at b' out' r
   unfolding callLine
   call-made b list answer table own room n gives z own-is fits few list-is n-is small table-is gives-is short answer-is p =
       let long : 8 * length (drop own xs) ≤ 8 * lineNumbers = omega (arith, length-drop own xs) in
-      let l : list ≡ bytesOf (drop (ownNumbers f) xs) = rw (rest xs own, take-replicate {A = ℕ} (8 * length (drop own xs)) (8 * lineNumbers) 0 long, own-is) at list-is in
-      let s : table ≡ bytesOf (replicate (tableRoom f room) (negsuc 6)) = rw (← n-is, length-replicate n (negsuc 6)) (rw (take-replicate {A = ℕ} (8 * n) tableBytes 0 (omega arith)) at table-is) in
+      let l : list ≡ bytesOf (drop (ownNumbers f) xs) = rw (rest xs own, in-zeros (drop own xs) (8 * lineNumbers) long, own-is) at list-is in
+      let s : table ≡ bytesOf (replicate (tableRoom f room) (negsuc 6)) = rw (← n-is) (table-is ∙ filled-in-zeros n (8 * mostRoom) (negsuc 6) (omega arith)) in
       let a : answer ≡ replicate (8 * f .gives) 0 = rw (sub-zero gives, take-replicate {A = ℕ} gives answerBytes 0 short, gives-is) at answer-is in
       rw (← is, ← test, z) (rw (l, s, a) at p)
 

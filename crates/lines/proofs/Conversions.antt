@@ -12,7 +12,7 @@ use mir.Syntax.{w64}
 use mir.Val.{toZ, ofZ, SFits}
 use lib.Dec.{eqb, leb}
 use lib.IntN.{ℤ, pos, negsuc}
-use lib.ListN.{length, take, replicate, length-replicate}
+use lib.ListN.{length, take, replicate}
 use Rattle.numbers.specs.Naturals.{natOf, sameZ}
 use Rattle.numbers.proofs.Bools.{both}
 use Rattle.daybook.specs.FromNumbers.{num}
@@ -20,8 +20,9 @@ use Rattle.daybook.specs.Editions.{editions}
 use Rattle.conversion.specs.Conversion.{convertCall}
 use Rattle.buffers.specs.Buffers.{withNumbers, tableIn, written}
 use Rattle.printing.specs.Rows.{rowBytes, rowOf, Printed}
-use Rattle.lines.specs.Lines.{bufferNumbers, bufferBytes, bytesOf, convertible, takenOver, convertLine, Played}
-use Rattle.lines.proofs.Bytes.{take-replicate}
+use Rattle.lending.specs.Lending.{bytesOf}
+use Rattle.lending.proofs.Bytes.{filled-in-zeros}
+use Rattle.lines.specs.Lines.{bufferNumbers, bufferBytes, convertible, takenOver, convertLine, Played}
 
 -- the result, tested by its bits
 pub same-zero : (z : ℤ) → SFits w64 z → ofZ w64 z ≡ 0 → sameZ z (pos 0) ≡ true
@@ -54,6 +55,6 @@ module _ (xs : List ℤ) (t : Bool) (test : t ≡ convertible xs) where
   converted b lent n second u answer result z n-is second-is made after h w =
       let fits : 8 * n ≤ bufferBytes = omega (arith, length-fits z) in
       let s : second ≡ bytesOf (replicate (natOf (num xs 0)) (negsuc 4)) =
-      rw (← n-is, length-replicate n (negsuc 4)) (rw (take-replicate {A = ℕ} (8 * n) bufferBytes 0 fits) at second-is) in
+      rw (← n-is) (second-is ∙ filled-in-zeros n bufferBytes (negsuc 4) fits) in
       let m = rw (sub-zero (8 * lent), s) at made in
       rw (← test, z, ← m) (record { room = h; left = after; text = w })

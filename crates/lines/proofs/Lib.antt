@@ -1,6 +1,5 @@
 -- Laws of the lines of a journal.
 pub mod Outcomes
-pub mod Bytes
 pub mod Calls
 pub mod Rows
 pub mod Conversions

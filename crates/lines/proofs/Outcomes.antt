@@ -10,7 +10,7 @@ use lib.ListN.{length, take, drop, take-append-drop}
 use types.Run.{OneOf, miss}
 use denote.Enum.Declared.{tagOf}
 use Rattle.journal.specs.declared.Command.{Command}
-use Rattle.journal.specs.declared.Command.the-variants.{Call, Look, Table, Poke, Lend, Room, Hub, Unknown, Image, Convert}
+use Rattle.journal.specs.declared.Command.the-variants.{Call, Look, Table, Poke, Lend, Room, Hub, Unknown, Image, Convert, Trial}
 use Rattle.journal.proofs.Command.{the-type}
 use Rattle.printing.specs.Rows.{rowBytes, rowOf, Printed}
 use Rattle.lines.specs.Lines.{LineResult, taking, onLent, lineOf, Played}
@@ -26,7 +26,7 @@ something n xs l e x h w = rw (eq-eqb (length xs) n l) (record { room = h; left 
 
 -- the numbers of the commands that are no such line
 abbrev others : List ℕ
-others = 4 ∷ 5 ∷ 6 ∷ 7 ∷ 8 ∷ []
+others = 4 ∷ 5 ∷ 6 ∷ 7 ∷ 8 ∷ 10 ∷ []
 
 pub no-line : (c : Command) (b : List ℕ) (lent room : ℕ) (xs : List ℤ) → OneOf others (tagOf the-type c) → lineOf c b lent room xs ≡ none
 no-line (Call call) b lent room xs k = absurd (miss others 0 tt k)
@@ -39,6 +39,7 @@ no-line Hub b lent room xs k = refl
 no-line Unknown b lent room xs k = refl
 no-line (Image w) b lent room xs k = refl
 no-line Convert b lent room xs k = absurd (miss others 9 tt k)
+no-line Trial b lent room xs k = refl
 
 -- an outcome on the first bytes of a buffer is one on the buffer
 pub on-lent : {out out' : List ℕ} {at r : ℕ} (b u : List ℕ) (n : ℕ) (o : LineResult) → Played o (take n b) out at u out' r → Played (onLent b n o) b out at (u ++ drop n b) out' r

@@ -1,3 +1,2 @@
 -- What the lines of a journal print and leave.
 pub mod Lines
-pub mod InnerLines

@@ -4,7 +4,7 @@ use mathlib.Core.Bool.{Bool, cond, _&&_}
 use mathlib.Core.List.{List, [], _∷_, _++_}
 use mathlib.Core.Option.{Option, none, some}
 use mathlib.Core.Path.{_≡_}
-use Prim.Native.Nat.{ℕ, _+_, _*_, _/_, _≤_}
+use Prim.Native.Nat.{ℕ, _+_, _*_, _≤_}
 use lib.Dec.{eqb, leb, ltb}
 use lib.IntN.{ℤ, pos, negsuc}
 use lib.ListN.{length, take, drop, replicate}
@@ -18,11 +18,12 @@ use Rattle.daybook.specs.Editions.{editions}
 use Rattle.layout.specs.Layout.{tableLength}
 use Rattle.table.specs.Lookup.{lookUp}
 use Rattle.conversion.specs.Conversion.{convertCall}
-use Rattle.buffers.specs.Buffers.{numbersIn, withNumbers, tableIn, written}
+use Rattle.buffers.specs.Buffers.{numbersHeld, withNumbers, tableIn, written}
 use Rattle.journal.specs.declared.CallWord.{CallWord}
 use Rattle.journal.specs.declared.Command.{Command}
 use Rattle.journal.specs.declared.Command.the-variants as Command·
 use Rattle.printing.specs.Rows.{rowBytes, rowOf, textOf, hexOf, Printed}
+use Rattle.lending.specs.Lending.{bytesOf}
 use Rattle.forms.specs.declared.Form.{Form}
 use Rattle.forms.specs.Forms.{formOf, ownNumbers, sizeOf}
 use Rattle.calls.specs.Calls.{Left, called}
@@ -45,13 +46,6 @@ mostRoom = 64
 -- The text that is printed, and the bytes after it.
 abbrev pub LineResult : Type 0
 LineResult = Option (List ℕ × List ℕ)
-
--- The numbers of bytes, and the bytes of numbers.
-abbrev pub numbersHeld : List ℕ → List ℤ
-numbersHeld b = numbersIn b (length b / 8)
-
-abbrev pub bytesOf : List ℤ → List ℕ
-bytesOf xs = withNumbers xs (replicate (8 * length xs) 0)
 
 -- ---- a call on the bytes that are lent
 
@@ -115,7 +109,7 @@ convertLine b lent xs =
     let w : ℤ × (List ℕ × List ℕ) = written call second (replicate 8 0) in
     cond (convertible xs) (some (rowOf (w .0 ∷ []), takenOver (w .0) (w .1 .0) b)) none
 
--- ---- any line but tlen, alen, those on bytes and those on images
+-- ---- any line but tlen, alen, trial, those on bytes and those on images
 
 -- The outcome on the first bytes of a buffer is one on the buffer: the others stay.
 abbrev pub onLent : List ℕ → ℕ → LineResult → LineResult
@@ -133,6 +127,7 @@ lineOf Command·.Hub b lent room xs = none
 lineOf Command·.Unknown b lent room xs = none
 lineOf (Command·.Image w) b lent room xs = none
 lineOf Command·.Convert b lent room xs = convertLine b lent xs
+lineOf Command·.Trial b lent room xs = none
 
 -- ---- a call on buffers whose lengths the line says
 

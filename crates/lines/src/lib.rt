@@ -1,14 +1,10 @@
 // The lines of a journal: each takes its numbers, works on the bytes of the register's buffer and writes its text at
 // place `at` of the output. It answers the place after the text, or `at` where the line is no call.
-ghost use mathlib.Core.List.{_++_};
 ghost use mathlib.Core.Path.{_≡_};
-ghost use Prim.Native.Nat.{_+_, _*_, _≤_};
-ghost use lib.IntN.{negsuc};
-ghost use lib.ListN.{length, take, replicate};
-ghost use Rattle.buffers.specs.Buffers.{withNumbers};
-ghost use Rattle.printing.specs.Rows.{rowBytes, rowOf, Printed};
-ghost use Rattle.lines.specs.Lines.{bufferNumbers, bufferBytes, lineNumbers, mostRoom, mostBytes, numbersHeld, tableRoom, callLine, lookLine, pokeLine, tableLine, convertible as Lines·convertible, takenOver, convertLine, lineOf, lengths as Lines·lengths, lendable as Lines·lendable, shown, hubLine, Played};
-ghost use Rattle.lines.specs.InnerLines.{answerBytes, tableBytes};
+ghost use Prim.Native.Nat.{_+_, _≤_};
+ghost use lib.ListN.{length};
+ghost use Rattle.printing.specs.Rows.{rowBytes, Printed};
+ghost use Rattle.lines.specs.Lines.{bufferNumbers, bufferBytes, lineNumbers, mostRoom, mostBytes, tableRoom, callLine, lookLine, pokeLine, tableLine, convertible as Lines·convertible, takenOver, convertLine, lineOf, lengths as Lines·lengths, lendable as Lines·lendable, shown, hubLine, Played};
 use forms::Form;
 use journal::CallWord;
 use journal::Command;
@@ -34,31 +30,6 @@ const TABLE_BYTES: usize = 512;
 // The bytes of an answer or of an answer table at most, where a line says how many.
 const MOST_BYTES: usize = 300;
 
-// Numbers as bytes, the first of b.
-fn bytes_of<'a, 'b>(xs: &'a [i64], b: &'b mut [u8]) -> &'b mut [u8]
-    requires { ⌜ 8 * length (now xs) ≤ length (now b) ⌝ }
-    ensures { λ r. ⌜ (now r ≡ withNumbers (now (xs .entry)) (take (8 * length (now (xs .entry))) (now (b .entry)))) × (length (now r) ≡ 8 * length (now (xs .entry))) ⌝ }
-{
-    let n = 8 * xs.len();
-    let r = &mut b[..n];
-    words::encode(xs, 0, r, 0, xs.len());
-    r
-}
-
-// The row of an answer and an answer table, 18 and 64 numbers at most.
-fn print_row(out: &mut [u8], at: usize, answer: &[u8], table: &[u8]) -> usize
-    requires { ⌜ (length (now answer) ≤ answerBytes) × (length (now table) ≤ tableBytes) × (at + rowBytes ≤ length (now out)) ⌝ }
-    ensures { λ r. ⌜ (r ≤ at + rowBytes) × Printed (now (out .entry)) at (rowOf (numbersHeld (now (answer .entry)) ++ numbersHeld (now (table .entry)))) (now (out .exit)) r ⌝ }
-{
-    let n = answer.len() / 8;
-    let m = table.len() / 8;
-    let end = n + m;
-    let mut numbers = [0i64; 82];
-    words::decode(answer, 0, &mut numbers, 0, n);
-    words::decode(table, 0, &mut numbers, n, m);
-    printing::signed_row(out, at, &numbers[0..end])
-}
-
 // The numbers of a call's answer table.
 fn table_room(f: Form, room: usize) -> usize
     ensures { λ r. ⌜ (r ≡ tableRoom f room) × (r ≤ room) ⌝ }
@@ -67,15 +38,6 @@ fn table_room(f: Form, room: usize) -> usize
         return room;
     }
     0
-}
-
-// The first bytes of b as n numbers -7.
-fn sevens<'b>(n: usize, b: &'b mut [u8]) -> &'b mut [u8]
-    requires { ⌜ (n ≤ mostRoom) × (8 * n ≤ length (now b)) ⌝ }
-    ensures { λ r. ⌜ (now r ≡ withNumbers (replicate n (negsuc 6)) (take (8 * n) (now (b .entry)))) × (length (now r) ≡ 8 * n) ⌝ }
-{
-    let sevens = [-7i64; MOST_ROOM];
-    bytes_of(&sevens[0..n], b)
 }
 
 // A call on the bytes that are lent, with an answer table of `room` numbers.
@@ -100,11 +62,11 @@ fn call(
     let mut list = [0u8; LIST_BYTES];
     let mut answer = [0u8; ANSWER_BYTES];
     let mut table = [0u8; TABLE_BYTES];
-    let days = bytes_of(&nums[own..], &mut list);
-    let given = sevens(shares, &mut table);
+    let days = lending::bytes_of(&nums[own..], &mut list);
+    let given = lending::filled(shares, -7, &mut table);
     let numbers = &mut answer[0..gives];
     calls::invoke(call, nums, days, register, numbers, given);
-    print_row(out, at, numbers, given)
+    lending::print_row(out, at, numbers, given)
 }
 
 // The part of a point that the look-up hands back: its length and its sums.
@@ -163,15 +125,6 @@ fn convertible(nums: &[i64]) -> bool
     (nums.len() == 1) & short
 }
 
-// The first bytes of b as n numbers -5.
-fn fives<'b>(n: usize, b: &'b mut [u8]) -> &'b mut [u8]
-    requires { ⌜ (n ≤ bufferNumbers) × (8 * n ≤ length (now b)) ⌝ }
-    ensures { λ r. ⌜ (now r ≡ withNumbers (replicate n (negsuc 4)) (take (8 * n) (now (b .entry)))) × (length (now r) ≡ 8 * n) ⌝ }
-{
-    let fives = [-5i64; BUFFER_NUMBERS];
-    bytes_of(&fives[0..n], b)
-}
-
 // Where a conversion is accepted, writes the second table's numbers over the register's.
 fn go_on(register: &mut [u8], second: &[u8], result: i64)
     requires { ⌜ length (now second) ≤ length (now register) ⌝ }
@@ -196,14 +149,14 @@ fn convert(register: &mut [u8], lent: usize, nums: &[i64], out: &mut [u8], at: u
     }
     let n = 8 * lent;
     let mut bytes = [0u8; BUFFER_BYTES];
-    let second = fives(forms::natural(nums, 0) as usize, &mut bytes);
+    let second = lending::filled(forms::natural(nums, 0) as usize, -5, &mut bytes);
     let mut answer = [0u8; 8];
     let result = hub::petlumas_convert(&register[0..n], &mut answer, second);
     go_on(register, second, result);
     printing::signed_row(out, at, &[result])
 }
 
-// Any line but tlen, alen, those on bytes and those on images. Table, poke and convert reach the whole buffer.
+// Any line but tlen, alen, trial, those on bytes and those on images. Table, poke and convert reach the whole buffer.
 pub fn answer(
     command: Command,
     register: &mut [u8],

@@ -14,7 +14,7 @@ use Rattle.numbers.proofs.Bools.{neither}
 use Rattle.daybook.specs.declared.Edition.{Edition}
 use Rattle.daybook.specs.Book.{Point, Book, records}
 use Rattle.daybook.specs.Notices.{operatorsIn, unfilled, overFour}
-use Rattle.daybook.specs.Editions.{mostRecords, noRoom}
+use Rattle.daybook.specs.Editions.{largest, mostRecords, noRoom}
 use Rattle.lists.specs.Lists.{Lists, Register, userOn, offOn, entryOn, operatorOf, withOperator, pointOf, bookOf, withFacts}
 use Rattle.lists.specs.InnerSteps.{findLists}
 use Rattle.lists.specs.InnerWell.{FactsOk, Well, Points, nopoint, point, WellFormed}
@@ -38,7 +38,7 @@ with-room w h =
     }
 
 few-records : {room : ℕ} (room′ : ℕ) {qs : List Lists} → Points room qs → mostRecords (map pointOf qs) ≤ room′ → Points room′ qs
-unfolding mostRecords
+unfolding mostRecords largest
 few-records room′ nopoint h = nopoint
 few-records room′ (point {q = q} {qs = qs} w n r) h =
     let own : length (records (pointOf q)) ≡ length (q .recs) = ap length (records-is w) in

@@ -14,7 +14,7 @@ abbrev pub lineBytes : ℕ
 lineBytes = 8192
 
 abbrev pub outBytes : ℕ
-outBytes = 16384
+outBytes = 32768
 
 -- The output has room for one more row.
 pub record Ready (s : Standing) : Type 0 where

@@ -11,7 +11,7 @@ use journal::Taken;
 // The buffers of a line and of the output.
 const LINE_BYTES: usize = 8192;
 
-const OUT_BYTES: usize = 16384;
+const OUT_BYTES: usize = 32768;
 
 // Where a player stands: the numbers of the buffer that calls are lent, those of the answer table, the lines that have
 // ended, the bytes of the present line (one more than LINE_BYTES if it is longer), the bytes of output that wait, and
@@ -86,6 +86,10 @@ fn obey(
         Command::Room => set_room(nums, out, s),
         Command::Image(w) => {
             r.at = imagelines::answer(w, register, lent, images, nums, out, at);
+            r
+        }
+        Command::Trial => {
+            r.at = triallines::answer(register, lent, nums, out, at);
             r
         }
         _ => {

@@ -10,7 +10,7 @@ use Rattle.io.specs.Digits.{glyph}
 
 -- The room that is kept for a row.
 abbrev pub rowBytes : ℕ
-rowBytes = 2048
+rowBytes = 12288
 
 -- n in base ten, if f digits hold it.
 unfoldable pub decimalWithin : ℕ → ℕ → List ℕ

@@ -10,7 +10,7 @@ ghost use Rattle.io.specs.Digits.{glyph};
 ghost use Rattle.printing.specs.Rows.{decimalOf, textOf, rowOf, unknownOf, hexDigits, hexOf, Printed};
 
 // The room that a caller keeps for a row.
-pub const ROW_BYTES: usize = 2048;
+pub const ROW_BYTES: usize = 12288;
 
 fn copy(text: &[u8], out: &mut [u8], at: usize)
     requires { ⌜ at + length (now text) ≤ length (now out) ⌝ }

@@ -89,7 +89,7 @@ module _ (ed : Edition) (t : List ℤ) (m : ℤ) (early : ℕ) where
 
 -- ---- what a caller is told: its MIRN is read as the machine holds it
 
-copied : (ed : Edition) (t : List ℤ) (m : ℤ) (early : ℕ) → SFits w64 m → located ed t (toZ w64 (ofZ w64 m)) early ≡ located ed t m early
+pub copied : (ed : Edition) (t : List ℤ) (m : ℤ) (early : ℕ) → SFits w64 m → located ed t (toZ w64 (ofZ w64 m)) early ≡ located ed t m early
 copied ed t m early f = ap (λ m. located ed t m early) (toZ-ofZ f)
 
 module _ {ed : Edition} {t : List ℤ} {m : ℤ} {early : ℕ} {r : Located} (f : SFits w64 m) (e : r ≡ located ed t (toZ w64 (ofZ w64 m)) early) where

@@ -1,13 +1,15 @@
-// The whole register table, of any edition that fits: is it sound, where does a point stand, and what are its numbers?
+// The whole register table, of any edition that fits: is it sound, where does a point stand, what are its numbers, and how
+// many records has the fullest one?
 use daybook::Edition;
 ghost use mathlib.Core.Path.{_≡_};
-ghost use Prim.Native.Nat.{_<_, _≤_};
+ghost use mathlib.Core.Bool.{true};
+ghost use Prim.Native.Nat.{_<_, _≤_, max};
 ghost use lib.ListN.{length, drop};
 ghost use Rattle.numbers.specs.Rows.{all};
 ghost use Rattle.numbers.specs.Search.{maybe};
-ghost use Rattle.daybook.specs.Editions.{editions, editionNo};
+ghost use Rattle.daybook.specs.Editions.{editions, editionNo, mostRecords};
 ghost use Rattle.layout.specs.Places.{pointsPlace, headerLength};
-ghost use Rattle.layout.specs.Layout.{tableLength, stride as strideOf, placeOf, Fits, editionOf, partOf, numAt, pointsFrom};
+ghost use Rattle.layout.specs.Layout.{tableLength, stride as strideOf, placeOf, Fits, editionOf, partOf, numAt, pointsFrom, tableBook};
 ghost use Rattle.layout.specs.Sound.{partSound, mirnsDiffer, sound as tableSound};
 ghost use Rattle.layout.specs.InnerMirns.{laterDiffer};
 ghost use Rattle.table.specs.InnerTable.{bodySound, located};
@@ -174,14 +176,12 @@ pub fn index_of(t: &[i64], ed: Edition, m: u64) -> usize
     ed.points
 }
 
-// The point of a MIRN, for a call whose own numbers are sent back by row `early`, 0 if by none: row 1, that row, row 4.
-pub fn locate(t: &[i64], ed: Edition, mirn: i64, early: u64) -> Located
-    requires { ⌜ Fits ed ⌝ }
+// The point of a MIRN in a table that is known to be sound, for a call whose own numbers are sent back by row `early`, 0
+// if by none: that row, row 4.
+pub fn locate_in_sound(t: &[i64], ed: Edition, mirn: i64, early: u64) -> Located
+    requires { ⌜ Fits ed × (tableSound ed (now t) ≡ true) ⌝ }
     ensures { λ r. ⌜ r ≡ located ed (now (t .entry)) mirn early ⌝ }
 {
-    if !sound(t, ed) {
-        return Located::Refused(1);
-    }
     if early != 0 {
         return Located::Refused(early);
     }
@@ -195,6 +195,17 @@ pub fn locate(t: &[i64], ed: Edition, mirn: i64, early: u64) -> Located
     }
 }
 
+// The same in any table: row 1 comes first.
+pub fn locate(t: &[i64], ed: Edition, mirn: i64, early: u64) -> Located
+    requires { ⌜ Fits ed ⌝ }
+    ensures { λ r. ⌜ r ≡ located ed (now (t .entry)) mirn early ⌝ }
+{
+    if !sound(t, ed) {
+        return Located::Refused(1);
+    }
+    locate_in_sound(t, ed, mirn, early)
+}
+
 // The point of a MIRN: its part of the lent table itself, an empty part if the table is short or unsound or has no
 // such point.
 pub fn look_up(t: &[i64], m: i64) -> &[i64]
@@ -205,4 +216,29 @@ pub fn look_up(t: &[i64], m: i64) -> &[i64]
         return &t[0..0];
     };
     &t[from..to]
+}
+
+// The larger of two numbers.
+pub fn larger(a: usize, b: usize) -> usize
+    ensures { λ r. ⌜ r ≡ max a b ⌝ }
+{
+    if a < b {
+        return b;
+    }
+    a
+}
+
+// The largest number of records that a point has, 0 with no point.
+pub fn most_records(t: &[i64], ed: Edition) -> usize
+    requires { ⌜ Fits ed × (tableSound ed (now t) ≡ true) ⌝ }
+    ensures { λ r. ⌜ r ≡ mostRecords (tableBook ed (now (t .entry)) .points) ⌝ }
+{
+    let n = places::points(t);
+    let mut most: usize = 0;
+    let mut i: usize = 0;
+    while i < n {
+        most = larger(most, places::records(part(t, ed, i)));
+        i += 1;
+    }
+    most
 }

@@ -13,7 +13,7 @@ use Rattle.daybook.specs.Notices.{users}
 use Rattle.daybook.specs.Queries.{atLeast0, tdmOf, nslOf, split}
 use Rattle.layout.specs.Layout.{tableBook}
 use Rattle.table.proofs.Laws.{sound-long}
-use Rattle.allocate.specs.Allocate.{placed}
+use Rattle.layout.specs.Calls.{placed}
 use Rattle.allocate.specs.InnerParts.{pointsOf, padded, SharesBelow, totalTo, loadOf, givenOf}
 use Rattle.allocate.proofs.Apportioned.{in-range-tells, in-range, load-is, fros-32, weigh-32, split-32, placed-long, shares-are, shares-small, totals-are}
 use Rattle.allocate.proofs.apportion.Statement.{statement}

@@ -8,7 +8,7 @@ use lib.IntN.{pos}
 use borrow.Author.Needs.{needs}
 use Rattle.daybook.specs.Queries.{total, split}
 use Rattle.lists.proofs.Splits.{split-length}
-use Rattle.allocate.specs.Allocate.{placed}
+use Rattle.layout.specs.Calls.{placed}
 use Rattle.allocate.proofs.Splits.{sum-step, sum-none, next-small, part-small, part-up, product-small, nothing-yet, split-step}
 use Rattle.allocate.proofs.split_to.Statement.{statement}
 use Rattle.allocate.proofs.split_to.Tie as tie

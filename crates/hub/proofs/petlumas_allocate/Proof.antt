@@ -7,7 +7,8 @@ use mir.Facts.{toZ-ofZ}
 use borrow.Author.Needs.{needs}
 use Rattle.daybook.specs.Notices.{Numbers}
 use Rattle.daybook.specs.Editions.{editions}
-use Rattle.allocate.specs.Allocate.{allocateCall, placed}
+use Rattle.layout.specs.Calls.{placed}
+use Rattle.allocate.specs.Allocate.{allocateCall}
 use Rattle.words.specs.Words.{bitsOf}
 use Rattle.buffers.specs.Buffers.{tableIn}
 use Rattle.buffers.proofs.Ends.{first-small, ended}
@@ -37,10 +38,10 @@ given s =
 -- the answer's numbers and the shares, with each number of the query read back from its bits
 gave : (c : tie.After-allocation-numbers)
     → (c .allocation-numbers .result ≡ bitsOf (given (start c) .0))
-    × (c .before .before .before .allocate .last .1 .1 .0 ≡ placed (given (start c) .1) (after-table c .before .shares-in .result .now))
+    × (c .before .before .before .allocate .last .1 .1 .0 ≡ placed (given (start c) .1) (after-table c .before .room-in .result .now))
 gave c =
     let f = start c .fits in
-    let e = rw (toZ-ofZ (f .gasday), toZ-ofZ (f .from), toZ-ofZ (f .to), toZ-ofZ (f .tdq), toZ-ofZ (f .uag), toZ-ofZ (f .clp), after-table c .before .before .before .before .table-in .ensures .0, after-table c .before .shares-in .ensures .0, call-cut) at (c .before .before .before .allocate .ensures) in
+    let e = rw (toZ-ofZ (f .gasday), toZ-ofZ (f .from), toZ-ofZ (f .to), toZ-ofZ (f .tdq), toZ-ofZ (f .uag), toZ-ofZ (f .clp), after-table c .before .before .before .before .table-in .ensures .0, after-table c .before .room-in .ensures .0, call-cut) at (c .before .before .before .allocate .ensures) in
     (c .allocation-numbers .ensures ∙ ap bitsOf (e .0), e .1)
 
 finish-requires : tie.Need-finish-requires
@@ -55,8 +56,8 @@ returns c =
     let a = start e .args in
     let w = given (start e) in
     ended (e .allocation-numbers .result) (w .0) (gave e .0) (allocate-small _ _ _) _ _ (gave e .1) _ (search needs) _ _ _ _ (f .finish .ensures)
-    ∙ written-where (w .0) (placed (w .1) (after-table e .before .shares-in .result .now)) (w .1) (a .shares .now) (a .answer .now)
-    (placed-all (tableIn (a .register .now)) _ (length (a .shares .now) / 8) (after-table e .before .shares-in .result .now) (after-table e .before .shares-in .ensures .0))
+    ∙ written-where (w .0) (placed (w .1) (after-table e .before .room-in .result .now)) (w .1) (a .shares .now) (a .answer .now)
+    (placed-all (tableIn (a .register .now)) _ (length (a .shares .now) / 8) (after-table e .before .room-in .result .now) (after-table e .before .room-in .ensures .0))
 
 pub petlumas-allocate-spec : {M : Type 1} → statement M
 petlumas-allocate-spec =

@@ -7,7 +7,7 @@ use Rattle.daybook.specs.Notices.{Numbers}
 use Rattle.daybook.specs.Editions.{editions}
 use Rattle.transfer.specs.Transfer.{requestCall}
 use Rattle.words.specs.Words.{bitsOf}
-use Rattle.buffers.specs.Buffers.{tableIn, holidaysIn}
+use Rattle.buffers.specs.Buffers.{tableIn, numbersHeld}
 use Rattle.buffers.proofs.Ends.{first-small, ended}
 use Rattle.hub.proofs.Refusals.{request-small}
 use Rattle.hub.proofs.Holidays.{first-513}
@@ -27,7 +27,7 @@ abbrev given : tie.Start → Numbers × List ℤ
 given s =
     let a = s .args in
     requestCall editions (tableIn (a .register .now))
-    (record { mirn = a .mirn; user = a .user; proposed = a .proposed; nochange = a .nochange }) (holidaysIn (a .holidays .now))
+    (record { mirn = a .mirn; user = a .user; proposed = a .proposed; nochange = a .nochange }) (numbersHeld (a .holidays .now))
 
 -- the answer's numbers and the table, with each number of the notice read back from its bits
 gave : (c : tie.After-request-numbers)
@@ -36,7 +36,7 @@ gave c =
     let f = start c .fits in
     let r = c .before .before .before in
     let h = r .before .before .before in
-    let e = rw (toZ-ofZ (f .mirn), toZ-ofZ (f .user), toZ-ofZ (f .proposed), toZ-ofZ (f .nochange), h .before .before .table-in .ensures .0, h .holidays-in .ensures, first-513) at (r .request .ensures) in
+    let e = rw (toZ-ofZ (f .mirn), toZ-ofZ (f .user), toZ-ofZ (f .proposed), toZ-ofZ (f .nochange), h .before .before .table-in .ensures .0, h .list-in .ensures, first-513) at (r .request .ensures) in
     (c .request-numbers .ensures ∙ ap bitsOf (e .0), e .1)
 
 finish-requires : tie.Need-finish-requires

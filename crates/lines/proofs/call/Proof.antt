@@ -29,7 +29,7 @@ print-row-requires c κs =
     let kept = made .invoke .kept in
     let shares = made .before .before .before .before .before .before in
     let short = shares .before .before .before .before .before .before .before .before .before .before .form-of .ensures .short in
-    let few = shares .sevens .ensures .1 in
+    let few = shares .filled .ensures .1 in
     let pre = shares .before .before .before .before .before .before .before .before .before .before .before .before .before .pre in
     search needs
 
@@ -45,7 +45,7 @@ returns-2 c =
     let s = counted .before .before .before .before in
     let a = s .args in
     let row = after .print-row .ensures in
-    call-made (a .call) (a .nums .now) (counted .before .form-of .result) (counted .counted .result) (counted .before .form-of .ensures .is) (counted .counted .ensures) (a .register .now) _ _ _ (own .own-numbers .result) (a .room) (place .table-room .result) _ (not-false _ (own .before .if1 .left)) (own .own-numbers .ensures .0) (fits place) (s .pre .1) (days .bytes-of .ensures .0) (place .table-room .ensures .0) (omega (arith, place .table-room .ensures .1, s .pre .0)) (shares .sevens .ensures .0) refl (omega (arith, counted .before .form-of .ensures .short)) refl (acted-is (made .invoke .ensures) (row .0) (row .1))
+    call-made (a .call) (a .nums .now) (counted .before .form-of .result) (counted .counted .result) (counted .before .form-of .ensures .is) (counted .counted .ensures) (a .register .now) _ _ _ (own .own-numbers .result) (a .room) (place .table-room .result) _ (not-false _ (own .before .if1 .left)) (own .own-numbers .ensures .0) (fits place) (s .pre .1) (days .bytes-of .ensures .0) (place .table-room .ensures .0) (omega (arith, place .table-room .ensures .1, s .pre .0)) (shares .filled .ensures .0) refl (omega (arith, counted .before .form-of .ensures .short)) refl (acted-is (made .invoke .ensures) (row .0) (row .1))
 
 pub call-spec : {M : Type 1} → statement M
 call-spec =

@@ -21,7 +21,7 @@ fits c =
 abbrev made : tie.After-go-on → tie.After-petlumas-convert
 made c = c .before .before .before .before .before .before
 
-abbrev second : tie.After-petlumas-convert → tie.After-fives
+abbrev second : tie.After-petlumas-convert → tie.After-filled
 second c = c .before .before .before .before .before
 
 returns : tie.Need-returns
@@ -30,14 +30,14 @@ returns c =
     let a = test .before .before .before .args in
     nothing _ _ _ (not-converted (a .nums .now) (test .convertible .result) (test .convertible .ensures) (a .register .now) (a .lent) (c .if1 .taken))
 
-fives-requires : tie.Need-fives-requires
-fives-requires c κs = let h = fits (c .before) in search needs
+filled-requires : tie.Need-filled-requires
+filled-requires c κs = let h = fits (c .before) in search needs
 
 go-on-requires : tie.Need-go-on-requires
 go-on-requires c κs =
     let call = c .before .before .before .before .before in
     let kept = call .petlumas-convert .kept in
-    let long = second call .fives .ensures .1 in
+    let long = second call .filled .ensures .1 in
     let natural = second call .before .before in
     let h = fits natural in
     let pre = natural .before .before .before .before .before .pre in
@@ -55,7 +55,7 @@ returns-2 c =
     let back = toZ-ofZ {w = w64} {z = call .petlumas-convert .result} (search needs) in
     let text = rw back at (after .signed-row .ensures .1) in
     let left = rw back at (gone .go-on .ensures) in
-    converted (a .nums .now) (test .convertible .result) (test .convertible .ensures) (a .register .now) (a .lent) (natural .natural .result) (second call .fives .result .now) _ _ (call .petlumas-convert .result) (not-false _ (else1 .if1 .left)) (natural .natural .ensures .0) (second call .fives .ensures .0) (call .petlumas-convert .ensures) left (omega (arith, after .signed-row .ensures .0)) text
+    converted (a .nums .now) (test .convertible .result) (test .convertible .ensures) (a .register .now) (a .lent) (natural .natural .result) (second call .filled .result .now) _ _ (call .petlumas-convert .result) (not-false _ (else1 .if1 .left)) (natural .natural .ensures .0) (second call .filled .ensures .0) (call .petlumas-convert .ensures) left (omega (arith, after .signed-row .ensures .0)) text
 
 pub convert-spec : {M : Type 1} → statement M
 convert-spec =
@@ -64,7 +64,7 @@ convert-spec =
     (λ c κs. search needs)
     returns
     (λ c. search needs) (λ c κs. search needs) (λ c. search needs)
-    fives-requires
+    filled-requires
     (λ c. search needs) (λ c. search needs) (λ c. search needs) (λ c. search needs) (λ c κs. search needs)
     go-on-requires
     (λ c. search needs) (λ c κs. search needs) (λ c. search needs) (λ c. search needs)

@@ -1,0 +1,2 @@
+-- Laws of the buffers that a line lends.
+pub mod Bytes

@@ -1,0 +1,2 @@
+-- The buffers that a line lends.
+pub mod Lending

@@ -1,0 +1,2 @@
+-- Laws of the line on a trial.
+pub mod Outcomes

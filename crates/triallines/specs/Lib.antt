@@ -1,0 +1,2 @@
+-- What the line `trial` of a journal prints.
+pub mod TrialLines
