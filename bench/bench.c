@@ -11,7 +11,7 @@
 #include <time.h>
 
 /* Many short batches: the least time is then one that no other program disturbed. */
-enum { ROUNDS = 200, BATCH = 20, DAYS_BATCH = 2 };
+enum { ROUNDS = 200, BATCH = 20, FEW = 2 };
 
 /* ---- registers to time on */
 
@@ -62,6 +62,19 @@ static void fill_point(uint8_t *reg, int64_t mirn, const struct filling *filling
     }
 }
 
+/* Each notice of the batch replaces the last record of a full point, the points in turn; where
+   there are no points it gets 4. */
+static void make_batch(struct both *both, const struct edition *edition) {
+    for (size_t k = 0; k < NOTICES; k++) {
+        size_t point = k % (size_t)edition->points;
+        const int64_t *last = both->table + point_place(edition, point + 1) - RECORD_NUMBERS;
+        const int64_t notice[NOTICE_NUMBERS] = {(int64_t)point + 1, last[0], last[1], 77, 0, 1};
+        for (size_t i = 0; i < NOTICE_NUMBERS; i++)
+            put_number(both->notice_bytes, NOTICE_NUMBERS * k + i, notice[i]);
+    }
+    decode(both->notice_bytes, both->notices, NOTICE_NUMBERS * NOTICES);
+}
+
 static const int64_t saved_state[ARGS_MOST] = {1};
 
 /* The same table and images for both sides. Every eighth point is daily, the others have records
@@ -72,7 +85,8 @@ static void make_register(struct both *both, const struct filling *filling) {
                "start");
     for (int64_t mirn = 1; mirn <= filling->points; mirn++)
         fill_point(both->bytes, mirn, filling);
-    decode(both->bytes, both->table);
+    decode(both->bytes, both->table, REGISTER_NUMBERS);
+    make_batch(both, &editions[filling->edition]);
     must_enter(library_save(both->bytes, answer, both->library_image, saved_state), "image");
     must_enter(c_save(both->table, both->c_image, saved_state), "image in C");
 }
@@ -89,6 +103,31 @@ static void time_library_energy(struct both *both, const int64_t *args) {
 
 static void time_c_energy(struct both *both, const int64_t *args) {
     c_energy(both->table, args);
+}
+
+static void time_library_trial(struct both *both, const int64_t *args) {
+    uint8_t answer[PETLUMAS_TRIAL_ANSWER_BYTES];
+    library_trial(both->bytes, answer, both->notice_bytes, both->answer_bytes, args);
+}
+
+static void time_c_trial(struct both *both, const int64_t *args) {
+    c_trial(both->table, both->notices, both->answers, args);
+}
+
+/* What the trial tells, entered into a copy. */
+static void time_library_entered(struct both *both, const int64_t *args) {
+    uint8_t answer[PETLUMAS_ENERGY_ANSWER_BYTES];
+    memcpy(both->other_bytes, both->bytes, BYTES);
+    for (int64_t k = 0; k < args[0]; k++)
+        library_energy(both->other_bytes, answer, both->notices + NOTICE_NUMBERS * k);
+}
+
+/* As many calls that get 2. */
+static void time_library_refused(struct both *both, const int64_t *args) {
+    const int64_t no_notice[NOTICE_NUMBERS] = {0};
+    uint8_t answer[PETLUMAS_ENERGY_ANSWER_BYTES];
+    for (int64_t k = 0; k < args[0]; k++)
+        library_energy(both->other_bytes, answer, no_notice);
 }
 
 static void time_library_account(struct both *both, const int64_t *args) {
@@ -187,6 +226,8 @@ static void print_head(const char *what) {
     printf("\n%-52s %9s %9s %7s\n", what, "library", "plain C", "ratio");
 }
 
+static const int64_t all_notices[ARGS_MOST] = {NOTICES};
+
 static void time_against_c(struct both *both) {
     const struct edition *edition = &editions[both->table[EDITION]];
     const int64_t account[ARGS_MOST] = {1, 0, 39999};
@@ -196,6 +237,8 @@ static void time_against_c(struct both *both) {
         both->table + point_place(edition, (size_t)edition->points - 1) - RECORD_NUMBERS;
     const int64_t notice[ARGS_MOST] = {edition->points - 1, record[0], record[1], 77, 0, 1};
     print_row("energy", time_pair(time_library_energy, notice, time_c_energy, notice, both, BATCH));
+    print_row("trial of 100 notices",
+              time_pair(time_library_trial, all_notices, time_c_trial, all_notices, both, BATCH));
     print_row("account over days 0 to 39,999",
               time_pair(time_library_account, account, time_c_account, account, both, BATCH));
     print_row("allocate over 400 days",
@@ -206,13 +249,29 @@ static void time_against_c(struct both *both) {
                                    both, BATCH));
 }
 
+/* A call that gets 2 ends after its soundness test, so it shows what the rest of a call takes. A
+   trial is to take no longer than three calls and the rests of a hundred. */
+static void time_trial(struct both *both) {
+    struct pair trial =
+        time_pair(time_library_trial, all_notices, time_library_entered, all_notices, both, FEW);
+    struct pair calls =
+        time_pair(time_library_entered, all_notices, time_library_refused, all_notices, both, FEW);
+    double bound = 3 * calls.first / NOTICES + calls.first - calls.second;
+    printf("  library's trial of 100 notices %.2f, 100 energy calls of these %.2f, %.0f times\n",
+           trial.first, trial.second, trial.second / trial.first);
+    printf("  library's energy of these %.2f a call, refused with 2 %.2f\n", calls.first / NOTICES,
+           calls.second / NOTICES);
+    printf("  library's trial %.2f, three of these calls and the rests of all %.2f, ratio %.2f\n",
+           trial.first, bound, trial.first / bound);
+}
+
 static void time_days(struct both *both) {
     const int64_t all_days[ARGS_MOST] = {1, 0, 39999};
     const int64_t one_day[ARGS_MOST] = {1, 20000, 20000};
     const int64_t window[ARGS_MOST] = {1, 19600, 19999};
     const int64_t allocate[ARGS_MOST] = {20000, 19600, 19999, 1000000000, 0, 0};
-    struct pair walk = time_pair(time_library_account, all_days, time_c_account_by_days, all_days,
-                                 both, DAYS_BATCH);
+    struct pair walk =
+        time_pair(time_library_account, all_days, time_c_account_by_days, all_days, both, FEW);
     struct pair span =
         time_pair(time_library_account, all_days, time_library_account, one_day, both, BATCH);
     struct pair three =
@@ -236,6 +295,7 @@ static void time_edition(struct both *both, const char *name, int64_t edition) {
                  room->points, room->records, filling.spans ? ", 8 spans" : "");
         print_head(what);
         time_against_c(both);
+        time_trial(both);
         time_days(both);
     }
     make_register(both, &(struct filling){edition, 0, 0, false});

@@ -11,7 +11,7 @@
 /* All calls, and those given of each. */
 struct counts {
     uint64_t calls;
-    uint64_t energies, corrections, accounts, allocations, saves, restores, conversions;
+    uint64_t energies, trials, corrections, accounts, allocations, saves, restores, conversions;
 };
 
 struct compared {
@@ -31,15 +31,15 @@ static void expect(bool holds, const char *what, const int64_t *args) {
     exit(1);
 }
 
-static bool same_numbers(const uint8_t *bytes, const int64_t *table) {
-    for (size_t k = 0; k < REGISTER_NUMBERS; k++)
-        if (get_number(bytes, k) != table[k])
+static bool same_numbers(const uint8_t *bytes, const int64_t *numbers, size_t count) {
+    for (size_t k = 0; k < count; k++)
+        if (get_number(bytes, k) != numbers[k])
             return false;
     return true;
 }
 
 static bool same_table(const struct both *both) {
-    return same_numbers(both->bytes, both->table);
+    return same_numbers(both->bytes, both->table, REGISTER_NUMBERS);
 }
 
 static void compare_energy(struct compared *c, const int64_t *a) {
@@ -53,6 +53,32 @@ static void compare_energy(struct compared *c, const int64_t *a) {
     expect(same_table(&c->both), "energy, table", a);
     c->counts->calls++;
     c->counts->energies += result == 0;
+}
+
+/* Any notices past the count and any bytes for answers. */
+static void make_batch(struct chance *c, struct both *both, int64_t count) {
+    memset(both->notice_bytes, (int)below(c, 256), sizeof both->notice_bytes);
+    if (0 <= count && count <= NOTICES)
+        choose_batch(c, both->notice_bytes, (size_t)count);
+    decode(both->notice_bytes, both->notices, NOTICE_NUMBERS * NOTICES);
+    memset(both->answer_bytes, (int)below(c, 256), sizeof both->answer_bytes);
+    decode(both->answer_bytes, both->answers, ANSWER_NUMBERS * NOTICES);
+}
+
+static void compare_trial(struct compared *c, const int64_t *a) {
+    struct both *both = &c->both;
+    uint8_t answer[PETLUMAS_TRIAL_ANSWER_BYTES];
+    make_batch(&c->chance, both, a[0]);
+    int64_t result = library_trial(both->bytes, answer, both->notice_bytes, both->answer_bytes, a);
+    struct plain_trial plain = c_trial(both->table, both->notices, both->answers, a);
+    expect(result == plain.refusal && get_number(answer, 0) == plain.refusal &&
+               get_number(answer, 1) == plain.most && get_number(answer, 2) == plain.removed,
+           "trial", a);
+    expect(same_numbers(both->answer_bytes, both->answers, ANSWER_NUMBERS * NOTICES),
+           "trial, answers", a);
+    expect(same_table(both), "trial, table", a);
+    c->counts->calls++;
+    c->counts->trials += result == 0;
 }
 
 static void compare_correct(struct compared *c, const int64_t *a) {
@@ -119,7 +145,7 @@ static void compare_restore(struct compared *c, const int64_t *a) {
         damage_image(&c->chance, image);
     if (one_in(&c->chance, 4)) {
         memset(c->restored.bytes, (int)below(&c->chance, 256), BYTES);
-        decode(c->restored.bytes, c->restored.table);
+        decode(c->restored.bytes, c->restored.table, REGISTER_NUMBERS);
     }
     int64_t result = library_restore(c->restored.bytes, answer, image, a);
     int64_t plain = c_restore(c->restored.table, image, a);
@@ -135,13 +161,14 @@ static void compare_convert(struct compared *c) {
     uint8_t answer[PETLUMAS_CONVERT_ANSWER_BYTES];
     if (one_in(&c->chance, 4)) {
         memset(c->both.other_bytes, (int)below(&c->chance, 256), BYTES);
-        decode(c->both.other_bytes, c->both.other_table);
+        decode(c->both.other_bytes, c->both.other_table, REGISTER_NUMBERS);
     }
     int64_t result = library_convert(c->both.bytes, answer, c->both.other_bytes);
     int64_t plain = c_convert(c->both.table, c->both.other_table);
     expect(result == plain && get_number(answer, 0) == plain, "convert", none);
     expect(same_table(&c->both), "convert, table", none);
-    expect(same_numbers(c->both.other_bytes, c->both.other_table), "convert, other table", none);
+    expect(same_numbers(c->both.other_bytes, c->both.other_table, REGISTER_NUMBERS),
+           "convert, other table", none);
     c->counts->calls++;
     c->counts->conversions += result == 0;
 }
@@ -152,7 +179,7 @@ static void compare_calls(struct compared *c, uint64_t damages) {
     memcpy(c->both.bytes, c->chance.reg, BYTES);
     for (; damages > 0; damages--)
         damage_number(&c->chance, c->both.bytes);
-    decode(c->both.bytes, c->both.table);
+    decode(c->both.bytes, c->both.table, REGISTER_NUMBERS);
     choose_state(&c->chance, args);
     compare_save(c, args);
     if (one_in(&c->chance, 8))
@@ -163,6 +190,8 @@ static void compare_calls(struct compared *c, uint64_t damages) {
     compare_account(c, args);
     choose_allocate(&c->chance, args);
     compare_allocate(c, args);
+    choose_count(&c->chance, args);
+    compare_trial(c, args);
     choose_energy_notice(&c->chance, args);
     compare_energy(c, args);
     choose_correct(&c->chance, args);
@@ -196,10 +225,10 @@ static void compare_list(struct compared *c, uint64_t length) {
 
 static void print_counts(const char *edition, const struct counts *n) {
     printf("%s edition: equal answers, tables and images in %" PRIu64 " calls; given: %" PRIu64
-           " energy, %" PRIu64 " correct, %" PRIu64 " account, %" PRIu64 " allocate, %" PRIu64
-           " save, %" PRIu64 " restore, %" PRIu64 " convert\n",
-           edition, n->calls, n->energies, n->corrections, n->accounts, n->allocations, n->saves,
-           n->restores, n->conversions);
+           " energy, %" PRIu64 " trial, %" PRIu64 " correct, %" PRIu64 " account, %" PRIu64
+           " allocate, %" PRIu64 " save, %" PRIu64 " restore, %" PRIu64 " convert\n",
+           edition, n->calls, n->energies, n->trials, n->corrections, n->accounts, n->allocations,
+           n->saves, n->restores, n->conversions);
 }
 
 void compare(uint64_t seed, uint64_t lists, uint64_t length) {

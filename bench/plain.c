@@ -118,15 +118,16 @@ static struct plain_energy enter(int64_t *p, int64_t row, int64_t start, int64_t
     return answer;
 }
 
-struct plain_energy plain_energy(int64_t *table, size_t length, int64_t mirn, int64_t start,
-                                 int64_t end, int64_t energy, int64_t type, int64_t confirmed) {
-    if (!plain_sound(table, length))
-        return (struct plain_energy){1, 0, 0, 0, 0};
+/* On a sound table; *point is the notice's point, or NULL. */
+static struct plain_energy enter_in_sound(int64_t *table, int64_t **point, int64_t mirn,
+                                          int64_t start, int64_t end, int64_t energy, int64_t type,
+                                          int64_t confirmed) {
+    *point = NULL;
     if (!within(mirn, 1, MIRN_MOST) || !is_day(start) || !is_day(end) ||
         !within(energy, -ENERGY_MOST, ENERGY_MOST) || !within(type, 0, 2) ||
         !within(confirmed, 0, 1))
         return (struct plain_energy){2, 0, 0, 0, 0};
-    int64_t *p = find_point(table, mirn);
+    int64_t *p = *point = find_point(table, mirn);
     if (p == NULL)
         return (struct plain_energy){4, 0, 0, 0, 0};
     int64_t row = find_record(p, start);
@@ -134,6 +135,54 @@ struct plain_energy plain_energy(int64_t *table, size_t length, int64_t mirn, in
     if (refusal != 0)
         return (struct plain_energy){refusal, 0, 0, 0, 0};
     return enter(p, row, start, end, energy, type);
+}
+
+struct plain_energy plain_energy(int64_t *table, size_t length, int64_t mirn, int64_t start,
+                                 int64_t end, int64_t energy, int64_t type, int64_t confirmed) {
+    int64_t *point;
+    if (!plain_sound(table, length))
+        return (struct plain_energy){1, 0, 0, 0, 0};
+    return enter_in_sound(table, &point, mirn, start, end, energy, type, confirmed);
+}
+
+/* ---- trial */
+
+static int64_t most_records(const int64_t *table) {
+    int64_t records = 0;
+    for (const int64_t *p = points(table); p < points_end(table); p += stride(table))
+        records = most(records, p[RECORD_COUNT]);
+    return records;
+}
+
+/* A notice changes the records of no point but its own. */
+static void try_notice(int64_t *table, const int64_t *n, int64_t *answer,
+                       struct plain_trial *trial) {
+    int64_t *point;
+    struct plain_energy e = enter_in_sound(table, &point, n[0], n[1], n[2], n[3], n[4], n[5]);
+    answer[0] = e.refusal;
+    answer[1] = e.which;
+    answer[2] = e.removed;
+    answer[3] = e.user;
+    answer[4] = e.lapsed;
+    trial->removed += e.removed;
+    if (point != NULL)
+        trial->most = most(trial->most, point[RECORD_COUNT]);
+}
+
+struct plain_trial plain_trial(const int64_t *table, size_t length, const int64_t *notices,
+                               size_t notices_length, int64_t *answers, size_t answers_length,
+                               int64_t count) {
+    int64_t copy[REGISTER_NUMBERS];
+    if (!plain_sound(table, length))
+        return (struct plain_trial){1, 0, 0};
+    if (!within(count, 0, NOTICES) || notices_length < NOTICE_NUMBERS * (size_t)count ||
+        answers_length < ANSWER_NUMBERS * (size_t)count)
+        return (struct plain_trial){2, 0, 0};
+    struct plain_trial trial = {0, most_records(table), 0};
+    memcpy(copy, table, sizeof copy);
+    for (int64_t k = 0; k < count; k++)
+        try_notice(copy, notices + NOTICE_NUMBERS * k, answers + ANSWER_NUMBERS * k, &trial);
+    return trial;
 }
 
 /* ---- correct */

@@ -11,6 +11,10 @@ struct plain_energy {
     int64_t refusal, which, removed, user, lapsed;
 };
 
+struct plain_trial {
+    int64_t refusal, most, removed;
+};
+
 struct plain_correction {
     int64_t refusal, flags[16];
 };
@@ -27,6 +31,11 @@ bool plain_sound(const int64_t *table, size_t length);
 
 struct plain_energy plain_energy(int64_t *table, size_t length, int64_t mirn, int64_t start,
                                  int64_t end, int64_t energy, int64_t type, int64_t confirmed);
+
+/* Six numbers a notice, five an answer. */
+struct plain_trial plain_trial(const int64_t *table, size_t length, const int64_t *notices,
+                               size_t notices_length, int64_t *answers, size_t answers_length,
+                               int64_t count);
 
 /* By days: whose each day is, before and after. */
 struct plain_correction plain_correct(int64_t *table, size_t length, int64_t mirn, int64_t user,

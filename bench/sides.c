@@ -1,8 +1,8 @@
 #include "sides.h"
 
-void decode(const uint8_t *bytes, int64_t *table) {
-    for (size_t k = 0; k < REGISTER_NUMBERS; k++)
-        table[k] = get_number(bytes, k);
+void decode(const uint8_t *bytes, int64_t *numbers, size_t count) {
+    for (size_t k = 0; k < count; k++)
+        numbers[k] = get_number(bytes, k);
 }
 
 int64_t library_energy(uint8_t *bytes, uint8_t *answer, const int64_t *a) {
@@ -12,6 +12,19 @@ int64_t library_energy(uint8_t *bytes, uint8_t *answer, const int64_t *a) {
 
 struct plain_energy c_energy(int64_t *table, const int64_t *a) {
     return plain_energy(table, REGISTER_NUMBERS, a[0], a[1], a[2], a[3], a[4], a[5]);
+}
+
+int64_t library_trial(const uint8_t *bytes, uint8_t *answer, const uint8_t *notices,
+                      uint8_t *answers, const int64_t *a) {
+    return petlumas_trial(bytes, BYTES, answer, PETLUMAS_TRIAL_ANSWER_BYTES, notices,
+                          PETLUMAS_TRIAL_NOTICE_BYTES * NOTICES, answers,
+                          PETLUMAS_ENERGY_ANSWER_BYTES * NOTICES, a[0]);
+}
+
+struct plain_trial c_trial(const int64_t *table, const int64_t *notices, int64_t *answers,
+                           const int64_t *a) {
+    return plain_trial(table, REGISTER_NUMBERS, notices, NOTICE_NUMBERS * NOTICES, answers,
+                       ANSWER_NUMBERS * NOTICES, a[0]);
 }
 
 int64_t library_correct(uint8_t *bytes, uint8_t *answer, const int64_t *a) {

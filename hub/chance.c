@@ -4,6 +4,8 @@
 #include "places.h"
 #include "words.h"
 
+#include <string.h>
+
 static uint64_t next_random(struct chance *c) {
     c->random ^= c->random >> 12;
     c->random ^= c->random << 25;
@@ -120,6 +122,11 @@ void choose_energy_notice(struct chance *c, int64_t *args) {
     args[5] = mostly(c, between(c, 0, 1));
 }
 
+/* Mostly a few, at times about as many as a trial takes. */
+void choose_count(struct chance *c, int64_t *args) {
+    args[0] = mostly(c, one_in(c, 20) ? between(c, NOTICES - 9, NOTICES + 1) : between(c, 0, 9));
+}
+
 /* On where the last span is open, else off after the last on day and the last filled day. */
 void choose_status(struct chance *c, int64_t *args) {
     size_t point = any_point(c);
@@ -198,6 +205,25 @@ void choose_date(struct chance *c, int64_t *args) {
     args[2] = mostly(c, between(c, 0, 32));
 }
 
+static void enter_energy(struct chance *c, const int64_t *a) {
+    uint8_t answer[PETLUMAS_ENERGY_ANSWER_BYTES];
+    petlumas_energy(c->reg, PETLUMAS_REGISTER_BYTES, answer, sizeof answer, a[0], a[1], a[2], a[3],
+                    a[4], a[5]);
+}
+
+void choose_batch(struct chance *c, uint8_t *notices, size_t count) {
+    uint8_t kept[PETLUMAS_REGISTER_BYTES];
+    int64_t a[ARGS_MOST];
+    memcpy(kept, c->reg, sizeof kept);
+    for (size_t k = 0; k < count; k++) {
+        choose_energy_notice(c, a);
+        enter_energy(c, a);
+        for (size_t i = 0; i < NOTICE_NUMBERS; i++)
+            put_number(notices, NOTICE_NUMBERS * k + i, a[i]);
+    }
+    memcpy(c->reg, kept, sizeof kept);
+}
+
 /* ---- registers */
 
 static size_t any_place(struct chance *c) {
@@ -227,14 +253,14 @@ void damage_number(struct chance *c, uint8_t *reg) {
 /* One notice on the register, most often a good one; of 18 ways three are a status, which
    keeps a point from filling up. */
 static void feed(struct chance *c, uint64_t ways) {
-    uint8_t answer[40];
+    uint8_t answer[PETLUMAS_REQUEST_ANSWER_BYTES];
     uint8_t none[1] = {0};
     int64_t a[ARGS_MOST];
     uint64_t way = below(c, ways);
     if (way < 9) {
         choose_energy_notice(c, a);
-        petlumas_energy(c->reg, PETLUMAS_REGISTER_BYTES, answer, sizeof answer, a[0], a[1], a[2],
-                        a[3], a[4], 1);
+        a[5] = 1;
+        enter_energy(c, a);
     } else if (way < 15) {
         choose_request(c, a);
         petlumas_request(c->reg, PETLUMAS_REGISTER_BYTES, answer, sizeof answer, none, 0, a[0],

@@ -29,6 +29,7 @@ void damage_number(struct chance *c, uint8_t *reg);
 void choose_fresh(struct chance *c, int64_t *args);
 void choose_open(struct chance *c, int64_t *args);
 void choose_energy_notice(struct chance *c, int64_t *args);
+void choose_count(struct chance *c, int64_t *args); /* of a trial's notices */
 void choose_status(struct chance *c, int64_t *args);
 void choose_request(struct chance *c, int64_t *args);
 void choose_withdraw(struct chance *c, int64_t *args);
@@ -37,5 +38,9 @@ void choose_account(struct chance *c, int64_t *args);
 void choose_allocate(struct chance *c, int64_t *args);
 void choose_state(struct chance *c, int64_t *args); /* of save and restore */
 void choose_date(struct chance *c, int64_t *args);
+
+/* So many notices of a trial, each chosen for what those before it leave of the register, which
+   itself stays as it is. */
+void choose_batch(struct chance *c, uint8_t *notices, size_t count);
 
 #endif

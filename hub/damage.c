@@ -1,5 +1,6 @@
 /* Calls every function on damaged registers and images and on buffers of odd lengths and looks at
    what it left in every buffer. */
+#include "batches.h"
 #include "conversions.h"
 #include "functions.h"
 #include "images.h"
@@ -34,13 +35,14 @@ struct test {
 /* ---- lent buffers */
 
 static void lend_filled(struct test *t, struct lent *lent, size_t length) {
-    uint8_t fill[512];
-    memset(fill, (int)below(&t->chance, 256), sizeof fill);
-    lend(&t->chance, lent, fill, length);
+    memset(t->copy, (int)below(&t->chance, 256), length);
+    lend(&t->chance, lent, t->copy, length);
 }
 
 /* Often what is needed, else a few bytes less or more, or none. */
 static size_t choose_length(struct test *t, size_t needed) {
+    if (needed == 0)
+        return (size_t)below(&t->chance, 64);
     switch (below(&t->chance, 8)) {
     case 0:
         return needed - (size_t)between(&t->chance, 1, 7);
@@ -66,6 +68,18 @@ static size_t choose_register_length(struct test *t) {
     default:
         return REGISTER_BYTES;
     }
+}
+
+/* For a count that no trial takes there are a few notices all the same. */
+static void lend_batch(struct test *t, int64_t count) {
+    struct chance *c = &t->chance;
+    size_t notices = 0 <= count && count <= NOTICES + 1 ? (size_t)count : (size_t)below(c, 4);
+    size_t given = 8 * NOTICE_NUMBERS * notices;
+    size_t room = 8 * ANSWER_NUMBERS * notices;
+    memset(t->copy, 0, given + PAST_BYTES);
+    choose_batch(c, t->copy, notices);
+    lend(c, &t->lent.notices, t->copy, choose_length(t, given));
+    lend_filled(t, &t->lent.answers, choose_length(t, room));
 }
 
 static void lend_holidays(struct test *t) {
@@ -160,6 +174,33 @@ static void check_others(struct test *t, const struct function *f, int64_t resul
            "the answer table changed where it may not");
 }
 
+/* The refusal that the lent bytes get. */
+static int64_t judge_trial(const struct test *t, int64_t count, bool sound) {
+    if (!sound)
+        return 1;
+    if (t->lent.answer.length < PETLUMAS_TRIAL_ANSWER_BYTES)
+        return 2;
+    return judge_batch(count, t->lent.notices.length, t->lent.answers.length);
+}
+
+static void check_trial(struct test *t, int64_t count, bool sound, int64_t result) {
+    const struct function *f = &functions[TRIAL];
+    uint8_t expected[8 * ANSWER_NUMBERS * NOTICES];
+    int64_t refusal = judge_trial(t, count, sound);
+    size_t notices = refusal == 0 ? (size_t)count : 0;
+    size_t given = 8 * ANSWER_NUMBERS * notices;
+    expect(t, result == refusal, f, "not the refusal that the bytes get");
+    expect(t, unchanged_from(&t->lent.notices, 0), f, "the notices changed");
+    expect(t, unchanged_from(&t->lent.answers, given), f, "the answers changed where they may not");
+    if (refusal != 0)
+        return;
+    memcpy(t->copy, t->lent.reg.before, REGISTER_BYTES);
+    struct counted counted = enter_batch(t->copy, t->lent.notices.before, expected, notices);
+    expect(t, memcmp(t->lent.answers.at, expected, given) == 0, f, "not what the batch answers");
+    expect(t, get_number(t->lent.answer.at, 1) == counted.most, f, "not the most records");
+    expect(t, get_number(t->lent.answer.at, 2) == counted.removed, f, "not the total removed");
+}
+
 static void check_save(struct test *t, int64_t state, bool sound, int64_t result) {
     const struct function *f = &functions[SAVE];
     bool good = 1 <= state && state <= 4 && t->lent.image.length >= IMAGE_BYTES &&
@@ -237,13 +278,16 @@ static void lend_register(struct test *t, bool restores, size_t length) {
     lend(&t->chance, &t->lent.reg, any ? t->copy : t->work, length);
 }
 
-static void lend_buffers(struct test *t, const struct function *f, size_t length, int64_t state) {
+/* The first number of the call is a trial's count, and the state of a save or a restore. */
+static void lend_buffers(struct test *t, const struct function *f, size_t length, int64_t first) {
     lend_register(t, f == &functions[RESTORE], length);
     lend_filled(t, &t->lent.answer, choose_length(t, 8 * f->fields));
     lend_filled(t, &t->lent.table, choose_length(t, SHARES_BYTES));
     lend_holidays(t);
+    if (f == &functions[TRIAL])
+        lend_batch(t, first);
     if (f == &functions[SAVE] || f == &functions[RESTORE])
-        lend_image(t, f == &functions[RESTORE], state);
+        lend_image(t, f == &functions[RESTORE], first);
     if (f == &functions[CONVERT])
         lend_other(t);
 }
@@ -251,6 +295,8 @@ static void lend_buffers(struct test *t, const struct function *f, size_t length
 static void take_all_back(struct test *t) {
     take_back(&t->lent.reg);
     take_back(&t->lent.answer);
+    take_back(&t->lent.notices);
+    take_back(&t->lent.answers);
     take_back(&t->lent.table);
     take_back(&t->lent.holidays);
     take_back(&t->lent.image);
@@ -277,6 +323,8 @@ static void check_call(struct test *t, const struct function *f, const int64_t *
     check_answer(t, f, result);
     check_register(t, f, result);
     check_others(t, f, result);
+    if (f == &functions[TRIAL])
+        check_trial(t, args[0], sound, result);
     if (f == &functions[SAVE])
         check_save(t, args[0], sound, result);
     if (f == &functions[RESTORE])
@@ -342,6 +390,8 @@ int main(int argc, char **argv) {
     fflush(stdout); /* an access outside a buffer may end the program */
     make_arena(&test.lent.reg);
     make_arena(&test.lent.answer);
+    make_arena(&test.lent.notices);
+    make_arena(&test.lent.answers);
     make_arena(&test.lent.table);
     make_arena(&test.lent.holidays);
     make_arena(&test.lent.image);

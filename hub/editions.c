@@ -1,26 +1,14 @@
 /* Boundary cases of the two editions: their room, their reserves, conversions there and back, and
    images of one restored over the other. */
+#include "checks.h"
 #include "conversions.h"
 #include "functions.h"
 #include "places.h"
 #include "words.h"
 
-#include <inttypes.h>
-#include <stdio.h>
-#include <stdlib.h>
 #include <string.h>
 
 enum { BYTES = PETLUMAS_REGISTER_BYTES, PAST_BYTES = 8, FILL = 0xaa };
-
-static uint64_t checks;
-
-static void expect(int64_t found, int64_t expected, const char *what) {
-    checks++;
-    if (found == expected)
-        return;
-    fprintf(stderr, "editions: %s: %" PRId64 ", not %" PRId64 "\n", what, found, expected);
-    exit(1);
-}
 
 static bool is_filled(const uint8_t *from, const uint8_t *to) {
     while (from < to)
@@ -316,6 +304,6 @@ int main(void) {
     test_room_for_records();
     test_room_for_reserves(false);
     test_room_for_reserves(true);
-    printf("editions: %" PRIu64 " checks hold\n", checks);
+    print_checks("editions");
     return 0;
 }

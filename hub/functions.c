@@ -15,6 +15,11 @@ static int64_t call_energy(struct buffers *b, const int64_t *a) {
                            a[2], a[3], a[4], a[5]);
 }
 
+static int64_t call_trial(struct buffers *b, const int64_t *a) {
+    return petlumas_trial(b->reg.at, b->reg.length, b->answer.at, b->answer.length, b->notices.at,
+                          b->notices.length, b->answers.at, b->answers.length, a[0]);
+}
+
 static int64_t call_status(struct buffers *b, const int64_t *a) {
     return petlumas_status(b->reg.at, b->reg.length, b->answer.at, b->answer.length, a[0], a[1],
                            a[2]);
@@ -74,6 +79,7 @@ const struct function functions[FUNCTIONS] = {
     [FRESH] = {"fresh", 1, true, choose_fresh, call_fresh},
     [OPEN] = {"open", 1, true, choose_open, call_open},
     [ENERGY] = {"energy", 5, true, choose_energy_notice, call_energy},
+    [TRIAL] = {"trial", 3, false, choose_count, call_trial},
     [STATUS] = {"status", 1, true, choose_status, call_status},
     [REQUEST] = {"request", 3, true, choose_request, call_request},
     [WITHDRAW] = {"withdraw", 1, true, choose_withdraw, call_withdraw},

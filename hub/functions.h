@@ -6,7 +6,7 @@
 
 /* What a call is lent; each function takes those that it has. */
 struct buffers {
-    struct lent reg, answer, table, holidays, image;
+    struct lent reg, answer, notices, answers, table, holidays, image;
     struct lent other; /* for a register of the other edition */
 };
 
@@ -22,6 +22,7 @@ enum {
     FRESH,
     OPEN,
     ENERGY,
+    TRIAL,
     STATUS,
     REQUEST,
     WITHDRAW,

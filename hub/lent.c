@@ -7,7 +7,7 @@
 #include <sys/mman.h>
 
 static void out_of_memory(void) {
-    perror("damage");
+    perror("lent");
     exit(2);
 }
 

@@ -1,4 +1,5 @@
-/* Where the register table has its numbers, for tests. The library's own list is crates/places. */
+/* Where the register table has its numbers, and those of a trial, for tests. The library's own list
+   is crates/places. */
 #ifndef HUB_PLACES_H
 #define HUB_PLACES_H
 
@@ -49,6 +50,13 @@ enum {
     REGISTRATION_ROWS = 16,
     SPAN_ROWS = 32,
     RECORD_ROWS = 48, /* up to the point's end */
+};
+
+/* What a trial is lent. */
+enum {
+    NOTICES = 100,      /* at most */
+    NOTICE_NUMBERS = 6, /* MIRN, start, end, energy, type, confirmed */
+    ANSWER_NUMBERS = 5, /* of one notice: refusal, which, removed, User, lapsed */
 };
 
 /* The editions, by their number in the header. */

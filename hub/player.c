@@ -63,6 +63,12 @@ static struct bytes make_bytes(int64_t length) {
     return b;
 }
 
+/* So that what a call leaves alone shows. */
+static void fill_numbers(uint8_t *bytes, size_t count, int64_t number) {
+    for (size_t k = 0; k < count; k++)
+        put_number(bytes, k, number);
+}
+
 /* ---- rows */
 
 static void print_numbers(FILE *out, const uint8_t *bytes, size_t count) {
@@ -74,6 +80,15 @@ static bool print_answer(const struct player *player, const uint8_t *answer, siz
     print_numbers(player->out, answer, count);
     putc('\n', player->out);
     return true;
+}
+
+/* An answer, then all numbers of a table. */
+static bool print_answer_and_table(const struct player *player, const uint8_t *answer, size_t count,
+                                   const uint8_t *table, size_t numbers) {
+    print_numbers(player->out, answer, count);
+    if (numbers > 0)
+        putc(' ', player->out);
+    return print_answer(player, table, numbers);
 }
 
 static bool print_done(const struct player *player) {
@@ -127,6 +142,24 @@ static bool play_energy(struct player *p, struct numbers n) {
     return print_answer(p, answer, sizeof answer / 8);
 }
 
+/* The count of notices, the room for answers, and the table of notices. */
+static bool play_trial(struct player *p, struct numbers n) {
+    uint8_t answer[PETLUMAS_TRIAL_ANSWER_BYTES];
+    if (n.count < 2 || n.count > 2 + BATCH_MOST || !is_length(n.at[1], ANSWERS_MOST))
+        return false;
+    struct bytes notices = make_bytes(8 * (int64_t)(n.count - 2));
+    struct bytes answers = make_bytes(8 * n.at[1]);
+    for (size_t k = 0; k < n.count - 2; k++)
+        put_number(notices.at, k, n.at[2 + k]);
+    fill_numbers(answers.at, answers.length / 8, -7);
+    petlumas_trial(p->buffer, lent_bytes(p), answer, sizeof answer, notices.at, notices.length,
+                   answers.at, answers.length, n.at[0]);
+    print_answer_and_table(p, answer, sizeof answer / 8, answers.at, answers.length / 8);
+    free(notices.at);
+    free(answers.at);
+    return true;
+}
+
 static bool play_status(struct player *p, struct numbers n) {
     uint8_t answer[PETLUMAS_STATUS_ANSWER_BYTES];
     petlumas_status(p->buffer, lent_bytes(p), answer, sizeof answer, n.at[0], n.at[1], n.at[2]);
@@ -169,14 +202,10 @@ static bool play_account(struct player *p, struct numbers n) {
 static bool play_allocate(struct player *p, struct numbers n) {
     uint8_t answer[PETLUMAS_ALLOCATE_ANSWER_BYTES];
     uint8_t table[8 * SHARES_MOST];
-    for (size_t k = 0; k < p->shares; k++)
-        put_number(table, k, -7); /* shows what is left alone */
+    fill_numbers(table, p->shares, -7);
     petlumas_allocate(p->buffer, lent_bytes(p), answer, sizeof answer, table, 8 * p->shares,
                       n.at[0], n.at[1], n.at[2], n.at[3], n.at[4], n.at[5]);
-    print_numbers(p->out, answer, sizeof answer / 8);
-    if (p->shares > 0)
-        putc(' ', p->out);
-    return print_answer(p, table, p->shares);
+    return print_answer_and_table(p, answer, sizeof answer / 8, table, p->shares);
 }
 
 /* Save's and restore's numbers: the state, the image's buffer, how many of its bytes are lent. */
@@ -208,8 +237,7 @@ static bool play_convert(struct player *p, struct numbers n) {
     if (!is_length(n.at[0], BUFFER_NUMBERS))
         return false;
     struct bytes second = make_bytes(8 * n.at[0]);
-    for (size_t k = 0; k < second.length / 8; k++)
-        put_number(second.at, k, -5);
+    fill_numbers(second.at, second.length / 8, -5);
     if (petlumas_convert(p->buffer, lent_bytes(p), answer, sizeof answer, second.at,
                          second.length) == 0)
         memcpy(p->buffer, second.at, 8 * REGISTER_NUMBERS);
@@ -369,13 +397,17 @@ static bool hub_allocate(struct player *p, struct numbers n) {
 /* ---- lines */
 
 static const struct call calls[] = {
-    {"fresh", 3, play_fresh},     {"open", 7, play_open},         {"energy", 6, play_energy},
-    {"status", 3, play_status},   {"request", ANY, play_request}, {"withdraw", 2, play_withdraw},
-    {"correct", 4, play_correct}, {"account", 3, play_account},   {"allocate", 6, play_allocate},
-    {"save", 3, play_save},       {"restore", 3, play_restore},   {"convert", 1, play_convert},
-    {"date", 3, play_date},       {"look", 1, play_look},         {"poke", 2, play_poke},
-    {"tlen", 1, play_tlen},       {"alen", 1, play_alen},         {"table", 0, play_table},
-    {"imgpoke", 3, play_imgpoke}, {"image", 1, play_image},       {NULL, 0, NULL},
+    {"fresh", 3, play_fresh},       {"open", 7, play_open},
+    {"energy", 6, play_energy},     {"trial", ANY, play_trial},
+    {"status", 3, play_status},     {"request", ANY, play_request},
+    {"withdraw", 2, play_withdraw}, {"correct", 4, play_correct},
+    {"account", 3, play_account},   {"allocate", 6, play_allocate},
+    {"save", 3, play_save},         {"restore", 3, play_restore},
+    {"convert", 1, play_convert},   {"date", 3, play_date},
+    {"look", 1, play_look},         {"poke", 2, play_poke},
+    {"tlen", 1, play_tlen},         {"alen", 1, play_alen},
+    {"table", 0, play_table},       {"imgpoke", 3, play_imgpoke},
+    {"image", 1, play_image},       {NULL, 0, NULL},
 };
 
 static const struct call hub_calls[] = {

@@ -27,8 +27,8 @@
  *       aside) unsound, or the register in an image to restore is unsound, or
  *       the buffer for a converted register is too short
  *    2  a number out of range, no such date, from after to (for an allocation
- *       after to + 1), to not before the gas day, more than 400 days, or a
- *       buffer that is no register's too short
+ *       after to + 1), to not before the gas day, more than 400 days or 100
+ *       notices, or a buffer that is no register's too short
  *    3  the holidays are more than 512, or not strictly ascending, or one is
  *       no day
  *    4  the MIRN is unknown
@@ -62,7 +62,7 @@
  * exception: then no buffer is written, and the result is 2, or 1 where a lent
  * register gets 1, whatever an image holds.
  *
- * Bytes of a buffer past those named here are never read or written.
+ * Bytes of a buffer past those named here do not matter and are never written.
  *
  * A day is 0 to 39,999, from 1 January 1970 to 7 July 2079. A MIRN is 1 to
  * 9,999,999,999, a User 1 to 16, a kind 0 (non-daily) or 1 (daily metered), a
@@ -76,8 +76,8 @@
  *   - The buffers of one call do not overlap, and no other thread touches them
  *     meanwhile. There are no globals, so calls on different buffers may run at
  *     the same time.
- *   - The thread has 80 KiB of stack left, for petlumas_restore and
- *     petlumas_convert 144 KiB. Nothing is allocated.
+ *   - The thread has 80 KiB of stack left, for petlumas_trial,
+ *     petlumas_restore and petlumas_convert 144 KiB. Nothing is allocated.
  */
 #ifndef PETLUMAS_H
 #define PETLUMAS_H
@@ -91,6 +91,7 @@
 #define PETLUMAS_FRESH_ANSWER_BYTES 8
 #define PETLUMAS_OPEN_ANSWER_BYTES 8
 #define PETLUMAS_ENERGY_ANSWER_BYTES 40
+#define PETLUMAS_TRIAL_ANSWER_BYTES 24
 #define PETLUMAS_STATUS_ANSWER_BYTES 8
 #define PETLUMAS_REQUEST_ANSWER_BYTES 24
 #define PETLUMAS_WITHDRAW_ANSWER_BYTES 8
@@ -102,6 +103,8 @@
 #define PETLUMAS_CONVERT_ANSWER_BYTES 8
 #define PETLUMAS_DATE_ANSWER_BYTES 16
 
+#define PETLUMAS_TRIAL_NOTICES 100
+#define PETLUMAS_TRIAL_NOTICE_BYTES 48
 #define PETLUMAS_ALLOCATE_TABLE_BYTES 256
 
 #ifdef __cplusplus
@@ -150,6 +153,26 @@ int64_t petlumas_energy(uint8_t *PETLUMAS_RESTRICT reg, size_t reg_len,
                         uint8_t *PETLUMAS_RESTRICT answer, size_t answer_len,
                         int64_t mirn, int64_t start, int64_t end,
                         int64_t energy, int64_t type, int64_t confirmed);
+
+/* Tries a batch of energy notices: tells what petlumas_energy would answer to
+ * each if they were entered in order. The register is only read. A notice that
+ * is refused changes nothing, and the batch goes on.
+ * notices: count times PETLUMAS_TRIAL_NOTICE_BYTES bytes or more: the mirn,
+ *   start, end, energy, type and confirmed of each notice, 8 bytes each, little
+ *   endian. A number out of range gets 2 for its notice only.
+ * answers: count times PETLUMAS_ENERGY_ANSWER_BYTES bytes or more. Where the
+ *   result is 0 these bytes are the answers of petlumas_energy, in order; else
+ *   they are as they were.
+ * count: how many notices there are, 0 to PETLUMAS_TRIAL_NOTICES.
+ * Answer: the most records that a point would have at the start or after any
+ *   notice, 0 with no point, and how many records the batch would remove.
+ * Refusals: 1, 2 (notices or answers too short for the count included). */
+int64_t petlumas_trial(const uint8_t *PETLUMAS_RESTRICT reg, size_t reg_len,
+                       uint8_t *PETLUMAS_RESTRICT answer, size_t answer_len,
+                       const uint8_t *PETLUMAS_RESTRICT notices,
+                       size_t notices_len,
+                       uint8_t *PETLUMAS_RESTRICT answers, size_t answers_len,
+                       int64_t count);
 
 /* Says from which day on a point is off (de-energised), or on again.
  * mirn, day: the point and that day.
