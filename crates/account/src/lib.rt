@@ -1,5 +1,7 @@
 // account: what the shares of a User's days add up to over a period. No days are walked: a point's registrations cut
 // the period into spans with one FRO each, and a span's energy is read at once. A sum is raised, so that it is natural.
+#![tactic(auto)]
+
 ghost use Rattle.std.specs.Prelude.{◌≡◌, true, ◌&&◌, ◌-◌, ◌<◌, ◌≤◌};
 ghost use Rattle.std.proofs.Math.IntN.{sub_ℕ};
 ghost use Rattle.std.specs.Int.Signed.{le_z};

@@ -1,5 +1,7 @@
 // allocate: the net section load of a gas day, split among the points by their weights and counted for their FROs
 // (8.11.2 to 8.11.6). Every total is natural: a number that may be negative is raised first.
+#![tactic(auto)]
+
 ghost use Rattle.std.specs.Prelude.{◌≡◌, true, cond, ◌∷◌, map, ◌+◌, ◌*◌, ◌<◌, ◌≤◌, eqb, length, replicate, pos, negsuc};
 ghost use Rattle.std.proofs.Math.IntN.{sub_ℕ};
 ghost use Rattle.calendar.specs.Calendar.{within};

@@ -1,5 +1,7 @@
 // Byte buffers that a C caller lends: numbers are read from them, answers and tables are written to them. What a function
 // requires is about lengths and a refusal's size; the exported functions show it of any buffers.
+#![tactic(auto)]
+
 ghost use Rattle.std.specs.Prelude.{◌≡◌, map, ◌*◌, ◌/◌, ◌≤◌, min, pos, length, get_or};
 ghost use Rattle.daybook.specs.Notices.{highest_refusal};
 ghost use Rattle.layout.specs.Layout.{table_length};

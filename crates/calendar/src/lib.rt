@@ -1,5 +1,7 @@
 // Days, dates and business days. A plain day and a count of business days are types of their own, so that one is
 // never taken for the other (clause 1.2.1).
+#![tactic(auto)]
+
 ghost use Rattle.std.specs.Prelude.{◌≡◌, ◌&&◌, cond, suc, ◌-◌, ◌<◌, ◌≤◌, ◌^◌, leb, ltb, pos, length, get_or};
 ghost use Rattle.std.specs.Int.Signed.{lt_z};
 ghost use Rattle.numbers.specs.Rows.{all};
@@ -8,35 +10,35 @@ ghost use Rattle.numbers.specs.Answers.{refused};
 ghost use Rattle.calendar.specs.Calendar.{is_day, leap, days_before, month_length, day_of, date_numbers, date_refused, date_call, weekend, holiday_list, listed, business_day, business_day_before, business_day_after, allowable_period, reached_day, period_days};
 
 // A day, counted from 1 January 1970 = 0.
-#[derive(Drop)]
+#[derive(Clone, Copy)]
 pub struct Day(pub u64);
 
 // How many business days.
-#[derive(Drop)]
+#[derive(Clone, Copy)]
 pub struct BusinessDays(pub u64);
 
-#[derive(Drop)]
+#[derive(Clone, Copy)]
 pub struct YearMonthDay {
     pub year: i64,
     pub month: i64,
     pub day: i64,
 }
 
-#[derive(Drop)]
+#[derive(Clone, Copy)]
 pub enum DateAnswer {
     OnDay(Day),
     Refused(u64),
 }
 
 // A day that a count of business days reaches, unless it lies before day 0 or after day 39,999.
-#[derive(Drop)]
+#[derive(Clone, Copy)]
 pub enum Reached {
     On(Day),
     Outside,
 }
 
 // An allowable period: its first and its last day, unless one of them lies outside.
-#[derive(Drop)]
+#[derive(Clone, Copy)]
 pub enum Period {
     Window(Day, Day),
     Outside,

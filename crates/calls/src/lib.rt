@@ -1,5 +1,7 @@
 // The calls of the register as a journal has them: the function exported for C that each one is. A call's numbers are
 // the first of a line; where the line is shorter, 0.
+#![tactic(auto)]
+
 ghost use Rattle.std.specs.Prelude.{◌≡◌, ◌/◌, length};
 ghost use Rattle.daybook.specs.FromNumbers.{num};
 ghost use Rattle.buffers.specs.Buffers.{table_in, numbers_held, written};
@@ -19,7 +21,7 @@ fn number(nums: &[i64], i: usize) -> i64
 }
 
 // The numbers of a call, which has seven at most.
-#[derive(Drop)]
+#[derive(Clone, Copy)]
 struct Seven {
     n0: i64,
     n1: i64,
@@ -106,7 +108,7 @@ pub fn invoke(
     answer: &mut [u8],
     table: &mut [u8],
 ) -> i64
-    ensures* { λ r. ⌜ called call nums.now list.now register.old answer.old table.old ≡ record { result = r; register = register.new; answer = answer.new; table = table.new } ⌝ }
+    ensures { called call nums.now list.now register.old answer.old table.old ≡ record { result = result; register = register.new; answer = answer.new; table = table.new } }
 {
     let a = first_seven(nums);
     match call {

@@ -1,5 +1,7 @@
 // A register in the other edition, in a second table (document 02, k): a point's numbers are copied with room for as
 // many records as that edition has, and every operator is named.
+#![tactic(auto)]
+
 ghost use Rattle.std.specs.Prelude.{◌≡◌, true, not, ◌%◌, ◌≤◌, length};
 ghost use Rattle.numbers.specs.Answers.{refused};
 ghost use Rattle.daybook.specs.Calls.{notice_numbers, notice_refused};

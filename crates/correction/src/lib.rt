@@ -1,5 +1,7 @@
 // correct, the correction of a transfer error: a User is FRO of a point from a day on (document 02, j). The answer
 // marks the Users who lose a day by it. No days are walked: whose days they are is read off the registrations.
+#![tactic(auto)]
+
 ghost use Rattle.std.specs.Prelude.{◌≡◌, not, cond, ◌∷◌, map, ◌+◌, ◌<◌, ◌≤◌, eqb, pos, length, take, drop, replicate};
 ghost use Rattle.numbers.specs.Search.{is_some};
 ghost use Rattle.daybook.specs.Notices.{least, users};

@@ -1,6 +1,8 @@
 // The numbers of each call, in document 01's order, and its answer. Numbers come in by value, as any i64; an answer is
 // an enum, so that a refusal carries no field. Those of allocate and correct hold an array and so are structs.
 // And the tests of these numbers (that of a day is calendar's), and each answer as document 01's numbers.
+#![tactic(auto)]
+
 ghost use Rattle.std.specs.Prelude.{◌≡◌};
 ghost use Rattle.words.specs.Words.{bits_of};
 ghost use Rattle.calendar.specs.Calendar.{date_numbers};
@@ -12,7 +14,7 @@ use calendar::{DateAnswer, Day};
 
 // Beside the book stands the edition of the table: its number, how many points it holds, how many records of each, and
 // how many points it reserves for each operator (document 02, g and k).
-#[derive(Drop)]
+#[derive(Clone, Copy)]
 pub struct Edition {
     pub number: u64,
     pub points: usize,
@@ -21,7 +23,7 @@ pub struct Edition {
 }
 
 // What fresh makes: a register with these two ranges, of the edition of that number (document 02, k).
-#[derive(Drop)]
+#[derive(Clone, Copy)]
 pub struct NewRegister {
     pub nondaily: i64,
     pub daily: i64,
@@ -30,7 +32,7 @@ pub struct NewRegister {
 
 // The section is 1 for Wagga Wagga and Tamworth, 0 for the rest (document 02, a). The network operator is 1 to 4
 // (document 02, g).
-#[derive(Drop)]
+#[derive(Clone, Copy)]
 pub struct Opening {
     pub mirn: i64,
     pub kind: i64,
@@ -42,7 +44,7 @@ pub struct Opening {
 }
 
 // What an opening says once and for all. The kind is 0 non-daily or 1 daily metered; the base load is MJ a day.
-#[derive(Drop)]
+#[derive(Clone, Copy)]
 pub struct Facts {
     pub mirn: u64,
     pub kind: u64,
@@ -52,7 +54,7 @@ pub struct Facts {
     pub operator: u64,
 }
 
-#[derive(Drop)]
+#[derive(Clone, Copy)]
 pub struct EnergyNotice {
     pub mirn: i64,
     pub start: i64,
@@ -62,7 +64,7 @@ pub struct EnergyNotice {
     pub confirmed: i64,
 }
 
-#[derive(Drop)]
+#[derive(Clone, Copy)]
 pub struct StatusNotice {
     pub mirn: i64,
     pub day: i64,
@@ -70,7 +72,7 @@ pub struct StatusNotice {
 }
 
 // The holidays are lent beside it.
-#[derive(Drop)]
+#[derive(Clone, Copy)]
 pub struct TransferRequest {
     pub mirn: i64,
     pub user: i64,
@@ -78,14 +80,14 @@ pub struct TransferRequest {
     pub nochange: i64,
 }
 
-#[derive(Drop)]
+#[derive(Clone, Copy)]
 pub struct Withdrawal {
     pub mirn: i64,
     pub user: i64,
 }
 
 // The correction of a transfer error: the User is FRO from the day on (document 02, j).
-#[derive(Drop)]
+#[derive(Clone, Copy)]
 pub struct Correction {
     pub mirn: i64,
     pub user: i64,
@@ -93,7 +95,7 @@ pub struct Correction {
     pub notice: i64,
 }
 
-#[derive(Drop)]
+#[derive(Clone, Copy)]
 pub struct AccountQuery {
     pub user: i64,
     pub from: i64,
@@ -101,7 +103,7 @@ pub struct AccountQuery {
 }
 
 // The answer table is lent beside it.
-#[derive(Drop)]
+#[derive(Clone, Copy)]
 pub struct AllocationQuery {
     pub gasday: i64,
     pub from: i64,
@@ -112,13 +114,13 @@ pub struct AllocationQuery {
 }
 
 // Of fresh, open, status, withdraw, save, restore and convert, which answer with no field.
-#[derive(Drop)]
+#[derive(Clone, Copy)]
 pub enum NoticeAnswer {
     Entered,
     Refused(u64),
 }
 
-#[derive(Drop)]
+#[derive(Clone, Copy)]
 pub enum EnergyAnswer {
     Entered {
         which: u64,
@@ -129,27 +131,27 @@ pub enum EnergyAnswer {
     Refused(u64),
 }
 
-#[derive(Drop)]
+#[derive(Clone, Copy)]
 pub enum RequestAnswer {
     Entered { first: Day, last: Day },
     Refused(u64),
 }
 
 // With a refusal of 0 the flags of the sixteen Users, 1 for one who is affected; else zeros.
-#[derive(Drop)]
+#[derive(Clone, Copy)]
 pub struct CorrectionAnswer {
     pub refusal: u64,
     pub flags: [u64; 16],
 }
 
-#[derive(Drop)]
+#[derive(Clone, Copy)]
 pub enum AccountAnswer {
     Given(i64),
     Refused(u64),
 }
 
 // With a refusal of 0 the net section load and the sixteen Users' totals; else zeros.
-#[derive(Drop)]
+#[derive(Clone, Copy)]
 pub struct AllocationAnswer {
     pub refusal: u64,
     pub nsl: i64,
@@ -158,14 +160,14 @@ pub struct AllocationAnswer {
 
 // Of a trial: the largest number of records that any point would hold on the way, and how many would be removed in all
 // (document 02, i).
-#[derive(Drop)]
+#[derive(Clone, Copy)]
 pub enum TrialAnswer {
     Given { most: u64, removed: u64 },
     Refused(u64),
 }
 
 // Whether a retailer's own allocation agrees with the register (document 02, l).
-#[derive(Drop)]
+#[derive(Clone, Copy)]
 pub enum CheckAnswer {
     Yes,
     No,

@@ -1,6 +1,8 @@
 // energy: an energy notice fills days of its point as an append, a replacement or a recut; an append alone settles a
 // pending request. The public call tests the table, the one before it finds the point, and the others work on that point's
 // part alone.
+#![tactic(auto)]
+
 ghost use Rattle.std.specs.Prelude.{◌≡◌, true, ◌≤◌};
 ghost use Rattle.numbers.specs.InnerEnergies.{energy_of};
 ghost use Rattle.numbers.specs.Answers.{refused};

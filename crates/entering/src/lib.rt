@@ -1,5 +1,7 @@
 // entering: what an energy notice meets in its point's part and what it leaves there, its record first and then, after an
 // append, the pending request.
+#![tactic(auto)]
+
 ghost use Rattle.std.specs.Prelude.{◌≡◌, not, ◌≤◌};
 ghost use Rattle.numbers.specs.Search.{is_some};
 ghost use Rattle.lists.specs.InnerSteps.{starting_on, append_day_of};
@@ -11,7 +13,7 @@ ghost use Rattle.point.specs.InnerTests.{day_if};
 ghost use Rattle.entering.specs.InnerEntering.{entry_from, InRange, row_in, Recorded, SettledTo};
 
 // A notice's numbers as naturals, its energy raised by 1,000,000; a number that is none as the marker 2^63.
-#[derive(Drop)]
+#[derive(Clone, Copy)]
 pub struct RaisedNotice {
     pub mirn: u64,
     pub start: u64,
@@ -22,14 +24,14 @@ pub struct RaisedNotice {
 }
 
 // Which of the three a notice was, and how many records with a later start it removed.
-#[derive(Drop)]
+#[derive(Clone, Copy)]
 pub struct Kept {
     pub which: u64,
     pub removed: u64,
 }
 
 // The User that was registered or 0, and whether the request lapsed.
-#[derive(Drop)]
+#[derive(Clone, Copy)]
 pub struct Settled {
     pub user: u64,
     pub lapsed: u64,

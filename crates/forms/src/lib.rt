@@ -1,4 +1,6 @@
 // The form of each call's line in a journal.
+#![tactic(auto)]
+
 ghost use Rattle.std.specs.Prelude.{◌≡◌, ◌≤◌, ◌^◌};
 ghost use Rattle.numbers.specs.Naturals.{nat_of};
 ghost use Rattle.daybook.specs.FromNumbers.{num};
@@ -9,7 +11,7 @@ use journal::{CallWord, NoticeWord, QueryWord, TransferWord};
 
 // How many numbers a call and its answer have; whether a list follows the call's numbers, with its count in front, and
 // how many numbers the list has at most; and whether an answer table is lent.
-#[derive(Drop)]
+#[derive(Clone, Copy)]
 pub struct Form {
     pub takes: usize,
     pub gives: usize,

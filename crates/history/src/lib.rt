@@ -1,1 +1,2 @@
 // No code: the claim about every list of calls.
+#![tactic(auto)]

@@ -1,5 +1,7 @@
 // The register for C. Each function decodes the register's bytes into a table of its own, runs the proved call on that
 // and encodes what it gives; no input is excluded. include/petlumas.h says the same in C's words.
+#![tactic(auto)]
+
 ghost use Rattle.std.specs.Prelude.{◌≡◌, ◌/◌, length};
 ghost use Rattle.calendar.specs.Calendar.{date_call};
 ghost use Rattle.daybook.specs.Editions.{editions};

@@ -1,6 +1,8 @@
 // The lines of a journal on images: save and restore, one byte set, and the sums of a buffer. Each takes its numbers,
 // works on the bytes of the register's buffer and of the images', and writes its text at place `at` of the output. It
 // answers the place after the text, or `at` where the line is no call.
+#![tactic(auto)]
+
 ghost use Rattle.std.specs.Prelude.{true, ◌≡◌, ◌+◌, ◌≤◌, length};
 ghost use Rattle.printing.specs.Rows.{row_bytes, Printed};
 ghost use Rattle.lines.specs.Lines.{buffer_numbers, buffer_bytes, size, Played};
@@ -25,7 +27,7 @@ fn lendable(nums: &[i64]) -> bool
     (nums.len() == 3) & (image & bytes)
 }
 
-#[derive(Drop)]
+#[derive(Clone, Copy)]
 struct Part {
     start: usize,
     end: usize,

@@ -1,5 +1,7 @@
 // Named states: a register saved into the lent bytes of an image, and restored from them. An image is 124 blocks of 512
 // bytes: 62 numbers of the register, the state number, the block number, and a check of all these.
+#![tactic(auto)]
+
 ghost use Rattle.std.specs.Prelude.{◌≡◌, ◌+◌, ◌*◌, ◌<◌, ◌≤◌, not, ◌&&◌, [], ◌∷◌, ◌++◌, length, drop, nat_le};
 ghost use Rattle.numbers.specs.Naturals.{nat_of};
 ghost use Rattle.numbers.specs.Answers.{refused};

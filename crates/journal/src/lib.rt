@@ -1,11 +1,13 @@
 // The text of a journal: the words of a line, what its first word asks for, and numbers.
+#![tactic(auto)]
+
 ghost use Rattle.std.specs.Prelude.{◌≡◌, ◌+◌, ◌*◌, ◌<◌, ◌≤◌, length, drop};
 ghost use Rattle.journal.specs.Text.{is_digit, value_of_digits, non_negative, negative as Text·negative, number_of, value_of, words_of, numbers_of, read_into, taken_count};
 ghost use Rattle.journal.specs.InnerText.{capped, Skipped, Ended};
 ghost use Rattle.journal.specs.Names.{same_bytes, pick as Names·pick, notice_or, transfer_or, query_or, image_or, command_named, named_on_bytes};
 
 // The notices, which may change a register.
-#[derive(Drop)]
+#[derive(Clone, Copy)]
 pub enum NoticeWord {
     Fresh,
     Open,
@@ -15,7 +17,7 @@ pub enum NoticeWord {
 }
 
 // Those that concern a point's transfer to another User.
-#[derive(Drop)]
+#[derive(Clone, Copy)]
 pub enum TransferWord {
     Request,
     Withdraw,
@@ -23,7 +25,7 @@ pub enum TransferWord {
 }
 
 // The calls that change none.
-#[derive(Drop)]
+#[derive(Clone, Copy)]
 pub enum QueryWord {
     Account,
     Allocate,
@@ -31,14 +33,14 @@ pub enum QueryWord {
     Check,
 }
 
-#[derive(Drop)]
+#[derive(Clone, Copy)]
 pub enum CallWord {
     Notice(NoticeWord),
     Query(QueryWord),
 }
 
 // The lines on the images of states. Poke is `imgpoke`, and Sums is `image`.
-#[derive(Drop)]
+#[derive(Clone, Copy)]
 pub enum ImageWord {
     Save,
     Restore,
@@ -48,7 +50,7 @@ pub enum ImageWord {
 
 // What a word of a journal asks for: a call, or a line of the journal's own. Lend is `tlen`, and Room is `alen`; the
 // word after `hub` names a call on bytes.
-#[derive(Drop)]
+#[derive(Clone, Copy)]
 pub enum Command {
     Call(CallWord),
     Look,
@@ -64,14 +66,14 @@ pub enum Command {
 }
 
 // What a word stands for.
-#[derive(Drop)]
+#[derive(Clone, Copy)]
 pub enum Parsed {
     Value(i64),
     Nothing,
 }
 
 // How many numbers were read.
-#[derive(Drop)]
+#[derive(Clone, Copy)]
 pub enum Taken {
     Count(usize),
     Nothing,

@@ -1,4 +1,6 @@
 // The buffers that a line of a journal lends to a call, and what is printed of them.
+#![tactic(auto)]
+
 ghost use Rattle.std.specs.Prelude.{◌++◌, ◌≡◌, ◌+◌, ◌*◌, ◌≤◌, length, take, replicate};
 ghost use Rattle.buffers.specs.Buffers.{numbers_held, with_numbers};
 ghost use Rattle.printing.specs.Rows.{row_bytes, row_of, Printed};

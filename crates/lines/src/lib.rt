@@ -1,5 +1,7 @@
 // The lines of a journal: each takes its numbers, works on the bytes of the register's buffer and writes its text at
 // place `at` of the output. It answers the place after the text, or `at` where the line is no call.
+#![tactic(auto)]
+
 ghost use Rattle.std.specs.Prelude.{◌≡◌, ◌+◌, ◌≤◌, length};
 ghost use Rattle.printing.specs.Rows.{row_bytes, Printed};
 ghost use Rattle.lines.specs.Lines.{buffer_numbers, buffer_bytes, line_numbers, most_room, most_bytes, table_room, call_line, look_line, poke_line, table_line, convertible as Lines·convertible, taken_over, convert_line, line_of, lengths as Lines·lengths, lendable as Lines·lendable, shown, hub_line, Played};

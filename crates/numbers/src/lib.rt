@@ -1,6 +1,8 @@
 // Numbers of the register: signed numbers read as naturals, energies raised by 1,000,000, and the shares of an
 // entry's days. A `requires` here is met by every caller, since a table and a call's numbers are tested before
 // they are used: the public calls refuse, and nothing above this crate hands on what it has not tested.
+#![tactic(auto)]
+
 ghost use Rattle.std.specs.Prelude.{◌≡◌, ◌+◌, ◌-◌, ◌<◌, ◌≤◌, ◌^◌, length, get_or, set, pos};
 ghost use Rattle.std.proofs.Math.IntN.{sub_ℕ};
 ghost use Rattle.numbers.specs.Naturals.{nat_of};

@@ -1,4 +1,6 @@
 // The two calls that make a register and its points: fresh empties the lent table, open adds a point behind the others.
+#![tactic(auto)]
+
 ghost use Rattle.std.specs.Prelude.{◌≡◌, ◌&&◌, ◌<◌, ◌≤◌, ◌^◌, pos, negsuc, length};
 ghost use Rattle.numbers.specs.Naturals.{nat_of};
 ghost use Rattle.numbers.specs.Answers.{refused};

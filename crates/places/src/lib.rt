@@ -1,5 +1,7 @@
 // The places of the register table, as document 01 has them, and what stands at single places. A `requires` here is met
 // by every caller: a part is long enough, and a row is one that its count tells.
+#![tactic(auto)]
+
 ghost use Rattle.std.specs.Prelude.{◌≡◌, ◌+◌, ◌<◌, ◌≤◌, ◌^◌, pos, length, get_or};
 ghost use Rattle.numbers.specs.InnerEnergies.{bias_of};
 ghost use Rattle.layout.specs.Places.{points_place, nondaily_place, daily_place, header_length, mirn_place, kind_place, install_place, base_place, reg_count, off_count, rec_count, pending_user, pending_first, pending_last, section_place, recs_place, reg_place, off_place, rec_place};

@@ -1,4 +1,6 @@
 // Plays a journal: reads calls from its input, one a line, on one register, and writes a row of numbers for each.
+#![tactic(auto)]
+
 ghost use Rattle.std.specs.Prelude.{◌≡◌, ◌+◌, ◌≤◌, length};
 ghost use Rattle.lines.specs.Lines.{buffer_bytes, line_numbers};
 ghost use Rattle.imagelines.specs.ImageLines.{images_bytes};
@@ -14,7 +16,7 @@ const OUT_BYTES: usize = 32768;
 // Where a player stands: the numbers of the buffer that calls are lent, those of the answer table, the lines that have
 // ended, the bytes of the present line (one more than LINE_BYTES if it is longer), the bytes of output that wait, and
 // whether input may follow.
-#[derive(Drop)]
+#[derive(Clone, Copy)]
 pub struct Standing {
     pub lent: usize,
     pub room: usize,
@@ -98,7 +100,7 @@ fn obey(
     }
 }
 
-#[derive(Drop)]
+#[derive(Clone, Copy)]
 struct Word {
     start: usize,
     end: usize,

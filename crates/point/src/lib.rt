@@ -1,5 +1,7 @@
 // Readers of one point's part of the register table: its numbers, the days of its off spans, and whether days fit its
 // kind. A number that is no day reads as one above every day.
+#![tactic(auto)]
+
 ghost use Rattle.std.specs.Prelude.{◌≡◌, ◌+◌, ◌<◌, ◌≤◌, ◌^◌, length};
 ghost use Rattle.daybook.specs.Notices.{fits_kind};
 ghost use Rattle.layout.specs.Places.{off_place};

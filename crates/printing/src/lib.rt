@@ -1,4 +1,6 @@
 // Rows of numbers, and bytes, as text. What is printed waits in the caller's buffer, from 0 to `at`.
+#![tactic(auto)]
+
 ghost use Rattle.std.specs.Prelude.{◌∷◌, [], ◌++◌, map, cond, ◌≡◌, ◌+◌, ◌*◌, ◌<◌, ◌≤◌, eqb, pos, length, take};
 ghost use Rattle.io.specs.Digits.{hex_digit_ascii};
 ghost use Rattle.printing.specs.Rows.{decimal_of, text_of, row_of, unknown_of, hex_digits, hex_of, Printed};

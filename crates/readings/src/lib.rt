@@ -1,6 +1,8 @@
 // What is read off one point's part of the table: the energy and the filled days between two days, the FRO and the
 // status of a day, the weight T of an allocation and a daily point's gas. No function walks days: a record's energy
 // between two days is the difference of two parts, since its shares telescope. A sum is raised, so that it is natural.
+#![tactic(auto)]
+
 ghost use Rattle.std.specs.Prelude.{◌≡◌, ◌&&◌, cond, suc, ◌+◌, ◌-◌, ◌*◌, ◌<◌, ◌≤◌, leb, length, pos};
 ghost use Rattle.std.proofs.Math.IntN.{sub_ℕ};
 ghost use Rattle.numbers.specs.Sums.{sum_from, sum_over};

@@ -1,5 +1,7 @@
 // The reserves of the four operators (document 02, g): how many points each holds, and how many of those reserved for
 // it are unfilled, in the table's edition or in the one that it is to be converted to (k).
+#![tactic(auto)]
+
 ghost use Rattle.std.specs.Prelude.{◌≡◌, true, cond, ◌≤◌, eqb, length};
 ghost use Rattle.daybook.specs.Notices.{operators_in, held as held_by, unfilled as unfilled_of, over_four, others_unfilled};
 ghost use Rattle.lists.specs.Lists.{operator_of};

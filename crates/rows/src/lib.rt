@@ -1,5 +1,7 @@
 // Row writers: each writes one row of a point's part p, with the count that it changes, and nothing else. A `requires`
 // here is met by every caller: a part is long enough, and counts and numbers have been tested.
+#![tactic(auto)]
+
 ghost use Rattle.std.specs.Prelude.{◌≡◌, ◌++◌, ◌+◌, ◌<◌, ◌≤◌, ◌^◌, pos, negsuc, length, set, take, drop};
 ghost use Rattle.numbers.specs.InnerEnergies.{energy_of};
 ghost use Rattle.lists.specs.InnerWell.{FactsOk};

@@ -1,6 +1,8 @@
 // Soundness of one point's part of the register table. A part of any length is tested: how many records it holds is
 // said by its length. Counts are tested first, so that every row that is read lies in the part. Rows are read in order,
 // each once or twice; the spans, once tested, a second time beside the records, with a cursor on the next one.
+#![tactic(auto)]
+
 ghost use Rattle.std.specs.Prelude.{◌≡◌, true, ◌+◌, ◌%◌, ◌<◌, ◌≤◌, ◌^◌, length};
 ghost use Rattle.layout.specs.Places.{install_place, recs_place, off_place, rec_place};
 ghost use Rattle.layout.specs.Layout.{num_at, facts_at};

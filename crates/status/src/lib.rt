@@ -1,5 +1,7 @@
 // status: from its day on a point is off (de-energised), or on again. The public call finds the point; the functions
 // before it work on that point's part alone, which the table's soundness makes the layout of well-formed lists.
+#![tactic(auto)]
+
 ghost use Rattle.std.specs.Prelude.{◌≡◌, ◌≤◌};
 ghost use Rattle.numbers.specs.Answers.{refused};
 ghost use Rattle.daybook.specs.Book.{last_of};

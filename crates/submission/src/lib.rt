@@ -1,5 +1,7 @@
 // submission: a retailer's own allocation, held against the weights and the net section load by which allocate splits
 // (document 02, l). The products of a share and S, and of the load and T, stay below 2^63 in any edition.
+#![tactic(auto)]
+
 ghost use Rattle.std.specs.Prelude.{◌≡◌, false, ◌&&◌, cond, [], ◌∷◌, ◌*◌, ◌≤◌, pos, length, get_or};
 ghost use Rattle.numbers.specs.Answers.{refused};
 ghost use Rattle.numbers.specs.Rows.{all};

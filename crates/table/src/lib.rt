@@ -1,5 +1,7 @@
 // The whole register table, of any edition that fits: is it sound, where does a point stand, what are its numbers, and how
 // many records has the fullest one?
+#![tactic(auto)]
+
 ghost use Rattle.std.specs.Prelude.{◌≡◌, true, ◌<◌, ◌≤◌, max, length, drop};
 ghost use Rattle.numbers.specs.Rows.{all};
 ghost use Rattle.numbers.specs.Search.{maybe};
@@ -14,7 +16,7 @@ ghost use Rattle.table.specs.Lookup.{index_of, look_up};
 use daybook::Edition;
 
 // Where a call finds its point's part, from its first place to past its last; or the row that sends the call back.
-#[derive(Drop)]
+#[derive(Clone, Copy)]
 pub enum Located {
     Refused(u64),
     At { from: usize, to: usize },

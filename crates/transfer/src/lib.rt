@@ -1,5 +1,7 @@
 // Transfer of a point to another User: a request, which waits for a reading in its allowable period, and its withdrawal.
 // Each call finds its point, and lends the point's part to a function that works on that alone.
+#![tactic(auto)]
+
 ghost use Rattle.std.specs.Prelude.{◌≡◌, ◌≤◌};
 ghost use Rattle.numbers.specs.Answers.{refused};
 ghost use Rattle.calendar.specs.Calendar.{allowable_period};

@@ -1,5 +1,7 @@
 // trial: what entering a batch of energy notices would answer (document 02, i). It works on a copy of its own: soundness
 // is tested once, and then each notice is entered by the function that energy enters it by.
+#![tactic(auto)]
+
 ghost use Rattle.std.specs.Prelude.{◌≡◌, true, [], ◌∷◌, ◌+◌, ◌*◌, ◌<◌, ◌≤◌, ◌^◌, pos, length, take, drop};
 ghost use Rattle.numbers.specs.Naturals.{nat_of};
 ghost use Rattle.numbers.specs.Answers.{refused};
@@ -24,7 +26,7 @@ const NOTICE_LENGTH: usize = 6;
 const ANSWER_LENGTH: usize = 5;
 
 // What is counted on the way: the most records that a point had, and how many records were removed.
-#[derive(Drop)]
+#[derive(Clone, Copy)]
 struct Counts {
     most: usize,
     removed: u64,

@@ -1,6 +1,8 @@
 // The line `trial` of a journal: it takes its numbers, tries a batch of notices on the bytes of the register's buffer
 // and writes its text at place `at` of the output. It answers the place after the text, or `at` where the line is no
 // call.
+#![tactic(auto)]
+
 ghost use Rattle.std.specs.Prelude.{◌≡◌, ◌+◌, ◌≤◌, length};
 ghost use Rattle.printing.specs.Rows.{row_bytes};
 ghost use Rattle.lines.specs.Lines.{buffer_numbers, buffer_bytes, Played};

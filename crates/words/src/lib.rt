@@ -1,5 +1,7 @@
 // Little-endian words of 4 and 8 bytes, and check sums of words; a signed word is two's complement.
 // Every `requires` is about lengths alone: callers (the hub's functions) test the lengths first.
+#![tactic(auto)]
+
 ghost use Rattle.std.specs.Prelude.{◌≡◌, ◌+◌, ◌*◌, ◌%◌, ◌^◌, ◌<◌, ◌≤◌, length};
 ghost use Rattle.std.specs.Int.{w64};
 ghost use Rattle.std.proofs.Common.{to_z, of_z};
@@ -124,7 +126,7 @@ pub fn encode(t: &[i64], from: usize, b: &mut [u8], at: usize, n: usize)
 }
 
 // The sum of a run of words and the sum of those running sums, both modulo 2^64.
-#[derive(Drop)]
+#[derive(Clone, Copy)]
 pub struct Checksum {
     pub s1: u64,
     pub s2: u64,
