@@ -51,9 +51,9 @@ fits_le kind start end h = go (eqb kind 0) h
     go false e = omega (arith, eqb-true start end e)
 
 -- well-formed records stand apart, and end by day 39,999
-pub recs_apart : {kind from : ℕ} {offs : List (ℕ × Option ℕ)} {l : List Entry} → Recs kind offs from l → Apart 40000 from l
+pub recs_apart : {kind : ℕ} {offs : List (ℕ × Option ℕ)} {from : ℕ} {l : List Entry} → Recs kind offs from l → Apart 40000 from l
 recs_apart norec = noentry
-recs_apart {kind} {from} {offs} (rec {x = x} a b c e t f r) =
+recs_apart {kind} {offs} {from} (rec {x = x} a b c e t f r) =
     apart (skip_ge offs from x.start a) (fits_le kind x.start x.end b) (omega arith) (recs_apart r)
 
 -- ---- a day and a record

@@ -41,3 +41,4 @@ pub covering_one : {lo : ℕ} {l : List (ℕ × ℕ)} → Regs 0 lo l → Starts
 covering_one (reg {x = x} {l = l} a b c e n r) (starts q) d h =
     let g : x.0 ≤ d = omega (arith, q) in
     rw (user_since 0 x l d g) (covering_since x r d g)
+covering_one {lo = lo} noreg x9 d h = elim x9 [ ]

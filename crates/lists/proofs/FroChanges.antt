@@ -123,6 +123,7 @@ fro_changed_lem {lo} (reg {x = x} {l = l} a b c e n r) (starts s) test d u h k =
         let i = some_user_lem other d x r k b q in
         first_some changed 0 days i.0 (omega arith) (omega (arith, i.3))
         (late i.0 (le-leb d i.0 i.1) ∙ ap other (since i.0 i.1) ∙ i.4)
+fro_changed_lem {lo = lo} noreg x13 test d u h k = elim x13 [ ]
 
 -- ---- an affected User
 
@@ -195,3 +196,4 @@ pub changes_is : {lo : ℕ} {l : List (ℕ × ℕ)} → Regs 0 lo l → StartsOn
 unfolding latest_of last_of
 changes_is {l = x ∷ l} (reg a b c e n r) (starts s) d u h k =
     fro_changed_lem (reg {x = x} {l = l} a b c e n r) (starts s) (λ v. true) d u h k ∙ others_is d u x r (omega (arith, s))
+changes_is {lo = lo} {l = []} _ x5 d u h k = elim x5 [ ]

@@ -100,12 +100,14 @@ entry_front {s = s} {y = y} (apart a b c r) (first {l = l} p) =
         sym (fill_under y (entry_on l) d (omega arith) ∙ entry_none r d (omega arith))
 entry_front {s = s} (apart a b c r) (later {z = z} {l = l} p q f) =
     rw (lt-ltb z.start s p) (ap (fill z) (entry_front r f) ∙ sym (fill_from s z (entry_on l) q))
+entry_front {hi = hi} {s = s} {y = y} (noentry {lo = lo}) x4 = elim x4 [ ]
 
 -- what a recut leaves ends before its start
 apart_front : {hi lo s : ℕ} {y : Entry} {l : List Entry} → Apart hi lo l → Found s y l → Apart s lo (front s l)
 unfolding earlier
 apart_front {s = s} {y = y} (apart a b c r) (first p) = rw (le-ltb y.start s (omega arith)) noentry
 apart_front {s = s} (apart a b c r) (later {z = z} p q f) = rw (lt-ltb z.start s p) (apart a b q (apart_front r f))
+apart_front {hi = hi} {s = s} {y = y} (noentry {lo = lo}) x4 = elim x4 [ ]
 
 -- what an entry leaves on the days is what it leaves of the list
 pub entries_after : {kind from : ℕ} {offs : List (ℕ × Option ℕ)} {l : List Entry} → Recs kind offs from l → (x : Entry) (w : Which) → which_of x.end (starting_on l x.start) ≡ w → (w ≡ append → day_after from l ≤ x.start) → fill x (kept w x.start (entry_on l)) ≡ entry_on (recs_after w x l)
@@ -135,6 +137,7 @@ module _ {kind : ℕ} {offs : List (ℕ × Option ℕ)} (x : Entry) (fits : fits
       rw (eq-eqb y.start x.start p) (rec (a ∙ ap some p) fits day energy type on (subst (λ n. Recs kind offs (suc n) l) k r))
   recs_replaced (rec a b c d t f r) (later {z = z} p q i) k =
       rw (ne_eqb z.start x.start (omega arith)) (rec a b c d t f (recs_replaced r i k))
+  recs_replaced {y = y} (norec {from = from}) x8 k = elim x8 [ ]
 
   recs_recut : {from : ℕ} {y : Entry} {l : List Entry} → Recs kind offs from l → Found x.start y l → Recs kind offs from (front x.start l ++ (x ∷ []))
   unfolding earlier
@@ -142,6 +145,7 @@ module _ {kind : ℕ} {offs : List (ℕ × Option ℕ)} (x : Entry) (fits : fits
       rw (le-ltb y.start x.start (omega arith)) (rec (a ∙ ap some p) fits day energy type on norec)
   recs_recut (rec a b c d t f r) (later {z = z} p q i) =
       rw (lt-ltb z.start x.start p) (rec a b c d t f (recs_recut r i))
+  recs_recut {y = y} (norec {from = from}) x5 = elim x5 [ ]
 
   -- such an entry leaves well-formed records; an append starts on the append day
   pub recs_after_lem : {from : ℕ} {l : List Entry} → Recs kind offs from l → (w : Which) → which_of x.end (starting_on l x.start) ≡ w → (w ≡ append → skip offs (day_after from l) ≡ some x.start) → Recs kind offs from (recs_after w x l)

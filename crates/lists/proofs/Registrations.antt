@@ -51,6 +51,7 @@ user_within (reg {x = x} {l = m} a b c e n r) u d h k = go (leb x.0 d) (λ w. us
 pub user_known : {lo : ℕ} {l : List (ℕ × ℕ)} → Regs 0 lo l → StartsOn lo l → (d : ℕ) → lo ≤ d → (1 ≤ user_on 0 l d) × (user_on 0 l d ≤ 16)
 user_known {lo} (reg {x = x} {l = m} a b c e n r) (starts s) d h =
     rw (user_since 0 x m d (omega (arith, s))) (user_within r x.1 d c e)
+user_known {lo = lo} noreg x9 d h = elim x9 [ ]
 
 -- ---- the days give back the list
 
@@ -262,6 +263,7 @@ pub latest_after : {lo : ℕ} {l : List (ℕ × ℕ)} → Regs 0 lo l → Starts
 unfolding latest_of last_of
 latest_after (reg {x = x} {l = l} a b c e n r) (starts s) =
     let h : x.0 ≤ (last_from x l).0 = last_after x r in omega (arith, s)
+latest_after {lo = lo} noreg x5 = elim x5 [ ]
 
 -- Another User from a day after the latest start on is one more row.
 pub user_from_append : {lo : ℕ} {l : List (ℕ × ℕ)} → Regs 0 lo l → (d u : ℕ) → (latest_of l).0 < d → eqb (latest_of l).1 u ≡ false

@@ -166,7 +166,7 @@ skip_on {d = d} (later {off = off} {on = on} {l = l} a b c r) from s e =
     go false false ih e = ih e
 
 -- where the last record ends before d, so does the first, and the last of those behind it
-end_before : {kind from : ℕ} {offs : List Span} {x : Entry} {l : List Entry} → Recs kind offs from (x ∷ l) → (d : ℕ)
+end_before : {kind : ℕ} {offs : List Span} {from : ℕ} {x : Entry} {l : List Entry} → Recs kind offs from (x ∷ l) → (d : ℕ)
     → maybe false (leb d) (last_end (x ∷ l)) ≡ false → (x.end < d) × (maybe false (leb d) (last_end l) ≡ false)
 unfolding last_end last_of
 end_before (rec {x = x} s f e n t o norec) d h = (leb-false d x.end h, refl)
@@ -175,11 +175,11 @@ end_before {kind} {offs = offs} (rec {x = x} s f e n t o (rec {x = y} s' f' e' n
     (omega (arith, skip_ge offs (suc x.end) y.start s', fits_le kind y.start y.end f'), h)
 
 -- the days of records that end before d stay on
-pub recs_off : {kind from : ℕ} {l : List Span} {rs : List Entry} → Recs kind l from rs → (d : ℕ)
+pub recs_off : {kind : ℕ} {l : List Span} {from : ℕ} {rs : List Entry} → Recs kind l from rs → (d : ℕ)
     → maybe false (leb d) (last_end rs) ≡ false → Recs kind (l ++ ((d, none) ∷ [])) from rs
 unfolding from_on
 recs_off norec d h = norec
-recs_off {kind} {from} {l} (rec {x = x} s f e n t o r) d h =
+recs_off {kind} {l} {from} (rec {x = x} s f e n t o r) d h =
     let k : x.end < d = (end_before (rec {x = x} s f e n t o r) d h).0 in
     rec {x = x} (skip_off l d from x.start (omega (arith, fits_le kind x.start x.end f)) s) f e n t
     (λ y u v. ap (λ g. g y) (off_after l d) ∙ rw (lt-leb d y (omega arith)) (o y u v))
