@@ -44,6 +44,7 @@ module _ (p : List ℤ) where
   starts_at : (n install : ℕ) → StartsOn install (rows_at (reg_row p) 0 n) → (1 ≤ n) × (reg_start p 0 ≡ install)
   unfolding rows_at
   starts_at (suc n) install (starts e) = (omega arith, e)
+  starts_at zero install x' = elim x' [ ]
 
   -- the tests and the lists say the same
   pub registrations_well : (n : ℕ) → 1 ≤ n → regs_ok p n ≡ true
