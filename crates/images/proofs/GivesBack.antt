@@ -117,7 +117,7 @@ module _ (E : Editions) (fit : BothFit E) (t t' : List ℤ) (n : ℤ) (before im
 zeros_number : (m at w : ℕ) → number_at (replicate m 0) at w ≡ 0
 unfolding number_at
 zeros_number m at zero = refl
-zeros_number m at (suc w) = rw (repeated_at 0 m at, zeros_number m (at + 1) w)
+zeros_number m at (suc w) = rw (repeated_at {A = ℕ} 0 m at, zeros_number m (at + 1) w)
 
 pub zero_image : (E : Editions) (t : List ℤ) (n : ℤ) (image : List ℕ) → table_length ≤ length t → is_state n ≡ true → image_length ≤ length image
     → take image_length image ≡ replicate image_length 0 → restore_call E t n image ≡ (pos 17 ∷ [], t)
