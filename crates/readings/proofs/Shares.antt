@@ -50,7 +50,7 @@ part_small {e} ok i j h k =
     part : (m : ℕ) → m ≤ n → partial_energy e.energy n m ≡ energy_of (raised_part u n m)
     part m q = ap (λ z. partial_energy z n m) (sym (bias_is e.energy ok.small)) ∙ sym (raised_partial u n m ok.small l q)
 
-day_small : {kind from : ℕ} {offs : List (ℕ × Option ℕ)} {l : List Entry} → Recs kind offs from l → (d : ℕ) → Small (day_of partial_of (entry_on l d) d)
+day_small : {kind : ℕ} {offs : List (ℕ × Option ℕ)} {from : ℕ} {l : List Entry} → Recs kind offs from l → (d : ℕ) → Small (day_of partial_of (entry_on l d) d)
 unfolding entry_on day_of fill
 day_small norec d = (omega arith, omega arith)
 day_small (rec {x = x} {l = l} a b c e t g r) d = go (place x d) (day_small r d)
