@@ -17,73 +17,73 @@ use Rattle.allocate.proofs.allocate.Tie as tie
 
 -- ---- the places on the way
 
-abbrev passed : tie.After-sum-of → tie.Else2
+abbrev passed : tie.After-sum_of-s → tie.Else-not-in_range
 passed c = c.before.before.before
 
-abbrev with-edition : tie.Else2 → tie.After-edition
-with-edition c = c.before.before.before.before
+abbrev with_edition : tie.Else-not-in_range → tie.After-edition-ed
+with_edition c = c.before.before.before.before
 
-abbrev start : tie.Else2 → tie.Start
-start c = (with-edition c).before
+abbrev start : tie.Else-not-in_range → tie.Start
+start c = (with_edition c).before
 
-abbrev book : tie.Else2 → Book
-book c = table_book (with-edition c).edition.result (start c).args.t.now
+abbrev book : tie.Else-not-in_range → Book
+book c = table_book (with_edition c).edition-ed.result (start c).args.t.now
 
 -- the tests that were passed
-sound-is : (c : tie.Else1) → sound c.before.before.edition.result c.before.before.before.args.t.now ≡ true
-sound-is c = sym c.before.sound.ensures ∙ not-false _ c.if1.false
+sound_is : (c : tie.Else-not-sound) → sound c.before.before.edition-ed.result c.before.before.before.args.t.now ≡ true
+sound_is c = sym c.before.sound.ensures ∙ c.if-not-sound.false
 
-range-is : (c : tie.Else2) → allocation_in_range (start c).args.q (length (start c).args.out.now) ≡ true
-range-is c = sym c.before.in_range.ensures ∙ not-false _ c.if2.false
+range_is : (c : tie.Else-not-in_range) → allocation_in_range (start c).args.q (length (start c).args.out-1.now) ≡ true
+range_is c = sym c.in_range.ensures ∙ c.if-not-in_range.false
 
 -- S is the book's
-sum_is : (c : tie.After-sum-of) → c.sum_of.result ≡ total (weights (start (passed c)).args.q (book (passed c)))
-sum_is c = c.sum_of.ensures ∙ ap total c.before.before.weights-of.ensures.0 ∙ total_padded _
+sum_is : (c : tie.After-sum_of-s) → c.sum_of-s.result ≡ total (weights (start (passed c)).args.q (book (passed c)))
+sum_is c = c.sum_of-s.ensures ∙ ap total c.before.before.weights_of-ws.ensures.0 ∙ total_padded _
 
-returns : tie.Need-returns
+returns : tie.Need-returns-then-not-sound
 returns c =
     let e = c.before.before.before in
-    sent_back_lem 1 e.before.args.out.now c.refused.ensures
-    (call_unsound editions _ _ e.edition.ensures.0 _ _ (sym c.before.before.sound.ensures ∙ not-true _ c.before.if1.true))
+    sent_back_lem 1 e.before.args.out-1.now c.refused.ensures
+    (call_unsound editions _ _ e.edition-ed.ensures.0 _ _ (sym c.before.before.sound.ensures ∙ c.before.if-not-sound.true))
 
-returns-2 : tie.Need-returns-2
-returns-2 c =
+returns_2 : tie.Need-returns-then-not-in_range
+returns_2 c =
     let e = c.before.before.before.before.before in
-    sent_back_lem 2 e.before.args.out.now c.refused2.ensures
-    (call_range editions _ _ e.edition.ensures.0 _ _ (sound-is c.before.before.before) (sym c.before.before.in_range.ensures ∙ not-true _ c.before.if2.true))
+    sent_back_lem 2 e.before.args.out-1.now c.refused-then-not-in_range.ensures
+    (call_range editions _ _ e.edition-ed.ensures.0 _ _ (sound_is c.before.before.before) (sym c.in_range.ensures ∙ c.before.if-not-in_range.true))
 
-weights-of-requires : tie.Need-weights-of-requires
-weights-of-requires c κs =
-    ((with-edition c).edition.ensures.1, sound-is c.before.before, (in_range_tells (start c).args.q (length (start c).args.out.now) (range-is c)).0)
+weights_of_requires : tie.Need-weights_of-ws-requires
+weights_of_requires c κs =
+    ((with_edition c).edition-ed.ensures.1, sound_is c.before.before, (in_range_tells (start c).args.q (length (start c).args.out-1.now) (range_is c)).0)
 
-returns-3 : tie.Need-returns-3
-returns-3 c =
+returns_3 : tie.Need-returns-then-s-eq0
+returns_3 c =
     let m = c.before.before in
     let e = passed m in
-    sent_back_lem 15 (start e).args.out.now c.refused3.ensures
-    (call_weightless editions _ _ (with-edition e).edition.ensures.0 _ _ (sound-is e.before.before) (range-is e) (sym (sum_is m) ∙ c.before.if3.true))
+    sent_back_lem 15 (start e).args.out-1.now c.refused-then-s-eq0.ensures
+    (call_weightless editions _ _ (with_edition e).edition-ed.ensures.0 _ _ (sound_is e.before.before) (range_is e) (sym (sum_is m) ∙ c.before.if-s-eq0.true))
 
-apportion-requires : tie.Need-apportion-requires
-apportion-requires c κs =
+apportion_requires : tie.Need-apportion-requires
+apportion_requires c κs =
     let m = c.before.before.before in
     let e = passed m in
     record {
-      fits = (with-edition e).edition.ensures.1;
-      is_sound = sound-is e.before.before;
-      in_range = range-is e;
-      weigh = m.before.before.weights-of.ensures.0;
-      sum = m.sum_of.ensures;
-      some = omega (arith, c.before.before.if3.false);
-      few = omega (arith, m.before.before.weights-of.ensures.1);
+      fits = (with_edition e).edition-ed.ensures.1;
+      is_sound = sound_is e.before.before;
+      in_range = range_is e;
+      weigh = m.before.before.weights_of-ws.ensures.0;
+      sum = m.sum_of-s.ensures;
+      some = omega (arith, c.before.before.if-s-eq0.false);
+      few = omega (arith, m.before.before.weights_of-ws.ensures.1);
     }
 
-returns-4 : tie.Need-returns-4
-returns-4 c =
+returns_4 : tie.Need-returns
+returns_4 c =
     let else3 = c.before.before.before.before in
     let m = else3.before in
     let e = passed m in
-    handed_out (start e).args.out.now c.before.apportion.ensures
-    (call_given editions _ _ (with-edition e).edition.ensures.0 _ _ (sound-is e.before.before) (range-is e) (λ z. else3.if3.false (sum_is m ∙ z)))
+    handed_out (start e).args.out-1.now c.before.apportion.ensures
+    (call_given editions _ _ (with_edition e).edition-ed.ensures.0 _ _ (sound_is e.before.before) (range_is e) (λ z. else3.if-s-eq0.false (sum_is m ∙ z)))
 
 pub allocate_spec : {M : Type 1} → statement M
 allocate_spec =
@@ -92,11 +92,11 @@ allocate_spec =
     (λ c κs. search rules) (λ c κs. search rules) (λ c κs. search rules)
     returns
     (λ c κs. search rules) (λ c κs. search rules)
-    returns-2
-    weights-of-requires
+    returns_2
+    weights_of_requires
     (λ c. search rules) (λ c κs. search rules) (λ c κs. search rules)
-    returns-3
+    returns_3
     (λ c. search rules)
-    apportion-requires
+    apportion_requires
     (λ c. search rules)
-    returns-4)
+    returns_4)

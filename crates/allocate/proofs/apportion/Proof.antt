@@ -17,40 +17,40 @@ use Rattle.allocate.proofs.apportion.Tie as tie
 
 -- ---- the places on the way
 
-abbrev start : tie.After-net-section-load → tie.Start
+abbrev start : tie.After-net_section_load-load → tie.Start
 start c = c.before.before.before
 
-abbrev split_done : tie.After-fros → tie.After-split-to
+abbrev split_done : tie.After-fros-us → tie.After-split_to
 split_done c = c.before.before.before
 
-abbrev loaded : tie.After-fros → tie.After-net-section-load
+abbrev loaded : tie.After-fros-us → tie.After-net_section_load-load
 loaded c = (split_done c).before.before
 
-fros-is : (c : tie.After-fros)
-    → let a = (start (loaded c)).args in c.fros.result ≡ padded (map (λ p. p.fro (nat_of a.q.gasday)) (points_of a.ed a.t.now))
-fros-is c =
+fros_is : (c : tie.After-fros-us)
+    → let a = (start (loaded c)).args in c.fros-us.result ≡ padded (map (λ p. p.fro (nat_of a.q.gasday)) (points_of a.ed a.t.now))
+fros_is c =
     let a = (start (loaded c)).args in
-    let day = c.before.natural.ensures.0 ∙ natural_read a.q.gasday (sfits_of (loaded c).before.struct_told.given.0.1) in
-    c.fros.ensures ∙ ap (λ g. padded (map (λ p. p.fro g) (points_of a.ed a.t.now))) day
+    let day = c.before.natural.ensures.0 ∙ natural_read a.q.gasday (sfits_of (loaded c).before.struct_told-1.given.0.1) in
+    c.fros-us.ensures ∙ ap (λ g. padded (map (λ p. p.fro g) (points_of a.ed a.t.now))) day
 
-net-section-load-requires : tie.Need-net-section-load-requires
-net-section-load-requires c κs =
+net_section_load_requires : tie.Need-net_section_load-load-requires
+net_section_load_requires c κs =
     let given = c.before.before.requires in (given.fits, given.is_sound, in_range_lem given)
 
-split-to-requires : tie.Need-split-to-requires
-split-to-requires c κs =
+split_to_requires : tie.Need-split_to-requires
+split_to_requires c κs =
     let s = start c.before in
-    (weigh_32 s.pre, (in_range_tells s.args.q (length s.args.out.now) s.pre.in_range).1, c.before.net-section-load.ensures.1, s.pre.some, s.pre.few, s.pre.sum)
+    (weigh_32 s.requires, (in_range_tells s.args.q (length s.args.out-1.now) s.requires.in_range).1, c.before.net_section_load-load.ensures.1, s.requires.some, s.requires.few, s.requires.sum)
 
-totals-requires : tie.Need-totals-requires
-totals-requires c κs =
+totals_requires : tie.Need-totals-all-requires
+totals_requires c κs =
     let f = c.before.before in
     let s = start (loaded f) in
-    let load = (loaded f).net-section-load in
-    let out = (split_done f).split-to.ensures in (
-      ap length (fros-is f) ∙ fros_32 s.pre,
-      rw out (placed_long (split load.result s.args.s 0 s.args.ws.now) s.args.out.now (split_32 s.pre load.result)),
-      subst (SharesBelow 3032000000) (sym out) (shares_small s.pre load.ensures.0 load.ensures.1 s.args.out.now),
+    let load = (loaded f).net_section_load-load in
+    let out = (split_done f).split_to.ensures in (
+      ap length (fros_is f) ∙ fros_32 s.requires,
+      rw out (placed_long (split load.result s.args.s 0 s.args.ws.now) s.args.out-1.now (split_32 s.requires load.result)),
+      subst (SharesBelow 3032000000) (sym out) (shares_small s.requires load.ensures.0 load.ensures.1 s.args.out-1.now),
     )
 
 returns : tie.Need-returns
@@ -58,19 +58,19 @@ unfolding given_of
 returns c =
     let f = c.before.before.before.before in
     let s = start (loaded f) in
-    let is = (loaded f).net-section-load.ensures.0 in
-    let out = (split_done f).split-to.ensures in
-    let nsl = to_z-of_z w64 c.integer.result (sfits_of c.integer.type-inv) ∙ c.integer.ensures ∙ ap pos is in
-    let all = c.before.totals.ensures ∙ ap₂ (λ us xs. map (λ u. pos (total_to us xs u 32)) users) (fros-is f) out ∙ totals_are s.pre is s.args.out.now in
-    (ap₂ (λ z l. pos 0 ∷ z ∷ l) nsl all, out ∙ ap (λ l. placed l s.args.out.now) (shares_are s.pre is))
+    let is = (loaded f).net_section_load-load.ensures.0 in
+    let out = (split_done f).split_to.ensures in
+    let nsl = to_z-of_z w64 c.integer.result (sfits_of c.integer.type_inv) ∙ c.integer.ensures ∙ ap pos is in
+    let all = c.before.totals-all.ensures ∙ ap₂ (λ us xs. map (λ u. pos (total_to us xs u 32)) users) (fros_is f) out ∙ totals_are s.requires is s.args.out-1.now in
+    (ap₂ (λ z l. pos 0 ∷ z ∷ l) nsl all, out ∙ ap (λ l. placed l s.args.out-1.now) (shares_are s.requires is))
 
-pub apportion-spec : {M : Type 1} → statement M
-apportion-spec =
+pub apportion_spec : {M : Type 1} → statement M
+apportion_spec =
     tie.close
     (tie.spec
-    net-section-load-requires
-    split-to-requires
+    net_section_load_requires
+    split_to_requires
     (λ c κs. search rules) (λ c κs. search rules) (λ c. search rules)
-    totals-requires
+    totals_requires
     (λ c κs. search rules) (λ c. search rules)
     returns)

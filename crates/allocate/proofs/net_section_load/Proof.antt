@@ -16,22 +16,22 @@ use Rattle.allocate.proofs.net_section_load.Tie as tie
 abbrev start : tie.After-natural → tie.Start
 start c = c.before.before
 
-gasday-is : (c : tie.After-natural) → c.natural.result ≡ nat_of (start c).args.q.gasday
-gasday-is c = c.natural.ensures.0 ∙ natural_read (start c).args.q.gasday (sfits_of c.before.struct_told.given.0.1)
+gasday_is : (c : tie.After-natural) → c.natural.result ≡ nat_of (start c).args.q.gasday
+gasday_is c = c.natural.ensures.0 ∙ natural_read (start c).args.q.gasday (sfits_of c.before.struct_told-1.given.0.1)
 
-metered-requires : tie.Need-metered-requires
-metered-requires c κs =
+metered_requires : tie.Need-metered-tdm-requires
+metered_requires c κs =
     let (fits, is_sound, ok) = (start c).requires in
-    (fits, is_sound, rw (gasday-is c) ok.gasday_low, rw (gasday-is c) ok.gasday_high)
+    (fits, is_sound, rw (gasday_is c) ok.gasday_low, rw (gasday_is c) ok.gasday_high)
 
-points-requires : tie.Need-points-requires
-points-requires c κs = omega (arith, (sound_long _ _ (start c.before).requires.1).0)
+points_requires : tie.Need-points-requires
+points_requires c κs = omega (arith, (sound_long _ _ (start c.before).requires.1).0)
 
-net-load-requires : tie.Need-net-load-requires
-net-load-requires c κs =
+net_load_requires : tie.Need-net_load-requires
+net_load_requires c κs =
     let (fits, is_sound, ok) = (start c.before.before).requires in
     let n = (sound_long _ _ is_sound).1 in
-    (ok.tdq_ok, ok.uag_ok, ok.clp_ok, omega (arith, c.points.ensures.0, n, fits.few), rw c.points.ensures.0 c.before.metered.ensures.1)
+    (ok.tdq_ok, ok.uag_ok, ok.clp_ok, omega (arith, c.points.ensures.0, n, fits.few), rw c.points.ensures.0 c.before.metered-tdm.ensures.1)
 
 returns : tie.Need-returns
 returns c =
@@ -39,15 +39,15 @@ returns c =
     let s = (start m.before).args in
     let (fits, is_sound, ok) = (start m.before).requires in
     let B = table_book s.ed s.t.now in
-    let is = load_is s.q B m.metered.result _ (c.net_load.ensures ∙ ap (λ k. at_least0 (load_of s.q m.metered.result (1000000 * k))) c.before.points.ensures.0) (m.metered.ensures.0 ∙ ap (λ g. tdm_of g B) (gasday-is m.before)) in
+    let is = load_is s.q B m.metered-tdm.result _ (c.net_load.ensures ∙ ap (λ k. at_least0 (load_of s.q m.metered-tdm.result (1000000 * k))) c.before.points.ensures.0) (m.metered-tdm.ensures.0 ∙ ap (λ g. tdm_of g B) (gasday_is m.before)) in
     (is, rw is (nsl_small s.ed fits s.t.now is_sound s.q ok))
 
-pub net-section-load-spec : {M : Type 1} → statement M
-net-section-load-spec =
+pub net_section_load_spec : {M : Type 1} → statement M
+net_section_load_spec =
     tie.close
     (tie.spec
     (λ c κs. search rules)
-    metered-requires
-    points-requires
-    net-load-requires
+    metered_requires
+    points_requires
+    net_load_requires
     returns)

@@ -11,16 +11,16 @@ use Rattle.allocate.proofs.raised_load.Tie as tie
 sum_is : (c : tie.Start) → rd c.args.x +ℤ pos 1000000000 ≡ pos (raised c.args.x)
 sum_is c = ap (λ z. z +ℤ pos 1000000000) (to_z-of_z w64 c.args.x c.ranges.x) ∙ load_raised c.args.x c.requires
 
-add-result : tie.Need-overflow-add-result
-add-result c = rw (sum_is c) (pos_sfits (omega (arith, load_small c.args.x c.requires)))
+add_result : tie.Need-overflow_add-result
+add_result c = rw (sum_is c) (pos_sfits (omega (arith, load_small c.args.x c.requires)))
 
-cast-result : tie.Need-overflow-cast-result
-cast-result c = (pos_cast (sum_is c) (omega (arith, load_small c.args.x c.requires))).0
+cast_result : tie.Need-overflow_cast-result
+cast_result c = (pos_cast (sum_is c) (omega (arith, load_small c.args.x c.requires))).0
 
 returns : tie.Need-returns
 returns c =
     let is = (pos_cast (sum_is c) (omega (arith, load_small c.args.x c.requires))).1 in
     rw is (load_back c.args.x c.requires, load_small c.args.x c.requires)
 
-pub raised-load-spec : {M : Type 1} → statement M
-raised-load-spec = tie.close (tie.spec add-result cast-result returns)
+pub raised_load_spec : {M : Type 1} → statement M
+raised_load_spec = tie.close (tie.spec add_result cast_result returns)

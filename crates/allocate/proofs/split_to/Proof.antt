@@ -13,55 +13,55 @@ use Rattle.allocate.proofs.Splits.{sum_step, sum_none, next_small, part_small, p
 use Rattle.allocate.proofs.split_to.Statement.{statement}
 use Rattle.allocate.proofs.split_to.Tie as tie
 
-abbrev invariant-loop : tie.invariant-loop
-invariant-loop ws load s out₀ sum₀ low₀ k₀ out sum low k =
+abbrev invariant_loop : tie.invariant-loop-k
+invariant_loop ws load s out₀ sum₀ low₀ k₀ out sum low k =
     (k ≤ 32) × (length out ≡ length out₀) × (sum ≡ total (take k ws)) × (low ≡ (load * sum) / s) × (out ≡ split load s 0 (take k ws) ++ drop k out₀)
 
-abbrev decreases-loop : tie.decreases-loop
-decreases-loop ws load s out₀ sum₀ low₀ k₀ out sum low k = 32 - k
+abbrev decreases_loop : tie.decreases-loop-k
+decreases_loop ws load s out₀ sum₀ low₀ k₀ out sum low k = 32 - k
 
 -- the sum after this turn
-more-small : (c : tie.After-shared-slice-known2 invariant-loop decreases-loop)
-    → c.before.before.loop.sum + get_or c.before.before.before.before.args.ws.now c.before.before.loop.k 0 ≤ c.before.before.before.before.args.s
-more-small c =
+more_small : (c : tie.After-shared_slice_known-in-loop-k-1 invariant_loop decreases_loop)
+    → c.before.before.loop-k.sum + get_or c.before.before.before.before.args.ws.now c.before.before.loop-k.k 0 ≤ c.before.before.before.before.args.s
+more_small c =
     let s = c.before.before.before.before in
-    let k = c.before.before.loop in
+    let k = c.before.before.loop-k in
     next_small s.args.ws.now k.k 32 s.args.s k.sum (omega arith) s.requires.0 s.requires.5 k.invariant.2
 
-loop-holds : tie.Need-loop-init invariant-loop decreases-loop
+loop_holds : tie.Need-loop-k-init invariant_loop decreases_loop
 unfolding split
-loop-holds c = (omega arith, refl, sym (sum_none c.before.args.ws.now), sym (nothing_yet c.before.args.load c.before.args.s), refl)
+loop_holds c = (omega arith, refl, sym (sum_none c.before.args.ws.now), sym (nothing_yet c.before.args.load c.before.args.s), refl)
 
-add-sum : tie.Need-overflow-add-sum invariant-loop decreases-loop
-add-sum c = record { fits = omega (arith, more-small c, c.before.before.before.before.requires.4) }
+add_sum : tie.Need-overflow_add-sum invariant_loop decreases_loop
+add_sum c = record { fits = omega (arith, more_small c, c.before.before.before.before.requires.4) }
 
-mul-high : tie.Need-overflow-mul-high invariant-loop decreases-loop
-mul-high c =
+mul_high : tie.Need-overflow_mul-high invariant_loop decreases_loop
+mul_high c =
     let s = c.before.before.before.before in
-    let k = c.before.before.loop in
-    record { fits = omega (arith, product_small s.args.load (k.sum + get_or s.args.ws.now k.k 0) s.requires.2 (omega (arith, more-small c, s.requires.4))) }
+    let k = c.before.before.loop-k in
+    record { fits = omega (arith, product_small s.args.load (k.sum + get_or s.args.ws.now k.k 0) s.requires.2 (omega (arith, more_small c, s.requires.4))) }
 
-div-high : tie.Need-nonzero-div-high invariant-loop decreases-loop
-div-high c = c.before.before.before.before.requires.3
+div_high : tie.Need-nonzero_div-high invariant_loop decreases_loop
+div_high c = c.before.before.before.before.requires.3
 
-sub-put : tie.Need-overflow-sub-put invariant-loop decreases-loop
-sub-put c =
+sub_put : tie.Need-overflow_sub-high invariant_loop decreases_loop
+sub_put c =
     let s = c.before.before.before.before.before in
-    let k = c.before.before.before.loop in
+    let k = c.before.before.before.loop-k in
     rw k.invariant.3 (part_up s.args.load k.sum (get_or s.args.ws.now k.k 0) s.args.s s.requires.3)
 
-put-requires : tie.Need-put-requires invariant-loop decreases-loop
-put-requires c κs =
+put_requires : tie.Need-put-requires invariant_loop decreases_loop
+put_requires c κs =
     let s = c.before.before.before.before.before in
-    let k = c.before.before.before.loop in
-    let small = part_small s.args.load (k.sum + get_or s.args.ws.now k.k 0) s.args.s s.requires.3 (more-small c.before) in
+    let k = c.before.before.before.loop-k in
+    let small = part_small s.args.load (k.sum + get_or s.args.ws.now k.k 0) s.args.s s.requires.3 (more_small c.before) in
     (omega (arith, k.invariant.1, s.requires.1), omega (arith, small, s.requires.2))
 
-loop-again : tie.Need-loop-preserved invariant-loop decreases-loop
-loop-again c =
+loop_again : tie.Need-loop-k-preserved invariant_loop decreases_loop
+loop_again c =
     let in-loop = c.before.before.before.before in
     let s = in-loop.before.before.before in
-    let k = in-loop.before.loop in
+    let k = in-loop.before.loop-k in
     let ws = s.args.ws.now in
     let e : k.sum ≡ total (take k.k ws) = k.invariant.2 in
     let low : k.low ≡ (s.args.load * total (take k.k ws)) / s.args.s = k.invariant.3 ∙ ap (λ x. (s.args.load * x) / s.args.s) e in
@@ -71,34 +71,34 @@ loop-again c =
       rw e (sym (sum_step ws k.k inside)),
       refl,
       c.before.put.ensures
-          ∙ ap₂ (λ a l. set k.out k.k (pos ((s.args.load * (a + get_or ws k.k 0)) / s.args.s - l))) e low
-          ∙ split_step s.args.load s.args.s ws s.args.out.now k.out k.k s.requires.3 inside (omega (arith, s.requires.1)) k.invariant.4,
+          ∙ ap₂ (λ a l. set k.out-1 k.k (pos ((s.args.load * (a + get_or ws k.k 0)) / s.args.s - l))) e low
+          ∙ split_step s.args.load s.args.s ws s.args.out-1.now k.out-1 k.k s.requires.3 inside (omega (arith, s.requires.1)) k.invariant.4,
     )
 
-returns : tie.Need-returns invariant-loop decreases-loop
+returns : tie.Need-returns invariant_loop decreases_loop
 unfolding placed
 returns c =
     let s = c.before.before.before in
     let ws = s.args.ws.now in
-    let e : c.before.loop.k ≡ 32 = omega arith in
+    let e : c.before.loop-k.k ≡ 32 = omega arith in
     let all : take 32 ws ≡ ws = take_all 32 ws (omega (arith, s.requires.0)) in
-    c.before.loop.invariant.4
-    ∙ ap (λ k. split s.args.load s.args.s 0 (take k ws) ++ drop k s.args.out.now) e
-    ∙ ap₂ (λ l n. split s.args.load s.args.s 0 l ++ drop n s.args.out.now) all (sym (split_length s.args.load s.args.s 0 ws ∙ s.requires.0))
+    c.before.loop-k.invariant.4
+    ∙ ap (λ k. split s.args.load s.args.s 0 (take k ws) ++ drop k s.args.out-1.now) e
+    ∙ ap₂ (λ l n. split s.args.load s.args.s 0 l ++ drop n s.args.out-1.now) all (sym (split_length s.args.load s.args.s 0 ws ∙ s.requires.0))
 
-pub split-to-spec : {M : Type 1} → statement M
-split-to-spec =
+pub split_to_spec : {M : Type 1} → statement M
+split_to_spec =
     tie.close
     (tie.spec
-    invariant-loop decreases-loop
-    loop-holds
+    invariant_loop decreases_loop
+    loop_holds
     (λ c. search rules) (λ c. search rules)
-    add-sum
-    mul-high
-    div-high
-    sub-put
-    put-requires
+    add_sum
+    mul_high
+    div_high
+    sub_put
+    put_requires
     (λ c. search rules) (λ c. search rules)
-    loop-again
+    loop_again
     (λ c. search rules)
     returns)

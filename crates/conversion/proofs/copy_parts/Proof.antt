@@ -13,21 +13,21 @@ use Rattle.conversion.proofs.CopiedParts.{lent_length, part_copied, parts_none}
 use Rattle.conversion.proofs.copy_parts.Statement.{statement}
 use Rattle.conversion.proofs.copy_parts.Tie as tie
 
-abbrev invariant-loop : tie.invariant-loop
-invariant-loop t ed to second₀ n i₀ second i =
-    (i ≤ n) × (n ≡ num_at t 0) × (n ≤ ed.points) × (n ≤ to.points) × (7688 ≤ length t) × (length second ≡ length second₀) × (second ≡ parts_into ed to t second₀ i)
+abbrev invariant_loop : tie.invariant-loop-i
+invariant_loop t ed to second₀ n i₀ second i =
+    (i ≤ n) × (n ≡ num_at t 0) × (n ≤ ed.points-n) × (n ≤ to.points-n) × (7688 ≤ length t) × (length second ≡ length second₀) × (second ≡ parts_into ed to t second₀ i)
 
-abbrev decreases-loop : tie.decreases-loop
-decreases-loop t ed to second₀ n i₀ second i = n - i
+abbrev decreases_loop : tie.decreases-loop-i
+decreases_loop t ed to second₀ n i₀ second i = n - i
 
-points-requires : tie.Need-points-requires invariant-loop decreases-loop
-points-requires c κs = omega (arith, sound_long _ _ c.requires.is_sound)
+points_requires : tie.Need-points-n-requires invariant_loop decreases_loop
+points_requires c κs = omega (arith, sound_long _ _ c.requires.is_sound)
 
-loop-holds : tie.Need-loop-init invariant-loop decreases-loop
-loop-holds c =
+loop_holds : tie.Need-loop-i-init invariant_loop decreases_loop
+loop_holds c =
     let s = c.before in
     let k = sound_long _ _ s.requires.is_sound in
-    let p = c.points.ensures.0 in (
+    let p = c.points-n.ensures.0 in (
       omega arith,
       p,
       omega arith,
@@ -39,65 +39,65 @@ loop-holds c =
 
 -- ---- a turn
 
-abbrev turn : tie.After-part invariant-loop decreases-loop → tie.At-loop invariant-loop decreases-loop
+abbrev turn : tie.After-part invariant_loop decreases_loop → tie.At-loop-i invariant_loop decreases_loop
 turn p = p.before.before.before.before
 
-abbrev start : tie.After-part invariant-loop decreases-loop → tie.Start invariant-loop decreases-loop
+abbrev start : tie.After-part invariant_loop decreases_loop → tie.Start invariant_loop decreases_loop
 start p = (turn p).before.before
 
-long : (p : tie.After-part invariant-loop decreases-loop) → length (lent (turn p).loop.second p.before.before.place.result p.before.place2.result) ≡ stride (start p).args.to
+long : (p : tie.After-part invariant_loop decreases_loop) → length (lent (turn p).loop-i.second-1 p.before.before.place-a.result p.before.place-b.result) ≡ stride (start p).args.to
 long p =
-    let l = (turn p).loop in
+    let l = (turn p).loop-i in
     let s = start p in
-    lent_length s.args.to s.pre.other l.second l.i _ _ (omega arith) (omega arith) p.before.before.place.ensures.0 p.before.place2.ensures.0
+    lent_length s.args.to s.requires.other l.second-1 l.i _ _ (omega arith) (omega arith) p.before.before.place-a.ensures.0 p.before.place-b.ensures.0
 
-copy-part-requires : tie.Need-copy-part-requires invariant-loop decreases-loop
-copy-part-requires c κs =
+copy_part_requires : tie.Need-copy_part-requires invariant_loop decreases_loop
+copy_part_requires c κs =
     let p = c.before in
-    let l = (turn p).loop in
+    let l = (turn p).loop-i in
     let s = start p in
     let n = long p in
     let e = p.part.ensures in
-    let h = records_fit s.args.ed s.args.to s.pre.own s.args.t.now s.pre.is_sound s.pre.room l.i (omega arith) in (
-      subst SoundPart (sym e) (sound_at s.args.ed s.pre.own s.args.t.now l.i s.pre.is_sound (omega arith)),
+    let h = records_fit s.args.ed s.args.to s.requires.own s.args.t.now s.requires.is_sound s.requires.room l.i (omega arith) in (
+      subst SoundPart (sym e) (sound_at s.args.ed s.requires.own s.args.t.now l.i s.requires.is_sound (omega arith)),
       omega (arith, ap (λ p. num_at p 6) e),
       omega arith,
     )
 
-loop-again : tie.Need-loop-preserved invariant-loop decreases-loop
-loop-again c =
+loop_again : tie.Need-loop-i-preserved invariant_loop decreases_loop
+loop_again c =
     let k = c.before in
     let p = k.before.before in
-    let l = (turn p).loop in
+    let l = (turn p).loop-i in
     let s = start p in (
       omega arith,
-      l.inv.1,
-      l.inv.2,
-      l.inv.3,
-      l.inv.4,
+      l.invariant.1,
+      l.invariant.2,
+      l.invariant.3,
+      l.invariant.4,
       search rules,
-      part_copied s.args.to s.pre.other l.second l.i _ _ (omega arith) (omega arith) p.before.before.place.ensures.0 p.before.place2.ensures.0
-          s.args.ed s.args.t.now s.args.second.now _ _ p.part.ensures l.inv.6 k.copy-part.ensures,
+      part_copied s.args.to s.requires.other l.second-1 l.i _ _ (omega arith) (omega arith) p.before.before.place-a.ensures.0 p.before.place-b.ensures.0
+          s.args.ed s.args.t.now s.args.second-1.now _ _ p.part.ensures l.invariant.6 k.copy_part.ensures,
     )
 
-returns : tie.Need-returns invariant-loop decreases-loop
+returns : tie.Need-returns invariant_loop decreases_loop
 returns c =
-    let l = c.before.loop in
+    let l = c.before.loop-i in
     let s = c.before.before.before.args in
     let e : l.i ≡ num_at s.t.now 0 = omega (arith, l.invariant.1) in
-    l.invariant.6 ∙ ap (parts_into s.ed s.to s.t.now s.second.now) e
+    l.invariant.6 ∙ ap (parts_into s.ed s.to s.t.now s.second-1.now) e
 
-pub copy-parts-spec : {M : Type 1} → statement M
-copy-parts-spec =
+pub copy_parts_spec : {M : Type 1} → statement M
+copy_parts_spec =
     tie.close
     (tie.spec
-    invariant-loop decreases-loop
-    points-requires
-    loop-holds
+    invariant_loop decreases_loop
+    points_requires
+    loop_holds
     (λ c κs. search rules) (λ c. search rules) (λ c κs. search rules) (λ c κs. search rules) (λ c. search rules)
     (λ c. search rules) (λ c. search rules) (λ c. search rules)
-    copy-part-requires
+    copy_part_requires
     (λ c. search rules) (λ c. search rules)
-    loop-again
+    loop_again
     (λ c. search rules)
     returns)

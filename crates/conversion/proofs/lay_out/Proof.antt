@@ -13,26 +13,26 @@ use Rattle.conversion.proofs.lay_out.Tie as tie
 abbrev put : tie.After-clear → tie.After-put
 put a = a.before.before.before
 
-abbrev header : tie.After-put → tie.After-copy-first
+abbrev header : tie.After-put → tie.After-copy_first
 header a = a.before.before.before
 
-abbrev parts : tie.After-copy-first → tie.After-copy-parts
+abbrev parts : tie.After-copy_first → tie.After-copy_parts
 parts a = a.before.before.before
 
-abbrev placed : tie.After-copy-parts → tie.After-place
+abbrev placed : tie.After-copy_parts → tie.After-place-end
 placed a = a.before.before
 
-points-requires : tie.Need-points-requires
-points-requires c κs = omega (arith, sound_long _ _ c.requires.is_sound)
+points_requires : tie.Need-points-requires
+points_requires c κs = omega (arith, sound_long _ _ c.requires.is_sound)
 
-place-requires : tie.Need-place-requires
-place-requires c κs =
+place_requires : tie.Need-place-end-requires
+place_requires c κs =
     let s = c.before in
     (s.requires.other, omega (arith, c.points.ensures.0, points_fit s.args.ed s.args.to s.args.t.now s.requires.room))
 
-copy-first-requires : tie.Need-copy-first-requires
-copy-first-requires c κs =
-    let s = (placed c.before.before).before.before in (omega arith, omega (arith, sound_long _ _ s.pre.is_sound))
+copy_first_requires : tie.Need-copy_first-requires
+copy_first_requires c κs =
+    let s = (placed c.before.before).before.before in (omega arith, omega (arith, sound_long _ _ s.requires.is_sound))
 
 returns : tie.Need-returns
 returns c =
@@ -42,17 +42,17 @@ returns c =
     let n = (placed w).before in
     let s = n.before in
     c.before.clear.ensures
-    ∙ laid_out s.args.ed s.args.to s.pre.own s.pre.other s.args.t.now s.pre.is_sound s.pre.room s.args.second.now s.pre.long
-    _ _ _ _ w.copy_parts.ensures h.copy-first.ensures p.put.ensures
-    ((placed w).place.ensures.0 ∙ ap (place_of s.args.to) n.points.ensures.0)
+    ∙ laid_out s.args.ed s.args.to s.requires.own s.requires.other s.args.t.now s.requires.is_sound s.requires.room s.args.second-1.now s.requires.long
+    _ _ _ _ w.copy_parts.ensures h.copy_first.ensures p.put.ensures
+    ((placed w).place-end.ensures.0 ∙ ap (place_of s.args.to) n.points.ensures.0)
 
-pub lay-out-spec : {M : Type 1} → statement M
-lay-out-spec =
+pub lay_out_spec : {M : Type 1} → statement M
+lay_out_spec =
     tie.close
     (tie.spec
-    points-requires
-    place-requires
+    points_requires
+    place_requires
     (λ c κs. search rules)
-    copy-first-requires
+    copy_first_requires
     (λ c κs. search rules) (λ c. search rules) (λ c κs. search rules) (λ c. search rules)
     returns)

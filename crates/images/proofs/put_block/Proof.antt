@@ -5,16 +5,16 @@ use Rattle.images.proofs.put_block.Tie as tie
 
 -- ---- the places on the way
 
-abbrev checked : tie.After-put-number8 → tie.After-check
+abbrev checked : tie.After-put_number8 → tie.After-check-sum
 checked a = a.before.before
 
-abbrev numbered : tie.After-check → tie.After-put-number42
+abbrev numbered : tie.After-check-sum → tie.After-put_number4-2
 numbered a = a.before.before.before.before
 
-abbrev named : tie.After-put-number42 → tie.After-put-number4
+abbrev named : tie.After-put_number4-2 → tie.After-put_number4
 named a = a.before.before.before.before
 
-abbrev encoded : tie.After-put-number4 → tie.After-encode
+abbrev encoded : tie.After-put_number4 → tie.After-encode
 encoded a = a.before.before.before.before
 
 returns : tie.Need-returns
@@ -23,10 +23,10 @@ returns c =
     let sum = checked last in
     let block = numbered sum in
     let state = named block in
-    block_put _ _ _ _ _ _ _ _ _ (encoded state).encode.ensures state.put-number4.ensures block.put-number42.ensures sum.check.ensures last.put-number8.ensures
+    block_put _ _ _ _ _ _ _ _ _ (encoded state).encode.ensures state.put_number4.ensures block.put_number4-2.ensures sum.check-sum.ensures last.put_number8.ensures
 
-pub put-block-spec : {M : Type 1} → statement M
-put-block-spec =
+pub put_block_spec : {M : Type 1} → statement M
+put_block_spec =
     tie.close
     (tie.spec
     (λ c. search rules) (λ c. search rules) (λ c κs. search rules) (λ c. search rules) (λ c κs. search rules)

@@ -15,65 +15,65 @@ use Rattle.images.proofs.save.Tie as tie
 
 -- ---- the places on the way, and what the tests say
 
-abbrev start : tie.After-edition → tie.Start
+abbrev start : tie.After-edition-ed → tie.Start
 start a = a.before.before
 
-sound-is : (a : tie.After-sound) → a.sound.result ≡ sound (edition_of (start a.before).args.t.now) (start a.before).args.t.now
-sound-is a = a.sound.ensures ∙ ap (λ ed. sound ed (start a.before).args.t.now) a.before.edition.ensures.0
+sound_is : (a : tie.After-sound) → a.sound.result ≡ sound (edition_of (start a.before).args.t.now) (start a.before).args.t.now
+sound_is a = a.sound.ensures ∙ ap (λ ed. sound ed (start a.before).args.t.now) a.before.edition-ed.ensures.0
 
-whole : (e : tie.Else1) → sound (edition_of (start e.before.before).args.t.now) (start e.before.before).args.t.now ≡ true
-whole e = sym (sound-is e.before) ∙ not-false _ e.if1.false
+whole : (e : tie.Else-not-sound) → sound (edition_of (start e.before.before).args.t.now) (start e.before.before).args.t.now ≡ true
+whole e = sym (sound_is e.before) ∙ e.if-not-sound.false
 
-abbrev else1 : tie.After-in-range → tie.Else1
+abbrev else1 : tie.After-in_range → tie.Else-not-sound
 else1 a = a.before.before
 
-abbrev begun : tie.After-in-range → tie.Start
+abbrev begun : tie.After-in_range → tie.Start
 begun a = start (else1 a).before.before
 
-asked_is : (a : tie.After-in-range) → a.in_range.result ≡ asked (begun a).args.state (begun a).args.image.now
+asked_is : (a : tie.After-in_range) → a.in_range.result ≡ asked (begun a).args.state (begun a).args.image-1.now
 asked_is a =
     a.in_range.ensures
-    ∙ test_read (begun a).args.state (begun a).ranges.state (λ z. is_state z && leb image_length (length (begun a).args.image.now))
+    ∙ test_read (begun a).args.state (begun a).ranges.state (λ z. is_state z && leb image_length (length (begun a).args.image-1.now))
 
-passed : (e : tie.Else2) → asked (begun e.before).args.state (begun e.before).args.image.now ≡ true
-passed e = sym (asked_is e.before) ∙ not-false _ e.if2.false
+passed : (e : tie.Else-not-in_range) → asked (begun e.before).args.state (begun e.before).args.image-1.now ≡ true
+passed e = sym (asked_is e.before) ∙ e.if-not-in_range.false
 
-returns : tie.Need-returns
-returns c = tells (save_unsound editions _ _ _ (sym (sound-is c.before) ∙ not-true _ c.if1.true)) refl
+returns : tie.Need-returns-then-not-sound
+returns c = tells (save_unsound editions _ _ _ (sym (sound_is c.before) ∙ c.if-not-sound.true)) refl
 
-returns-2 : tie.Need-returns-2
-returns-2 c = tells (save_out editions _ _ _ (whole (else1 c.before)) (sym (asked_is c.before) ∙ not-true _ c.if2.true)) refl
+returns_2 : tie.Need-returns-then-not-in_range
+returns_2 c = tells (save_out editions _ _ _ (whole (else1 c.before)) (sym (asked_is c.before) ∙ c.if-not-in_range.true)) refl
 
-put-blocks-requires : tie.Need-put-blocks-requires
-put-blocks-requires c κs =
+put_blocks_requires : tie.Need-put_blocks-requires
+put_blocks_requires c κs =
     let e = c.before.before in
     let a = (begun e.before).args in (
       (sound_long _ a.t.now (whole (else1 e.before))).0,
-      leb-true image_length (length a.image.now) (both (is_state a.state) (leb image_length (length a.image.now)) (passed e)).1,
+      leb-true image_length (length a.image-1.now) (both (is_state a.state) (leb image_length (length a.image-1.now)) (passed e)).1,
     )
 
-returns-3 : tie.Need-returns-3
-returns-3 c =
+returns_3 : tie.Need-returns
+returns_3 c =
     let a = c.before.before in
     let e = a.before.before.before in
     let s = begun e.before in
-    let w = gives (save_entered editions s.args.t.now s.args.state s.args.image.now (whole (else1 e.before)) (passed e)) in (
+    let w = gives (save_entered editions s.args.t.now s.args.state s.args.image-1.now (whole (else1 e.before)) (passed e)) in (
       w.0,
-      a.put-blocks.ensures
-          ∙ ap (λ n. with_image n s.args.t.now s.args.image.now) (a.before.before.natural.ensures.0 ∙ natural_read s.args.state s.fits.state)
+      a.put_blocks.ensures
+          ∙ ap (λ n. with_image n s.args.t.now s.args.image-1.now) (a.before.before.natural.ensures.0 ∙ natural_read s.args.state s.fits.state)
           ∙ w.1,
       refl,
     )
 
-pub save-spec : {M : Type 1} → statement M
-save-spec =
+pub save_spec : {M : Type 1} → statement M
+save_spec =
     tie.close
     (tie.spec
     (λ c κs. search rules) (λ c κs. search rules)
     returns
     (λ c κs. search rules) (λ c. search rules)
-    returns-2
+    returns_2
     (λ c κs. search rules)
-    put-blocks-requires
+    put_blocks_requires
     (λ c. search rules)
-    returns-3)
+    returns_3)

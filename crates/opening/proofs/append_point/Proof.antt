@@ -11,19 +11,19 @@ use Rattle.opening.proofs.CallNumbers.{append_is}
 use Rattle.opening.proofs.append_point.Statement.{statement}
 use Rattle.opening.proofs.append_point.Tie as tie
 
-user_is_lem : (c : tie.After-natural) → c.natural.result ≡ nat_of c.before.before.args.n.user
+user_is_lem : (c : tie.After-natural-user) → c.natural-user.result ≡ nat_of c.before.before.args.n.user
 user_is_lem c =
     let s = c.before in
-    c.natural.ensures.0 ∙ natural_read s.before.args.n.user (sfits_of s.struct_told.given.1.1.0.1)
+    c.natural-user.ensures.0 ∙ natural_read s.before.args.n.user (sfits_of s.struct_told-1.given.1.1.0.1)
 
-open-point-requires : tie.Need-open-point-requires
-open-point-requires c κs =
+open_point_requires : tie.Need-open_point-requires
+open_point_requires c κs =
     let b = c.before in
     let r = b.before.before in
     let s = r.before.before.before in
-    let l = ap length (part_is_lem s.args.ed s.requires.0 s.args.t.now s.args.i _ _ b.before.place.ensures.0 b.place2.ensures.0)
-    ∙ part_length s.args.ed s.requires.0 s.args.t.now s.args.i s.requires.1 s.requires.2 in
-    (omega arith, subst FactsOk (sym r.facts-of.ensures) s.requires.3, omega (arith, user_is_lem r.before))
+    let l = ap length (part_is_lem s.args.ed s.requires.0 s.args.t-1.now s.args.i _ _ b.before.place-a.ensures.0 b.place-b.ensures.0)
+    ∙ part_length s.args.ed s.requires.0 s.args.t-1.now s.args.i s.requires.1 s.requires.2 in
+    (omega arith, subst FactsOk (sym r.facts_of-f.ensures) s.requires.3, omega (arith, user_is_lem r.before))
 
 returns : tie.Need-returns
 returns c =
@@ -32,15 +32,15 @@ returns c =
     let f = b.before.before in
     let s = f.before.before.before in
     c.before.put.ensures
-    ∙ append_is s.args.ed s.requires.0 s.args.t.now s.args.i _ _ b.before.place.ensures.0 b.place2.ensures.0 s.args.n
-    f.facts-of.ensures (user_is_lem f.before) o.open_point.ensures
+    ∙ append_is s.args.ed s.requires.0 s.args.t-1.now s.args.i _ _ b.before.place-a.ensures.0 b.place-b.ensures.0 s.args.n
+    f.facts_of-f.ensures (user_is_lem f.before) o.open_point.ensures
 
-pub append-point-spec : {M : Type 1} → statement M
-append-point-spec =
+pub append_point_spec : {M : Type 1} → statement M
+append_point_spec =
     tie.close
     (tie.spec
     (λ c κs. search rules) (λ c κs. search rules) (λ c κs. search rules) (λ c. search rules) (λ c κs. search rules)
     (λ c. search rules) (λ c. search rules) (λ c. search rules) (λ c. search rules)
-    open-point-requires
+    open_point_requires
     (λ c. search rules) (λ c κs. search rules) (λ c. search rules)
     returns)

@@ -15,35 +15,35 @@ use Rattle.opening.proofs.fresh.Tie as tie
 
 -- ---- the places on the way
 
-abbrev else1 : tie.After-is-edition → tie.Else1
+abbrev else1 : tie.After-is_edition → tie.Else-t-lt-TABLE_LENGTH
 else1 c = c.before.before.before.before.before.before
 
-returns : tie.Need-returns
-returns c = tells (fresh_short c.before.args.t.now c.before.args.n c.if1.true) refl
+returns : tie.Need-returns-then-t-lt-TABLE_LENGTH
+returns c = tells (fresh_short c.before.args.t-1.now c.before.args.n c.if-t-lt-TABLE_LENGTH.true) refl
 
-tested : (c : tie.After-is-edition) → (c.before.before.is-range.result && c.before.is-range2.result && c.is-edition.result)
+tested : (c : tie.After-is_edition) → (c.before.before.is_range.result && c.before.is_range-2.result && c.is_edition.result)
     ≡ (is_range (else1 c).before.args.n.nondaily && is_range (else1 c).before.args.n.daily && is_edition (else1 c).before.args.n.edition)
 tested c =
     let n = (else1 c).before.args.n in
-    let told = c.before.before.before.struct-told3.given in
+    let told = c.before.before.before.struct_told-3-1.given in
     ap₂ ◌&&◌
-    (ap₂ ◌&&◌ (c.before.before.is-range.ensures ∙ test_read n.nondaily (sfits_of told.0.1) is_range)
-    (c.before.is-range2.ensures ∙ test_read n.daily (sfits_of told.1.0.1) is_range))
-    (c.is-edition.ensures ∙ test_read n.edition (sfits_of told.1.1.0.1) is_edition)
+    (ap₂ ◌&&◌ (c.before.before.is_range.ensures ∙ test_read n.nondaily (sfits_of told.0.1) is_range)
+    (c.before.is_range-2.ensures ∙ test_read n.daily (sfits_of told.1.0.1) is_range))
+    (c.is_edition.ensures ∙ test_read n.edition (sfits_of told.1.1.0.1) is_edition)
 
-returns-2 : tie.Need-returns-2
-returns-2 c =
+returns_2 : tie.Need-returns-then-not-ranges-is_edition
+returns_2 c =
     let r = else1 c.before in
-    tells (fresh_out r.before.args.t.now r.before.args.n r.if1.left (sym (tested c.before) ∙ not-true _ c.if2.true)) refl
+    tells (fresh_out r.before.args.t-1.now r.before.args.n r.if-t-lt-TABLE_LENGTH.left (sym (tested c.before) ∙ c.if-not-ranges-is_edition.true)) refl
 
-returns-3 : tie.Need-returns-3
-returns-3 c =
+returns_3 : tie.Need-returns
+returns_3 c =
     let i = c.before.before.before.before in
     let r = else1 i in
     let n = r.before.args.n in
-    let told = i.before.before.before.struct-told3.given in
-    let passed = sym (tested i) ∙ not-false _ c.before.before.before.if2.false in
-    let w = gives (fresh_entered r.before.args.t.now n r.if1.left passed) in (
+    let told = i.before.before.before.struct_told-3-1.given in
+    let passed = sym (tested i) ∙ c.before.before.before.if-not-ranges-is_edition.false in
+    let w = gives (fresh_entered r.before.args.t-1.now n r.if-t-lt-TABLE_LENGTH.left passed) in (
       w.0,
       rw (
         c.before.clear.ensures,
@@ -54,12 +54,12 @@ returns-3 c =
       refl,
     )
 
-pub fresh-spec : {M : Type 1} → statement M
-fresh-spec =
+pub fresh_spec : {M : Type 1} → statement M
+fresh_spec =
     tie.close
     (tie.spec
     returns
     (λ c κs. search rules) (λ c κs. search rules) (λ c κs. search rules)
-    returns-2
+    returns_2
     (λ c κs. search rules) (λ c. search rules) (λ c. simp length-set (omega arith)) (λ c. simp length-set (omega arith)) (λ c. search rules)
-    returns-3)
+    returns_3)

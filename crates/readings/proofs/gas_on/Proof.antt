@@ -11,59 +11,59 @@ use Rattle.readings.proofs.gas_on.Tie as tie
 abbrev point : tie.Start → Point
 point s = point_at s.args.p.now
 
-not-day : (c : tie.Else1) → filled (point c.before.before) c.before.before.args.g ≡ false
-not-day c = sym c.before.filled_on.ensures ∙ c.if1.false
+not_day : (c : tie.Else-filled_on) → filled (point c.before.before) c.before.before.args.g ≡ false
+not_day c = sym c.before.filled_on.ensures ∙ c.if-filled_on.false
 
-week : (c : tie.Then2) → Week (point c.before.before.before.before) c.before.before.before.before.args.g true
-week c = sym c.before.week-filled.ensures ∙ c.if2.true
+week : (c : tie.Then-week_filled) → Week (point c.before.before.before.before) c.before.before.before.before.args.g true
+week c = sym c.before.week_filled.ensures ∙ c.if-week_filled.true
 
-not-week : (c : tie.Else2) → Week (point c.before.before.before.before) c.before.before.before.before.args.g false
-not-week c = sym c.before.week-filled.ensures ∙ c.if2.false
+not_week : (c : tie.Else-week_filled) → Week (point c.before.before.before.before) c.before.before.before.before.args.g false
+not_week c = sym c.before.week_filled.ensures ∙ c.if-week_filled.false
 
-returns : tie.Need-returns
+returns : tie.Need-returns-then-filled_on
 returns c =
     let s = c.before.before.before in
-    (c.share-on.ensures.0 ∙ gas_day (point s) s.args.g (sym c.before.before.filled_on.ensures ∙ c.before.if1.true), c.share-on.ensures.1)
+    (c.share_on.ensures.0 ∙ gas_day (point s) s.args.g (sym c.before.before.filled_on.ensures ∙ c.before.if-filled_on.true), c.share_on.ensures.1)
 
-sub-share-on : tie.Need-overflow-sub-share-on
-sub-share-on c =
+sub_share_on : tie.Need-overflow_sub-g
+sub_share_on c =
     let s = c.before.before.before.before in
     let l = week_long (point s) s.args.g (week c) in
     search rules
 
-returns-2 : tie.Need-returns-2
-returns-2 c =
+returns_2 : tie.Need-returns-then-week_filled
+returns_2 c =
     let f = c.before.before.before in
     let s = f.before.before in
-    (c.share-on2.ensures.0 ∙ gas_week (point s) s.args.g (not-day f) (week c.before), c.share-on2.ensures.1)
+    (c.share_on-then-week_filled.ensures.0 ∙ gas_week (point s) s.args.g (not_day f) (week c.before), c.share_on-then-week_filled.ensures.1)
 
-returns-3 : tie.Need-returns-3
-returns-3 c =
+returns_3 : tie.Need-returns-then-filled_on-2
+returns_3 c =
     let w = c.before.before.before in
     let f = w.before.before in
     let s = f.before.before in (
-      c.share-on3.ensures.0
-          ∙ gas_before (point s) s.args.g (not-day f) (not-week w) (sym c.before.before.filled-on2.ensures ∙ c.before.if3.true),
-      c.share-on3.ensures.1,
+      c.share_on-then-filled_on-2.ensures.0
+          ∙ gas_before (point s) s.args.g (not_day f) (not_week w) (sym c.before.before.filled_on-2.ensures ∙ c.before.if-filled_on-2.true),
+      c.share_on-then-filled_on-2.ensures.1,
     )
 
-returns-4 : tie.Need-returns-4
-returns-4 c =
+returns_4 : tie.Need-returns
+returns_4 c =
     let w = c.before.before in
     let f = w.before.before in
     let s = f.before.before in
-    (gas_none (point s) s.args.g (not-day f) (not-week w) (sym c.before.filled-on2.ensures ∙ c.if3.false), search rules)
+    (gas_none (point s) s.args.g (not_day f) (not_week w) (sym c.before.filled_on-2.ensures ∙ c.if-filled_on-2.false), search rules)
 
-pub gas-on-spec : {M : Type 1} → statement M
-gas-on-spec =
+pub gas_on_spec : {M : Type 1} → statement M
+gas_on_spec =
     tie.close
     (tie.spec
     (λ c κs. search rules) (λ c κs. search rules)
     returns
     (λ c κs. search rules)
-    sub-share-on
+    sub_share_on
     (λ c κs. search rules)
-    returns-2
+    returns_2
     (λ c. search rules) (λ c κs. search rules) (λ c. search rules) (λ c κs. search rules)
-    returns-3
-    returns-4)
+    returns_3
+    returns_4)

@@ -14,21 +14,21 @@ use Rattle.readings.proofs.metered.Tie as tie
 abbrev point : tie.Start → Point
 point s = point_at s.args.p.now
 
-test-is : (c : tie.After-kind)
+test_is : (c : tie.After-kind)
     → let s : tie.Start = c.before.before in
     (c.before.active.result && eqb c.kind.result 1) ≡ (active s.args.g (point s) && eqb (point s).facts.kind 1)
-test-is c = ap₂ (λ a k. a && eqb k 1) c.before.active.ensures (c.kind.ensures.0 ∙ kind_is c.before.before.args.p.now)
+test_is c = ap₂ (λ a k. a && eqb k 1) c.before.active.ensures (c.kind.ensures.0 ∙ kind_is c.before.before.args.p.now)
 
-returns : tie.Need-returns
+returns : tie.Need-returns-then-active-kind
 returns c =
     let t = c.before.before in
-    (c.gas-on.ensures.0 ∙ metered_gas (point t.before.before) t.before.before.args.g (sym (test-is t) ∙ c.before.if1.true), c.gas-on.ensures.1)
+    (c.gas_on.ensures.0 ∙ metered_gas (point t.before.before) t.before.before.args.g (sym (test_is t) ∙ c.before.if-active-kind.true), c.gas_on.ensures.1)
 
-returns-2 : tie.Need-returns-2
-returns-2 c =
+returns_2 : tie.Need-returns
+returns_2 c =
     let t = c.before in
-    (metered_none (point t.before.before) t.before.before.args.g (sym (test-is t) ∙ c.if1.false), search rules)
+    (metered_none (point t.before.before) t.before.before.args.g (sym (test_is t) ∙ c.if-active-kind.false), search rules)
 
-pub metered-spec : {M : Type 1} → statement M
-metered-spec =
-    tie.close (tie.spec (λ c κs. search rules) (λ c κs. search rules) (λ c κs. search rules) returns returns-2)
+pub metered_spec : {M : Type 1} → statement M
+metered_spec =
+    tie.close (tie.spec (λ c κs. search rules) (λ c κs. search rules) (λ c κs. search rules) returns returns_2)

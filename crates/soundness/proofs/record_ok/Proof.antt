@@ -12,66 +12,66 @@ use Rattle.soundness.proofs.record_ok.Tie as tie
 abbrev start : tie.After-get → tie.Start
 start g = g.before.before.before
 
-returns : tie.Need-returns
+returns : tie.Need-returns-then-not-end-get_energy
 returns c =
     let g = c.before in
     let a = (start g).args in
-    rec_out a.p.now a.k _ _ _ g.before.before.bits_at.ensures g.before.get-energy.ensures g.get.ensures.0 _ _ _
-    (not-true (rec_in_range g.before.before.bits_at.result g.before.get-energy.result g.get.result) c.if1.true)
+    rec_out a.p.now a.k _ _ _ g.before.before.bits_at-end.ensures g.before.get_energy.ensures g.get.ensures.0 _ _ _
+    (not-true (rec_in_range g.before.before.bits_at-end.result g.before.get_energy.result g.get.result) c.if-not-end-get_energy.true)
 
 -- a record in range
-inside : (c : tie.Else1)
+inside : (c : tie.Else-not-end-get_energy)
     → let g : tie.After-get = c.before in
-    rec_in_range g.before.before.bits_at.result g.before.get-energy.result g.get.result ≡ true
+    rec_in_range g.before.before.bits_at-end.result g.before.get_energy.result g.get.result ≡ true
 inside c =
     let g = c.before in
-    not-false (rec_in_range g.before.before.bits_at.result g.before.get-energy.result g.get.result) c.if1.false
+    not-false (rec_in_range g.before.before.bits_at-end.result g.before.get_energy.result g.get.result) c.if-not-end-get_energy.false
 
-returns-2 : tie.Need-returns-2
-returns-2 c =
+returns_2 : tie.Need-returns-then-not-bits_at-day
+returns_2 c =
     let i = c.before.before in
     let g = i.before in
     let a = (start g).args in
-    rec_beside a.p.now a.k _ _ _ g.before.before.bits_at.ensures g.before.get-energy.ensures g.get.ensures.0 _ _ _
-    (inside i) _ c.before.bits-at2.ensures (start g).requires.1
-    (not-true (rec_between c.before.bits-at2.result g.before.before.bits_at.result a.day a.off) c.if2.true)
+    rec_beside a.p.now a.k _ _ _ g.before.before.bits_at-end.ensures g.before.get_energy.ensures g.get.ensures.0 _ _ _
+    (inside i) _ c.before.bits_at.ensures (start g).requires.1
+    (not-true (rec_between c.before.bits_at.result g.before.before.bits_at-end.result a.day a.off) c.if-not-bits_at-day.true)
 
 -- a record between, too: its kind decides
-kind-decides : (c : tie.Else2)
+kind_decides : (c : tie.Else-not-bits_at-day)
     → let g : tie.After-get = c.before.before.before in
     let s : tie.Start = start g in
-    fits_kind s.args.kind s.args.day g.before.before.bits_at.result
+    fits_kind s.args.kind s.args.day g.before.before.bits_at-end.result
     ≡ rec_on s.args.p.now s.args.kind s.args.k s.args.day s.args.off
-kind-decides c =
+kind_decides c =
     let i = c.before.before in
     let g = i.before in
     let a = (start g).args in
-    rec_fits a.p.now a.k _ _ _ g.before.before.bits_at.ensures g.before.get-energy.ensures g.get.ensures.0 _ _ _
-    (inside i) _ c.before.bits-at2.ensures (start g).requires.1
-    (not-false (rec_between c.before.bits-at2.result g.before.before.bits_at.result a.day a.off) c.if2.false)
+    rec_fits a.p.now a.k _ _ _ g.before.before.bits_at-end.ensures g.before.get_energy.ensures g.get.ensures.0 _ _ _
+    (inside i) _ c.before.bits_at.ensures (start g).requires.1
+    (not-false (rec_between c.before.bits_at.result g.before.before.bits_at-end.result a.day a.off) c.if-not-bits_at-day.false)
 
-returns-3 : tie.Need-returns-3
-returns-3 c = rw (eq-eqb _ 0 c.before.if3.true, le-ltb _ _ c.if4.true) at (kind-decides c.before.before)
+returns_3 : tie.Need-returns-then-end-day
+returns_3 c = rw (eq-eqb _ 0 c.before.if-kind-eq0.true, le-ltb _ _ c.if-end-day.true) at (kind_decides c.before.before)
 
-returns-4 : tie.Need-returns-4
-returns-4 c = rw (eq-eqb _ 0 c.before.if3.true, lt-ltb _ _ c.if4.false) at (kind-decides c.before.before)
+returns_4 : tie.Need-returns-then-kind-eq0
+returns_4 c = rw (eq-eqb _ 0 c.before.if-kind-eq0.true, lt-ltb _ _ c.if-end-day.false) at (kind_decides c.before.before)
 
-returns-5 : tie.Need-returns-5
-returns-5 c = rw (ne_eqb _ 0 c.before.if3.false, ne_eqb _ _ (λ z. c.if5.true (sym z))) at (kind-decides c.before.before)
+returns_5 : tie.Need-returns-then-end-day-2
+returns_5 c = rw (ne_eqb _ 0 c.before.if-kind-eq0.false, ne_eqb _ _ (λ z. c.if-end-day-2.true (sym z))) at (kind_decides c.before.before)
 
-returns-6 : tie.Need-returns-6
-returns-6 c = rw (ne_eqb _ 0 c.before.if3.false, eq-eqb _ _ (sym c.if5.false)) at (kind-decides c.before.before)
+returns_6 : tie.Need-returns
+returns_6 c = rw (ne_eqb _ 0 c.before.if-kind-eq0.false, eq-eqb _ _ (sym c.if-end-day-2.false)) at (kind_decides c.before.before)
 
-pub record-ok-spec : {M : Type 1} → statement M
-record-ok-spec =
+pub record_ok_spec : {M : Type 1} → statement M
+record_ok_spec =
     tie.close
     (tie.spec
     (λ c. search rules) (λ c. search rules) (λ c. search rules) (λ c κs. search rules) (λ c. search rules)
     (λ c κs. search rules) (λ c. search rules) (λ c κs. search rules)
     returns
     (λ c κs. search rules)
-    returns-2
-    returns-3
-    returns-4
-    returns-5
-    returns-6)
+    returns_2
+    returns_3
+    returns_4
+    returns_5
+    returns_6)

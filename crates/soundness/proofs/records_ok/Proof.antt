@@ -13,102 +13,102 @@ use borrow.Author.Rules.{rules}
 use Rattle.soundness.proofs.records_ok.Statement.{statement}
 use Rattle.soundness.proofs.records_ok.Tie as tie
 
-abbrev invariant-loop : tie.invariant-loop
-invariant-loop p m n kind day₀ j₀ off₀ k₀ day j off k =
+abbrev invariant_loop : tie.invariant-loop-k
+invariant_loop p m n kind day₀ j₀ off₀ k₀ day j off k =
     (k ≤ n) × (rows (rec_at p m) (rec_leaves p) day k (n - k) ≡ recs_ok p m n) × Awaits p m day j off
 
-abbrev decreases-loop : tie.decreases-loop
-decreases-loop p m n kind day₀ j₀ off₀ k₀ day j off k = n - k
+abbrev decreases_loop : tie.decreases-loop-k
+decreases_loop p m n kind day₀ j₀ off₀ k₀ day j off k = n - k
 
-abbrev start : tie.In-loop invariant-loop decreases-loop → tie.Start invariant-loop decreases-loop
+abbrev start : tie.In-loop-k invariant_loop decreases_loop → tie.Start invariant_loop decreases_loop
 start c = c.before.before.before.before.before
 
-loop-holds : tie.Need-loop-init invariant-loop decreases-loop
+loop_holds : tie.Need-loop-k-init invariant_loop decreases_loop
 unfolding recs_ok
-loop-holds c =
+loop_holds c =
     let s = c.before.before.before in
     let z : s.args.n - 0 ≡ s.args.n = omega arith in
-    (omega arith, rw (z, c.before.install.ensures.0), rw (c.off-from.ensures, c.before.install.ensures.0) (awaits_first s.args.p.now s.args.m s.requires.3 s.requires.2))
+    (omega arith, rw (z, c.before.install-day.ensures.0), rw (c.off_from-off.ensures, c.before.install-day.ensures.0) (awaits_first s.args.p.now s.args.m s.requires.3 s.requires.2))
 
-on-day-requires : tie.Need-on-day-requires invariant-loop decreases-loop
-on-day-requires c κs =
-    let l = c.before.before.loop in
+on_day_requires : tie.Need-on_day-day-requires invariant_loop decreases_loop
+on_day_requires c κs =
+    let l = c.before.before.loop-k in
     let s = start c.before in
-    omega (arith, is_span s.args.p.now s.args.m s.pre.3 l.day l.j l.off l.invariant.2 c.if1.true)
+    omega (arith, is_span s.args.p.now s.args.m s.requires.3 l.day l.j l.off l.invariant.2 c.if-off-day.true)
 
 -- by either way the cursor stands on the first day that is not off
-found : (c : tie.Joined1 invariant-loop decreases-loop)
-    → let s : tie.Start invariant-loop decreases-loop = start c.before in
-    Found s.args.p.now s.args.m c.before.before.loop.day c.if1.day c.if1.j c.if1.off
+found : (c : tie.Joined-off-day invariant_loop decreases_loop)
+    → let s : tie.Start invariant_loop decreases_loop = start c.before in
+    Found s.args.p.now s.args.m c.before.before.loop-k.day c.if-off-day.day c.if-off-day.j c.if-off-day.off
 found c =
-    let l = c.before.before.loop in
+    let l = c.before.before.loop-k in
     let s = start c.before in
     ⊎_elim
-    (λ w. rw (w.3, w.4, w.5, w.2.ensures, w.1.ensures.0, add-one l.j) (found_on s.args.p.now s.args.m s.pre.3 l.day l.j l.off l.invariant.2 w.0.taken))
-    (λ w. rw (w.1, w.2, w.3) (found_here s.args.p.now s.args.m s.pre.3 l.day l.j l.off l.invariant.2 w.0.left))
-    c.if1.branch
+    (λ w. rw (w.3, w.4, w.5, w.2.ensures, w.1.ensures.0, add-one l.j) (found_on s.args.p.now s.args.m s.requires.3 l.day l.j l.off l.invariant.2 w.0.taken))
+    (λ w. rw (w.1, w.2, w.3) (found_here s.args.p.now s.args.m s.requires.3 l.day l.j l.off l.invariant.2 w.0.left))
+    c.if-off-day.branch
 
-record-ok-requires : tie.Need-record-ok-requires invariant-loop decreases-loop
-record-ok-requires c κs = (search rules, omega (arith, (found c).small))
+record_ok_requires : tie.Need-record_ok-requires invariant_loop decreases_loop
+record_ok_requires c κs = (search rules, omega (arith, (found c).small))
 
 -- the record is tested as if beside all spans
-tested : (c : tie.After-record-ok invariant-loop decreases-loop)
-    → let s : tie.Start invariant-loop decreases-loop = start c.before.before in
-    rec_at s.args.p.now s.args.m c.before.before.before.loop.day c.before.before.before.loop.k ≡ c.record_ok.result
+tested : (c : tie.After-record_ok invariant_loop decreases_loop)
+    → let s : tie.Start invariant_loop decreases_loop = start c.before.before in
+    rec_at s.args.p.now s.args.m c.before.before.before.loop-k.day c.before.before.before.loop-k.k ≡ c.record_ok.result
 tested c =
     let q = c.before in
     let s = start q.before in
-    found_test s.args.p.now s.args.m s.pre.3 _ _ _ _ q.before.before.loop.k (found q)
-    ∙ sym (rw q.before.before.before.before.before.kind.ensures.0 at c.record_ok.ensures)
+    found_test s.args.p.now s.args.m s.requires.3 _ _ _ _ q.before.before.loop-k.k (found q)
+    ∙ sym (rw q.before.before.before.before.before.kind-kind.ensures.0 at c.record_ok.ensures)
 
-returns : tie.Need-returns invariant-loop decreases-loop
+returns : tie.Need-returns-then-not-record_ok invariant_loop decreases_loop
 returns c =
-    let l = c.before.before.before.before.loop in
-    sym (rows_fail _ _ _ l.k _ (omega arith) (tested c.before ∙ not-true _ c.if2.true)) ∙ l.invariant.1
+    let l = c.before.before.before.before.loop-k in
+    sym (rows_fail _ _ _ l.k _ (omega arith) (tested c.before ∙ c.if-not-record_ok.true)) ∙ l.invariant.1
 
-passed : (c : tie.Else2 invariant-loop decreases-loop)
-    → let q : tie.Joined1 invariant-loop decreases-loop = c.before.before in
-    let s : tie.Start invariant-loop decreases-loop = start q.before in
-    rec_on s.args.p.now q.before.before.before.before.before.kind.result q.before.before.loop.k q.if1.day q.if1.off ≡ true
-passed c = sym c.before.record_ok.ensures ∙ not-false _ c.if2.false
+passed : (c : tie.Else-not-record_ok invariant_loop decreases_loop)
+    → let q : tie.Joined-off-day invariant_loop decreases_loop = c.before.before in
+    let s : tie.Start invariant_loop decreases_loop = start q.before in
+    rec_on s.args.p.now q.before.before.before.before.before.kind-kind.result q.before.before.loop-k.k q.if-off-day.day q.if-off-day.off ≡ true
+passed c = sym c.before.record_ok.ensures ∙ c.if-not-record_ok.false
 
 -- its end, read once more
-ends : (c : tie.After-bits-at invariant-loop decreases-loop)
-    → let i : tie.In-loop invariant-loop decreases-loop = c.before.before.before.before in
-    (c.bits_at.result ≡ rec_end (start i).args.p.now i.before.loop.k) × (c.bits_at.result ≤ 39999)
+ends : (c : tie.After-bits_at-day invariant_loop decreases_loop)
+    → let i : tie.In-loop-k invariant_loop decreases_loop = c.before.before.before.before in
+    (c.bits_at-day.result ≡ rec_end (start i).args.p.now i.before.loop-k.k) × (c.bits_at-day.result ≤ 39999)
 ends c =
     let r = passes _ _ _ _ _ (passed c.before) in
-    let e = c.bits_at.ensures.same (omega (arith, r.end)) in
+    let e = c.bits_at-day.ensures.same (omega (arith, r.end)) in
     (e, omega (arith, e, r.end))
 
-add-day : tie.Need-overflow-add-day invariant-loop decreases-loop
-add-day c = let e = ends c in search rules
+add_day : tie.Need-overflow_add-day invariant_loop decreases_loop
+add_day c = let e = ends c in search rules
 
-loop-again : tie.Need-loop-preserved invariant-loop decreases-loop
-loop-again c =
+loop_again : tie.Need-loop-k-preserved invariant_loop decreases_loop
+loop_again c =
     let q = c.before.before.before in
-    let l = q.before.before.loop in
+    let l = q.before.before.loop-k in
     let s = start q.before in
-    let e : c.bits_at.result + 1 ≡ suc (rec_end s.args.p.now l.k) = add-one c.bits_at.result ∙ ap suc (ends c).0 in
-    (omega arith, sym (rows_pass _ _ _ l.k _ _ (omega arith) (tested c.before.before ∙ not-false _ c.before.if2.false) e) ∙ l.invariant.1, rw e (found_leaves s.args.p.now s.args.m s.pre.3 _ _ _ _ _ _ (found q) (passed c.before)))
+    let e : c.bits_at-day.result + 1 ≡ suc (rec_end s.args.p.now l.k) = add-one c.bits_at-day.result ∙ ap suc (ends c).0 in
+    (omega arith, sym (rows_pass _ _ _ l.k _ _ (omega arith) (tested c.before.before ∙ c.before.if-not-record_ok.false) e) ∙ l.invariant.1, rw e (found_leaves s.args.p.now s.args.m s.requires.3 _ _ _ _ _ _ (found q) (passed c.before)))
 
-returns-2 : tie.Need-returns-2 invariant-loop decreases-loop
-returns-2 c = sym (rows_end _ _ _ c.before.loop.k _ (omega arith)) ∙ c.before.loop.invariant.1
+returns_2 : tie.Need-returns invariant_loop decreases_loop
+returns_2 c = sym (rows_end _ _ _ c.before.loop-k.k _ (omega arith)) ∙ c.before.loop-k.invariant.1
 
-pub records-ok-spec : {M : Type 1} → statement M
-records-ok-spec =
+pub records_ok_spec : {M : Type 1} → statement M
+records_ok_spec =
     tie.close
     (tie.spec
-    invariant-loop
-    decreases-loop
+    invariant_loop
+    decreases_loop
     (λ c κs. search rules) (λ c κs. search rules) (λ c κs. search rules)
-    loop-holds
-    on-day-requires
+    loop_holds
+    on_day_requires
     (λ c. search rules) (λ c κs. search rules)
-    record-ok-requires
+    record_ok_requires
     returns
     (λ c. search rules) (λ c. search rules) (λ c. search rules) (λ c κs. search rules)
-    add-day
+    add_day
     (λ c. search rules) (λ c. search rules)
-    loop-again
-    returns-2)
+    loop_again
+    returns_2)

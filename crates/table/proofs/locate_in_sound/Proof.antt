@@ -9,47 +9,47 @@ use Rattle.table.proofs.Locating.{located_early, located_missing, located_at}
 use Rattle.table.proofs.locate_in_sound.Statement.{statement}
 use Rattle.table.proofs.locate_in_sound.Tie as tie
 
-abbrev entry : tie.Else1 → tie.Start
+abbrev entry : tie.Else-early-ne0 → tie.Start
 entry c = c.before
 
-index_is : (c : tie.After-index-of)
+index_is : (c : tie.After-index_of-i)
     → let s = entry c.before.before in
-    c.index_of.result ≡ maybe s.args.ed.points (λ k. k) (index_of s.args.ed s.args.t.now (nat_of s.args.mirn))
+    c.index_of-i.result ≡ maybe s.args.ed.points (λ k. k) (index_of s.args.ed s.args.t.now (nat_of s.args.mirn))
 index_is c =
     let s = entry c.before.before in
-    c.index_of.ensures.0
+    c.index_of-i.ensures.0
     ∙ ap (λ m. maybe s.args.ed.points (λ k. k) (index_of s.args.ed s.args.t.now m))
     (c.before.natural.ensures.0 ∙ natural_read s.args.mirn s.fits.mirn)
 
-returns : tie.Need-returns
-returns c = located_early _ _ _ _ c.before.requires.1 c.if1.true
+returns : tie.Need-returns-then-early-ne0
+returns c = located_early _ _ _ _ c.before.requires.1 c.if-early-ne0.true
 
-index-of-requires : tie.Need-index-of-requires
-index-of-requires c κs =
+index_of_requires : tie.Need-index_of-i-requires
+index_of_requires c κs =
     let s = entry c.before in
-    let k = sound_long s.args.ed s.args.t.now s.pre.1 in
-    (s.pre.0, k.0, k.1)
+    let k = sound_long s.args.ed s.args.t.now s.requires.1 in
+    (s.requires.0, k.0, k.1)
 
-returns-2 : tie.Need-returns-2
-returns-2 c =
+returns_2 : tie.Need-returns-then-i-ed
+returns_2 c =
     let i = c.before.before in
     let z = i.before.before in
-    located_missing _ _ _ _ (entry z).requires.1 z.if1.false _ (index_is i) c.if2.true
+    located_missing _ _ _ _ (entry z).requires.1 z.if-early-ne0.false _ (index_is i) c.if-i-ed.true
 
-returns-3 : tie.Need-returns-3
-returns-3 c =
+returns_3 : tie.Need-returns
+returns_3 c =
     let n = c.before.before in
     let i = n.before.before in
     let z = i.before.before in
-    located_at _ _ _ _ (entry z).requires.1 z.if1.false _ (index_is i) n.if2.false _ _ c.before.place.ensures.0 c.place2.ensures.0
+    located_at _ _ _ _ (entry z).requires.1 z.if-early-ne0.false _ (index_is i) n.if-i-ed.false _ _ c.before.place.ensures.0 c.place-2.ensures.0
 
-pub locate-in-sound-spec : {M : Type 1} → statement M
-locate-in-sound-spec =
+pub locate_in_sound_spec : {M : Type 1} → statement M
+locate_in_sound_spec =
     tie.close
     (tie.spec
     returns
     (λ c κs. search rules)
-    index-of-requires
-    returns-2
+    index_of_requires
+    returns_2
     (λ c κs. search rules) (λ c. search rules) (λ c κs. search rules)
-    returns-3)
+    returns_3)

@@ -6,50 +6,50 @@ use Rattle.table.proofs.Locating.{PartFound, told_part, told_row, in_table, look
 use Rattle.table.proofs.look_up.Statement.{statement}
 use Rattle.table.proofs.look_up.Tie as tie
 
-found : (c : tie.After-from)
+found : (c : tie.In-At-2)
     → let e = c.before.before.before in
-    PartFound e.edition.result e.before.args.t.now e.before.args.m 0 c.from.given.0.0 c.from.given.0.1.0
+    PartFound e.edition-ed.result-1 e.before.args.t.now e.before.args.m 0 c.in-At.from-1 c.in-At.to
 found c =
-    let l = c.before.before in told_part l.before.before.ranges.m l.locate.ensures c.from.given.1
+    let l = c.before.before in told_part l.before.before.ranges.m l.locate.ensures c.in-At.is
 
-within : (c : tie.After-from)
-    → (c.from.given.0.0 ≤ c.from.given.0.1.0) × (c.from.given.0.1.0 ≤ table_length)
+within : (c : tie.In-At-2)
+    → (c.in-At.from-1 ≤ c.in-At.to) × (c.in-At.to ≤ table_length)
     × (table_length ≤ length c.before.before.before.before.args.t.now)
-within c = in_table c.before.before.before.edition.ensures.1 (found c)
+within c = in_table c.before.before.before.edition-ed.ensures.1 (found c)
 
-returns : tie.Need-returns
+returns : tie.Need-returns-in_default
 returns c =
     let o = c.before in
     let l = o.before.before in
-    nothing_found l.before.edition.ensures.0 (told_row l.before.before.ranges.m l.locate.ensures o.enum_told.given.1)
+    nothing_found l.before.edition-ed.ensures.0 (told_row l.before.before.ranges.m l.locate.ensures o.in_default.is)
 
-mul-result : tie.Need-overflow-mul-result
-mul-result c = let h = within c.before in search rules
+mul_result : tie.Need-offset_bounds-t-from
+mul_result c = let h = within c.before in search rules
 
-sub-result-2 : tie.Need-overflow-sub-result-2
-sub-result-2 c = let h = within c.before in search rules
+sub_result_2 : tie.Need-slice_bounds-result-count-2
+sub_result_2 c = let h = within c.before in search rules
 
-part-result-start-2 : tie.Need-slice-bounds-result-start-2
-part-result-start-2 c = let h = within c.before in search rules
+part_result_start_2 : tie.Need-slice_bounds-result-start-2
+part_result_start_2 c = let h = within c.before in search rules
 
-part-result-end-2 : tie.Need-slice-bounds-result-end-2
-part-result-end-2 c = let h = within c.before in search rules
+part_result_end_2 : tie.Need-slice_bounds-result-end-2
+part_result_end_2 c = let h = within c.before in search rules
 
-returns-2 : tie.Need-returns-2
-returns-2 c =
+returns_2 : tie.Need-returns
+returns_2 c =
     let f = c.before.before in
-    let e = f.before.before.before.edition in
+    let e = f.before.before.before.edition-ed in
     looked_up e.ensures.1 (found f) e.ensures.0
 
-pub look-up-spec : {M : Type 1} → statement M
-look-up-spec =
+pub look_up_spec : {M : Type 1} → statement M
+look_up_spec =
     tie.close
     (tie.spec
     (λ c κs. search rules) (λ c κs. search rules) (λ c. search rules) (λ c. search rules) (λ c. search rules)
     (λ c. search rules) (λ c. search rules)
     returns
-    mul-result
-    sub-result-2
-    part-result-start-2
-    part-result-end-2
-    returns-2)
+    mul_result
+    sub_result_2
+    part_result_start_2
+    part_result_end_2
+    returns_2)

@@ -16,14 +16,14 @@ is c = (
   place_small c.before.args.ed c.before.requires.0 c.before.args.i c.before.requires.1,
 )
 
-mul-result : tie.Need-overflow-mul-result
-mul-result c = let h = is c in search rules
+mul_result : tie.Need-overflow_mul-result
+mul_result c = let h = is c in search rules
 
-add-result : tie.Need-overflow-add-result
-add-result c = let h = is c in search rules
+add_result : tie.Need-overflow_add-result
+add_result c = let h = is c in search rules
 
 returns : tie.Need-returns
 returns c = let h = is c in (h.0, omega arith)
 
-pub place-spec : {M : Type 1} → statement M
-place-spec = tie.close (tie.spec (λ c κs. search rules) mul-result add-result returns)
+pub place_spec : {M : Type 1} → statement M
+place_spec = tie.close (tie.spec (λ c κs. search rules) mul_result add_result returns)

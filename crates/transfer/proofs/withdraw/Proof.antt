@@ -14,75 +14,75 @@ use Rattle.transfer.proofs.withdraw.Tie as tie
 
 -- ---- what the call was told
 
-abbrev edition : tie.After-locate → tie.After-edition
+abbrev edition : tie.After-locate → tie.After-edition-ed
 edition c = c.before.before.before.before.before
 
 abbrev entry : tie.After-locate → tie.Start
 entry c = (edition c).before.before
 
-found : (c : tie.After-from)
+found : (c : tie.In-At-2)
     → let l = c.before.before in
-    PartFound (edition l).edition.result (entry l).args.t.now (entry l).args.n.mirn l.before.withdrawal-row.result c.from.given.0.0 c.from.given.0.1.0
+    PartFound (edition l).edition-ed.result (entry l).args.t-1.now (entry l).args.n.mirn l.before.withdrawal_row.result c.in-At.from-1 c.in-At.to
 found c =
-    let l = c.before.before in told_part (sfits_of l.before.before.before.struct-told2.given.0.1) l.locate.ensures c.from.given.1
+    let l = c.before.before in told_part (sfits_of l.before.before.before.struct_told-2-1.given.0.1) l.locate.ensures c.in-At.is
 
-within : (c : tie.After-from)
-    → (c.from.given.0.0 ≤ c.from.given.0.1.0) × (c.from.given.0.1.0 ≤ table_length)
-    × (table_length ≤ length (entry c.before.before).args.t.now)
-within c = in_table (edition c.before.before).edition.ensures.1 (found c)
+within : (c : tie.In-At-2)
+    → (c.in-At.from-1 ≤ c.in-At.to) × (c.in-At.to ≤ table_length)
+    × (table_length ≤ length (entry c.before.before).args.t-1.now)
+within c = in_table (edition c.before.before).edition-ed.ensures.1 (found c)
 
-user_is_lem : (c : tie.After-natural) → c.natural.result ≡ nat_of (entry c.before.before.before.before).args.n.user
+user_is_lem : (c : tie.After-natural-u) → c.natural-u.result ≡ nat_of (entry c.before.before.before.before).args.n.user
 user_is_lem c =
     let l = c.before.before.before.before in
-    c.natural.ensures.0 ∙ natural_read (entry l).args.n.user (sfits_of l.before.before.before.struct-told2.given.1.0.1)
+    c.natural-u.ensures.0 ∙ natural_read (entry l).args.n.user (sfits_of l.before.before.before.struct_told-2-1.given.1.0.1)
 
 -- ---- the needs
 
-returns : tie.Need-returns
+returns : tie.Need-returns-in-Refused
 returns c =
     let l = c.before.before.before in
-    withdraw_back _ (edition l).edition.ensures.1 (entry l).args.t.now (edition l).edition.ensures.0 (entry l).args.n _ l.before.withdrawal-row.ensures _ (told_row (sfits_of l.before.before.before.struct-told2.given.0.1) l.locate.ensures c.before.row.given.1)
+    withdraw_back _ (edition l).edition-ed.ensures.1 (entry l).args.t-1.now (edition l).edition-ed.ensures.0 (entry l).args.n _ l.before.withdrawal_row.ensures _ (told_row (sfits_of l.before.before.before.struct_told-2-1.given.0.1) l.locate.ensures c.in-Refused.is)
 
-mul-withdraw-at : tie.Need-overflow-mul-withdraw-at
-mul-withdraw-at c = let h = within c.before.before in search rules
+mul_withdraw_at : tie.Need-offset_bounds-t-from
+mul_withdraw_at c = let h = within c.before.before in search rules
 
-sub-withdraw-at : tie.Need-overflow-sub-withdraw-at
-sub-withdraw-at c = let h = within c.before.before in search rules
+sub_withdraw_at : tie.Need-slice_bounds-withdraw_at-count
+sub_withdraw_at c = let h = within c.before.before in search rules
 
-part-withdraw-at-start : tie.Need-slice-bounds-withdraw-at-start
-part-withdraw-at-start c = let h = within c.before.before in search rules
+part_withdraw_at_start : tie.Need-slice_bounds-withdraw_at-start
+part_withdraw_at_start c = let h = within c.before.before in search rules
 
-part-withdraw-at-end : tie.Need-slice-bounds-withdraw-at-end
-part-withdraw-at-end c = let h = within c.before.before in search rules
+part_withdraw_at_end : tie.Need-slice_bounds-withdraw_at-end
+part_withdraw_at_end c = let h = within c.before.before in search rules
 
-withdraw-at-requires : tie.Need-withdraw-at-requires
-withdraw-at-requires c κs =
+withdraw_at_requires : tie.Need-withdraw_at-requires
+withdraw_at_requires c κs =
     let u = c.before in
     let f = u.before.before in
     let l = f.before.before in
     let h = found f in
-    (lent_sound (edition l).edition.ensures.1 h, omega (arith, user_is_lem u, withdrawal_user (entry l).args.n (sym l.before.withdrawal-row.ensures ∙ h.passed)))
+    (lent_sound (edition l).edition-ed.ensures.1 h, omega (arith, user_is_lem u, withdrawal_user (entry l).args.n (sym l.before.withdrawal_row.ensures ∙ h.passed)))
 
-returns-2 : tie.Need-returns-2
-returns-2 c =
+returns_2 : tie.Need-returns-in-At
+returns_2 c =
     let w = c.before in
     let u = w.before.before in
     let f = u.before.before in
     let l = f.before.before in
-    withdraw_done _ (edition l).edition.ensures.1 (entry l).args.t.now (edition l).edition.ensures.0 (entry l).args.n _ l.before.withdrawal-row.ensures (found f) _ _
-    (rw (user_is_lem u) at w.withdraw-at.ensures)
+    withdraw_done _ (edition l).edition-ed.ensures.1 (entry l).args.t-1.now (edition l).edition-ed.ensures.0 (entry l).args.n _ l.before.withdrawal_row.ensures (found f) _ _
+    (rw (user_is_lem u) at w.withdraw_at.ensures)
 
-pub withdraw-spec : {M : Type 1} → statement M
-withdraw-spec =
+pub withdraw_spec : {M : Type 1} → statement M
+withdraw_spec =
     tie.close
     (tie.spec
     (λ c κs. search rules) (λ c κs. search rules) (λ c κs. search rules) (λ c. search rules) (λ c. search rules) (λ c κs. search rules)
-    mul-withdraw-at
-    sub-withdraw-at
-    part-withdraw-at-start
-    part-withdraw-at-end
-    withdraw-at-requires
+    mul_withdraw_at
+    sub_withdraw_at
+    part_withdraw_at_start
+    part_withdraw_at_end
+    withdraw_at_requires
     (λ c. search rules)
     returns
     (λ c. search rules)
-    returns-2)
+    returns_2)

@@ -1,0 +1,10 @@
+use mathlib.Core.Path.{ap, ◌∙◌}
+use mathlib.Core.Bool.{not}
+use Rattle.point.specs.InnerTests.{no_off}
+use Rattle.readings.proofs.Users.{off_is}
+use Rattle.readings.proofs.off_on.Goals as goal
+
+pub returns : goal.returns
+returns c =
+    ap not (c.no_off.ensures ∙ ap (λ n. no_off c.args.p.now n c.args.g c.args.g) c.spans-n.ensures.0)
+    ∙ off_is c.requires.0 c.args.g c.requires.1
