@@ -54,7 +54,7 @@ module _ (p : List ℤ) where
   starts_from : {v lo : ℕ} (n j : ℕ) → Regs v lo (rows_at (reg_row p) j n) → (k : ℕ) → j ≤ k → k < j + n → lo ≤ reg_start p k
   unfolding rows_at
   starts_from zero j r k h l = absurd (omega arith)
-  starts_from {lo = lo} (suc n) j (reg a b c d e r) k h l = go (eqb j k) refl (starts_from n (suc j) r k)
+  starts_from {v = v} {lo = lo} (suc n) j (reg a b c d e r) k h l = go (eqb j k) refl (starts_from {v = (reg_row p j).1} n (suc j) r k)
     where
       go : (t : Bool) → eqb j k ≡ t → (suc j ≤ k → k < suc j + n → suc (reg_start p j) ≤ reg_start p k) → lo ≤ reg_start p k
       go true q ih = let i : reg_start p j ≡ reg_start p k = ap (reg_start p) (eqb-true j k q) in omega arith
@@ -66,7 +66,7 @@ module _ (p : List ℤ) where
   starts_up : {v lo : ℕ} (n i : ℕ) → Regs v lo (rows_at (reg_row p) i n) → (j k : ℕ) → i ≤ j → j < k → k < i + n → reg_start p j ≤ reg_start p k
   unfolding rows_at
   starts_up zero i r j k h l m = absurd (omega arith)
-  starts_up (suc n) i (reg a b c d e r) j k h l m = go (eqb i j) refl (starts_up n (suc i) r j k)
+  starts_up {v = v} (suc n) i (reg a b c d e r) j k h l m = go (eqb i j) refl (starts_up {v = (reg_row p i).1} n (suc i) r j k)
     where
       go : (t : Bool) → eqb i j ≡ t → (suc i ≤ j → j < k → k < suc i + n → reg_start p j ≤ reg_start p k) → reg_start p j ≤ reg_start p k
       go true q ih =
@@ -143,7 +143,7 @@ module _ (f : ℕ → ℤ) (u x y : ℕ) (xy : x ≤ y) (p : List ℤ) where
       ∙ sum_if (eqb v u) f from (to - from))
       (ap (λ a. sum_from days a (y - to)) cut.1
       ∙ sum_same _ _ to (y - to) (λ d i k. ap (λ w. own w d) (user_since v (reg_row p j) rest d (moved_after x y xy (reg_start p j) d i (omega (arith, moved_most x y xy (reg_start p j))))))
-      ∙ from_row n (suc j) (reg_start p j) r (omega arith) (omega arith)
+      ∙ from_row {v = (reg_row p j).1} n (suc j) (reg_start p j) r (omega arith) (omega arith)
       ∙ ap (λ z. z +ℤ sum_from (own_in f u p x y) (suc j) n) (own_here j (omega arith))))
     where
       rest : List (ℕ × ℕ)
