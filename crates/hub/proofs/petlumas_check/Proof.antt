@@ -15,13 +15,13 @@ use Rattle.hub.proofs.petlumas_check.Tie as tie
 
 -- ---- the places on the way
 
-abbrev listed : tie.After-check → tie.After-list-in
+abbrev listed : tie.After-check-a → tie.After-list_in-sent
 listed c = c.before.before.before
 
-abbrev tabled : tie.After-check → tie.After-table-in
+abbrev tabled : tie.After-check-a → tie.After-table_in-table
 tabled c = (listed c).before.before
 
-abbrev start : tie.After-check-numbers → tie.Start
+abbrev start : tie.After-check_numbers-numbers → tie.Start
 start c = (tabled c.before.before.before).before.before.before.before.before
 
 abbrev query : tie.Start → AllocationQuery
@@ -33,35 +33,35 @@ abbrev given : tie.Start → Numbers
 given s = check_call editions (table_in s.args.register.now) (query s) (numbers_held s.args.shares.now)
 
 -- the answer's numbers, with each number of the query read back from its bits
-gave : (c : tie.After-check-numbers) → c.check-numbers.result ≡ bits_of (given (start c))
+gave : (c : tie.After-check_numbers-numbers) → c.check_numbers-numbers.result ≡ bits_of (given (start c))
 gave c =
     let a = (start c).args in
     let f = (start c).ranges in
     let k = c.before.before.before in
-    c.check-numbers.ensures
+    c.check_numbers-numbers.ensures
     ∙ ap bits_of
-    (k.check.ensures.0
-    ∙ as_lent (table_in a.register.now) (query (start c)) a.shares.now (tabled k).table-in.ensures.0
+    (k.check-a.ensures.0
+    ∙ as_lent (table_in a.register.now) (query (start c)) a.shares.now (tabled k).table_in-table.ensures.0
     (λ i. record { gasday = to_z-of_z f.gasday i; from = to_z-of_z f.from i; to = to_z-of_z f.to i; tdq = to_z-of_z f.tdq i; uag = to_z-of_z f.uag i; clp = to_z-of_z f.clp i })
-    (listed k).list-in.ensures)
+    (listed k).list_in-sent.ensures)
 
-reply-requires : tie.Need-reply-requires
-reply-requires c κs =
+reply_requires : tie.Need-reply-requires
+reply_requires c κs =
     let d = c.before.before in
-    (search rules, search rules, first_small d.check-numbers.result (given (start d)) (gave d) (check_small _ _ _))
+    (search rules, search rules, first_small d.check_numbers-numbers.result (given (start d)) (gave d) (check_small _ _ _))
 
 returns : tie.Need-returns
 returns c =
     let r = c.before.before.before in
     let d = r.before.before.before in
-    ended_reply d.check-numbers.result (given (start d)) (gave d) (check_small _ _ _) _ (search rules) _ c.integer.ensures _ _ r.reply.ensures.0
+    ended_reply d.check_numbers-numbers.result (given (start d)) (gave d) (check_small _ _ _) _ (search rules) _ c.integer.ensures _ _ r.reply.ensures.0
 
-pub petlumas-check-spec : {M : Type 1} → statement M
-petlumas-check-spec =
+pub petlumas_check_spec : {M : Type 1} → statement M
+petlumas_check_spec =
     tie.close
     (tie.spec
     (λ c. search rules) (λ c κs. search rules) (λ c. search rules) (λ c κs. search rules) (λ c κs. search rules)
     (λ c κs. search rules) (λ c. search rules)
-    reply-requires
+    reply_requires
     (λ c κs. search rules) (λ c. search rules)
     returns)

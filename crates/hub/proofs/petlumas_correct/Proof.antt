@@ -15,43 +15,43 @@ use Rattle.hub.proofs.petlumas_correct.Tie as tie
 
 -- ---- the places on the way
 
-abbrev after-t : tie.After-correct → tie.After-t
-after-t c = c.before.before.before
+abbrev after_t : tie.After-correct-a → tie.After-t-1
+after_t c = c.before.before.before
 
-abbrev start : tie.After-correction-numbers → tie.Start
-start c = (after-t c.before.before).before.before.before.before
+abbrev start : tie.After-correction_numbers-numbers → tie.Start
+start c = (after_t c.before.before).before.before.before.before
 
 -- what the call gives
 abbrev given : tie.Start → Numbers × List ℤ
 given s =
     let a = s.args in
-    correct_call editions (table_in a.register.now)
+    correct_call editions (table_in a.register-1.now)
     (record { mirn = a.mirn; user = a.user; day = a.day; notice = a.notice })
 
 -- the answer's numbers and the table, with each number of the notice read back from its bits
-gave : (c : tie.After-correction-numbers)
-    → (c.correction-numbers.result ≡ bits_of (given (start c)).0) × (c.before.before.correct.new.0 ≡ (given (start c)).1)
+gave : (c : tie.After-correction_numbers-numbers)
+    → (c.correction_numbers-numbers.result ≡ bits_of (given (start c)).0) × (c.before.before.correct-a.new.0 ≡ (given (start c)).1)
 gave c =
     let f = (start c).ranges in
-    let e = rw (to_z-of_z f.mirn, to_z-of_z f.user, to_z-of_z f.day, to_z-of_z f.notice, c.before.before.before.before.table-in.ensures.0) at c.before.before.correct.ensures in
-    (c.correction-numbers.ensures ∙ ap bits_of e.0, e.1)
+    let e = rw (to_z-of_z f.mirn, to_z-of_z f.user, to_z-of_z f.day, to_z-of_z f.notice, c.before.before.before.before.table_in-table.ensures.0) at c.before.before.correct-a.ensures in
+    (c.correction_numbers-numbers.ensures ∙ ap bits_of e.0, e.1)
 
-finish-requires : tie.Need-finish-requires
-finish-requires c κs =
+finish_requires : tie.Need-finish-requires
+finish_requires c κs =
     let e = c.before.before.before.before in
-    (search rules, search rules, search rules, first_small e.correction-numbers.result (given (start e)).0 (gave e).0 (correct_small _ _))
+    (search rules, search rules, search rules, first_small e.correction_numbers-numbers.result (given (start e)).0 (gave e).0 (correct_small _ _))
 
 returns : tie.Need-returns
 returns c =
     let f = c.before.before.before.before.before in
     let e = f.before.before.before.before.before in
-    ended e.correction-numbers.result (given (start e)).0 (gave e).0 (correct_small _ _) _ _ (gave e).1 _ (search rules) _ _ _ _ f.finish.ensures
+    ended e.correction_numbers-numbers.result (given (start e)).0 (gave e).0 (correct_small _ _) _ _ (gave e).1 _ (search rules) _ _ _ _ f.finish.ensures
 
-pub petlumas-correct-spec : {M : Type 1} → statement M
-petlumas-correct-spec =
+pub petlumas_correct_spec : {M : Type 1} → statement M
+petlumas_correct_spec =
     tie.close
     (tie.spec
     (λ c. search rules) (λ c κs. search rules) (λ c κs. search rules) (λ c κs. search rules) (λ c. search rules)
-    finish-requires
+    finish_requires
     (λ c. search rules) (λ c. search rules)
     returns)

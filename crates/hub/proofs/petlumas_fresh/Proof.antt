@@ -15,43 +15,43 @@ use Rattle.hub.proofs.petlumas_fresh.Tie as tie
 
 -- ---- the places on the way
 
-abbrev after-t : tie.After-fresh → tie.After-t
-after-t c = c.before.before.before
+abbrev after_t : tie.After-fresh-a → tie.After-t-1
+after_t c = c.before.before.before
 
-abbrev start : tie.After-notice-numbers → tie.Start
-start c = (after-t c.before.before).before.before.before.before
+abbrev start : tie.After-notice_numbers-numbers → tie.Start
+start c = (after_t c.before.before).before.before.before.before
 
 -- what the call gives
 abbrev given : tie.Start → Numbers × List ℤ
 given s =
     let a = s.args in
-    fresh_call editions (table_in a.register.now)
+    fresh_call editions (table_in a.register-1.now)
     (record { nondaily = a.nondaily; daily = a.daily; edition = a.edition })
 
 -- the answer's numbers and the table, with each number of the notice read back from its bits
-gave : (c : tie.After-notice-numbers)
-    → (c.notice-numbers.result ≡ bits_of (given (start c)).0) × (c.before.before.fresh.new.0 ≡ (given (start c)).1)
+gave : (c : tie.After-notice_numbers-numbers)
+    → (c.notice_numbers-numbers.result ≡ bits_of (given (start c)).0) × (c.before.before.fresh-a.new.0 ≡ (given (start c)).1)
 gave c =
     let f = (start c).ranges in
-    let e = rw (to_z-of_z f.nondaily, to_z-of_z f.daily, to_z-of_z f.edition, c.before.before.before.before.table-in.ensures.0) at c.before.before.fresh.ensures in
-    (c.notice-numbers.ensures ∙ ap bits_of e.0, e.1)
+    let e = rw (to_z-of_z f.nondaily, to_z-of_z f.daily, to_z-of_z f.edition, c.before.before.before.before.table_in-table.ensures.0) at c.before.before.fresh-a.ensures in
+    (c.notice_numbers-numbers.ensures ∙ ap bits_of e.0, e.1)
 
-finish-requires : tie.Need-finish-requires
-finish-requires c κs =
+finish_requires : tie.Need-finish-requires
+finish_requires c κs =
     let e = c.before.before.before.before in
-    (search rules, search rules, search rules, first_small e.notice-numbers.result (given (start e)).0 (gave e).0 (fresh_small _ _))
+    (search rules, search rules, search rules, first_small e.notice_numbers-numbers.result (given (start e)).0 (gave e).0 (fresh_small _ _))
 
 returns : tie.Need-returns
 returns c =
     let f = c.before.before.before.before.before in
     let e = f.before.before.before.before.before in
-    ended e.notice-numbers.result (given (start e)).0 (gave e).0 (fresh_small _ _) _ _ (gave e).1 _ (search rules) _ _ _ _ f.finish.ensures
+    ended e.notice_numbers-numbers.result (given (start e)).0 (gave e).0 (fresh_small _ _) _ _ (gave e).1 _ (search rules) _ _ _ _ f.finish.ensures
 
-pub petlumas-fresh-spec : {M : Type 1} → statement M
-petlumas-fresh-spec =
+pub petlumas_fresh_spec : {M : Type 1} → statement M
+petlumas_fresh_spec =
     tie.close
     (tie.spec
     (λ c. search rules) (λ c κs. search rules) (λ c κs. search rules) (λ c κs. search rules) (λ c. search rules)
-    finish-requires
+    finish_requires
     (λ c. search rules) (λ c. search rules)
     returns)

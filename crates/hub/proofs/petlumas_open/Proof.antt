@@ -15,43 +15,43 @@ use Rattle.hub.proofs.petlumas_open.Tie as tie
 
 -- ---- the places on the way
 
-abbrev after-t : tie.After-open → tie.After-t
-after-t c = c.before.before.before
+abbrev after_t : tie.After-open-a → tie.After-t-1
+after_t c = c.before.before.before
 
-abbrev start : tie.After-notice-numbers → tie.Start
-start c = (after-t c.before.before).before.before.before.before
+abbrev start : tie.After-notice_numbers-numbers → tie.Start
+start c = (after_t c.before.before).before.before.before.before
 
 -- what the call gives
 abbrev given : tie.Start → Numbers × List ℤ
 given s =
     let a = s.args in
-    open_call editions (table_in a.register.now)
+    open_call editions (table_in a.register-1.now)
     (record { mirn = a.mirn; kind = a.kind; user = a.user; install = a.install; base = a.base; section = a.section; operator = a.operator })
 
 -- the answer's numbers and the table, with each number of the notice read back from its bits
-gave : (c : tie.After-notice-numbers)
-    → (c.notice-numbers.result ≡ bits_of (given (start c)).0) × (c.before.before.open.new.0 ≡ (given (start c)).1)
+gave : (c : tie.After-notice_numbers-numbers)
+    → (c.notice_numbers-numbers.result ≡ bits_of (given (start c)).0) × (c.before.before.open-a.new.0 ≡ (given (start c)).1)
 gave c =
     let f = (start c).ranges in
-    let e = rw (to_z-of_z f.mirn, to_z-of_z f.kind, to_z-of_z f.user, to_z-of_z f.install, to_z-of_z f.base, to_z-of_z f.section, to_z-of_z f.operator, c.before.before.before.before.table-in.ensures.0) at c.before.before.open.ensures in
-    (c.notice-numbers.ensures ∙ ap bits_of e.0, e.1)
+    let e = rw (to_z-of_z f.mirn, to_z-of_z f.kind, to_z-of_z f.user, to_z-of_z f.install, to_z-of_z f.base, to_z-of_z f.section, to_z-of_z f.operator, c.before.before.before.before.table_in-table.ensures.0) at c.before.before.open-a.ensures in
+    (c.notice_numbers-numbers.ensures ∙ ap bits_of e.0, e.1)
 
-finish-requires : tie.Need-finish-requires
-finish-requires c κs =
+finish_requires : tie.Need-finish-requires
+finish_requires c κs =
     let e = c.before.before.before.before in
-    (search rules, search rules, search rules, first_small e.notice-numbers.result (given (start e)).0 (gave e).0 (open_small _ _))
+    (search rules, search rules, search rules, first_small e.notice_numbers-numbers.result (given (start e)).0 (gave e).0 (open_small _ _))
 
 returns : tie.Need-returns
 returns c =
     let f = c.before.before.before.before.before in
     let e = f.before.before.before.before.before in
-    ended e.notice-numbers.result (given (start e)).0 (gave e).0 (open_small _ _) _ _ (gave e).1 _ (search rules) _ _ _ _ f.finish.ensures
+    ended e.notice_numbers-numbers.result (given (start e)).0 (gave e).0 (open_small _ _) _ _ (gave e).1 _ (search rules) _ _ _ _ f.finish.ensures
 
-pub petlumas-open-spec : {M : Type 1} → statement M
-petlumas-open-spec =
+pub petlumas_open_spec : {M : Type 1} → statement M
+petlumas_open_spec =
     tie.close
     (tie.spec
     (λ c. search rules) (λ c κs. search rules) (λ c κs. search rules) (λ c κs. search rules) (λ c. search rules)
-    finish-requires
+    finish_requires
     (λ c. search rules) (λ c. search rules)
     returns)

@@ -22,46 +22,46 @@ use Rattle.hub.proofs.petlumas_save.Tie as tie
 
 -- ---- the places on the way
 
-abbrev saved : tie.After-notice-numbers → tie.After-save
+abbrev saved : tie.After-notice_numbers-numbers → tie.After-save-a
 saved c = c.before.before.before.before
 
-abbrev room : tie.After-save → tie.After-image-room
+abbrev room : tie.After-save-a → tie.After-image_room-n
 room a = a.before.before.before
 
-abbrev read : tie.After-image-room → tie.After-table-in
+abbrev read : tie.After-image_room-n → tie.After-table_in-table
 read a = a.before.before.before
 
-abbrev begun : tie.After-table-in → tie.Start
+abbrev begun : tie.After-table_in-table → tie.Start
 begun a = a.before.before.before.before.before
 
-abbrev start : tie.After-notice-numbers → tie.Start
+abbrev start : tie.After-notice_numbers-numbers → tie.Start
 start c = begun (read (room (saved c)))
 
 -- what the call gives
 abbrev given : tie.Start → Numbers × List ℕ
 given s =
     let a = s.args in
-    save_call editions (table_in a.register.now) a.state (image_in a.image.now a.answer.now)
+    save_call editions (table_in a.register.now) a.state (image_in a.image-1.now a.answer-1.now)
 
 -- the answer's numbers and the lent bytes, with the state number read back from its bits
-gave : (c : tie.After-notice-numbers)
-    → (c.notice-numbers.result ≡ bits_of (given (start c)).0) × ((saved c).save.new.1.1.0 ≡ (given (start c)).1)
+gave : (c : tie.After-notice_numbers-numbers)
+    → (c.notice_numbers-numbers.result ≡ bits_of (given (start c)).0) × ((saved c).save-a.new.1.1.0 ≡ (given (start c)).1)
 gave c =
     let r = saved c in
     let a = (start c).args in
-    let lent : List ℕ = take (room r).image-room.result a.image.now in
+    let lent : List ℕ = take (room r).image_room-n.result a.image-1.now in
     let same =
-    ap (λ (u : List ℤ). save_call editions u (to_z w64 (of_z w64 a.state)) lent) (read (room r)).table-in.ensures.0
+    ap (λ (u : List ℤ). save_call editions u (to_z w64 (of_z w64 a.state)) lent) (read (room r)).table_in-table.ensures.0
     ∙ ap (λ (n : ℤ). save_call editions (table_in a.register.now) n lent) (to_z-of_z (start c).ranges.state)
-    ∙ ap (save_call editions (table_in a.register.now) a.state) (image_lent a.image.now a.answer.now _ (room r).image-room.ensures.0) in (
-      c.notice-numbers.ensures ∙ ap bits_of (r.save.ensures.0 ∙ ap (λ (w : Numbers × List ℕ). w.0) same),
-      r.save.ensures.1 ∙ ap (λ (w : Numbers × List ℕ). w.1) same,
+    ∙ ap (save_call editions (table_in a.register.now) a.state) (image_lent a.image-1.now a.answer-1.now _ (room r).image_room-n.ensures.0) in (
+      c.notice_numbers-numbers.ensures ∙ ap bits_of (r.save-a.ensures.0 ∙ ap (λ (w : Numbers × List ℕ). w.0) same),
+      r.save-a.ensures.1 ∙ ap (λ (w : Numbers × List ℕ). w.1) same,
     )
 
-reply-requires : tie.Need-reply-requires
-reply-requires c κs =
+reply_requires : tie.Need-reply-requires
+reply_requires c κs =
     let d = c.before.before in
-    (search rules, search rules, first_small d.notice-numbers.result (given (start d)).0 (gave d).0 (save_small _ _ _))
+    (search rules, search rules, first_small d.notice_numbers-numbers.result (given (start d)).0 (gave d).0 (save_small _ _ _))
 
 returns : tie.Need-returns
 returns c =
@@ -69,20 +69,20 @@ returns c =
     let d = r.before.before.before in
     let a = (start d).args in
     let w : Numbers × List ℕ = given (start d) in
-    let n : ℕ = (room (saved d)).image-room.result in
-    let replies = ended_reply d.notice-numbers.result w.0 (gave d).0 (save_small _ _ _) _ (search rules) _ c.integer.ensures _ _ r.reply.ensures.0 in
-    let left = ap (λ b. b ++ drop n a.image.now) (gave d).1
-    ∙ image_left (save_call editions (table_in a.register.now) a.state) (save_kept _ _ _) (save_length _ _ _) a.image.now a.answer.now n (room (saved d)).image-room.ensures.0 in
-    ap (λ (p : ℤ × List ℕ). (p.0, ((saved d).save.new.1.1.0 ++ drop n a.image.now, p.1))) replies
-    ∙ ap (λ (i : List ℕ). ((replied w.0 a.answer.now).0, (i, (replied w.0 a.answer.now).1))) left
+    let n : ℕ = (room (saved d)).image_room-n.result in
+    let replies = ended_reply d.notice_numbers-numbers.result w.0 (gave d).0 (save_small _ _ _) _ (search rules) _ c.integer.ensures _ _ r.reply.ensures.0 in
+    let left = ap (λ b. b ++ drop n a.image-1.now) (gave d).1
+    ∙ image_left (save_call editions (table_in a.register.now) a.state) (save_kept _ _ _) (save_length _ _ _) a.image-1.now a.answer-1.now n (room (saved d)).image_room-n.ensures.0 in
+    ap (λ (p : ℤ × List ℕ). (p.0, ((saved d).save-a.new.1.1.0 ++ drop n a.image-1.now, p.1))) replies
+    ∙ ap (λ (i : List ℕ). ((replied w.0 a.answer-1.now).0, (i, (replied w.0 a.answer-1.now).1))) left
 
-pub petlumas-save-spec : {M : Type 1} → statement M
-petlumas-save-spec =
+pub petlumas_save_spec : {M : Type 1} → statement M
+petlumas_save_spec =
     tie.close
     (tie.spec
     (λ c. search rules) (λ c κs. search rules) (λ c κs. search rules) (λ c. search rules)
-    (λ c. sym (length-take-le _ _ c.before.before.image-room.ensures.1))
+    (λ c. sym (length-take-le _ _ c.before.before.image_room-n.ensures.1))
     (λ c κs. search rules) (λ c κs. search rules) (λ c. search rules)
-    reply-requires
+    reply_requires
     (λ c κs. search rules) (λ c. search rules) (λ c. search rules)
     returns)

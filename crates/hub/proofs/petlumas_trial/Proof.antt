@@ -22,41 +22,41 @@ use Rattle.hub.proofs.petlumas_trial.Tie as tie
 
 -- ---- the places on the way
 
-abbrev tried : tie.After-trial-numbers → tie.After-trial
+abbrev tried : tie.After-trial_numbers-numbers → tie.After-trial-a
 tried c = c.before.before.before.before.before.before
 
-abbrev room : tie.After-trial-numbers → tie.After-room-in
+abbrev room : tie.After-trial_numbers-numbers → tie.After-room_in-room
 room c = (tried c).before.before.before.before
 
-abbrev list : tie.After-trial-numbers → tie.After-list-in
+abbrev list : tie.After-trial_numbers-numbers → tie.After-list_in-list
 list c = (room c).before.before.before
 
-abbrev start : tie.After-trial-numbers → tie.Start
+abbrev start : tie.After-trial_numbers-numbers → tie.Start
 start c = (list c).before.before.before.before.before.before.before.before
 
 -- what the call gives
 abbrev given : tie.Start → Numbers × List ℤ
 given s =
-    let a = s.args in trial_call editions (table_in a.register.now) a.count (numbers_held a.notices.now) (length a.answers.now / 8)
+    let a = s.args in trial_call editions (table_in a.register.now) a.count (numbers_held a.notices.now) (length a.answers-1.now / 8)
 
 -- the answer's numbers and the answers, with the count read back from its bits
-gave : (c : tie.After-trial-numbers)
-    → (c.trial-numbers.result ≡ bits_of (given (start c)).0)
-    × (c.before.answers-in.result.now ≡ take (5 * nat_of (start c).args.count) (placed (given (start c)).1 (room c).room_in.result.now))
+gave : (c : tie.After-trial_numbers-numbers)
+    → (c.trial_numbers-numbers.result ≡ bits_of (given (start c)).0)
+    × (c.before.answers_in-given.result.now ≡ take (5 * nat_of (start c).args.count) (placed (given (start c)).1 (room c).room_in-room.result.now))
 gave c =
     let a = (start c).args in
     let count = to_z-of_z (start c).ranges.count in
-    let is = as_lent (table_in a.register.now) a.count a.notices.now (length a.answers.now / 8) (list c).before.before.table-in.ensures.0 count (list c).list-in.ensures (room c).room_in.ensures.0 in
-    let e = (tried c).trial.ensures in (
-      c.trial-numbers.ensures ∙ ap bits_of (e.0 ∙ ap (λ w. w.0) is),
-      c.before.answers-in.ensures.0 ∙ ap₂ (λ z l. take (5 * nat_of z) l) count (e.1 ∙ ap (λ w. placed w.1 (room c).room_in.result.now) is),
+    let is = as_lent (table_in a.register.now) a.count a.notices.now (length a.answers-1.now / 8) (list c).before.before.table_in-table.ensures.0 count (list c).list_in-list.ensures (room c).room_in-room.ensures.0 in
+    let e = (tried c).trial-a.ensures in (
+      c.trial_numbers-numbers.ensures ∙ ap bits_of (e.0 ∙ ap (λ w. w.0) is),
+      c.before.answers_in-given.ensures.0 ∙ ap₂ (λ z l. take (5 * nat_of z) l) count (e.1 ∙ ap (λ w. placed w.1 (room c).room_in-room.result.now) is),
     )
 
-finish-requires : tie.Need-finish-requires
-finish-requires c κs =
+finish_requires : tie.Need-finish-requires
+finish_requires c κs =
     let n = c.before.before.before in
-    let kept = (tried n).trial.auto in
-    (omega (arith, n.before.answers-in.ensures.1, (room n).room_in.ensures.1), search rules, search rules, first_small n.trial-numbers.result (given (start n)).0 (gave n).0 (trial_small _ _ _ _))
+    let kept = (tried n).trial-a.auto in
+    (omega (arith, n.before.answers_in-given.ensures.1, (room n).room_in-room.ensures.1), search rules, search rules, first_small n.trial_numbers-numbers.result (given (start n)).0 (gave n).0 (trial_small _ _ _ _))
 
 returns : tie.Need-returns
 returns c =
@@ -64,17 +64,17 @@ returns c =
     let n = f.before.before.before.before in
     let a = (start n).args in
     let w = given (start n) in
-    let out = (room n).room_in.result.now in
-    ended n.trial-numbers.result w.0 (gave n).0 (trial_small _ _ _ _) _ _ (gave n).1 _ (search rules) _ _ _ _ f.finish.ensures
-    ∙ written_where w.0 (take (5 * nat_of a.count) (placed w.1 out)) w.1 a.answers.now a.answer.now
-    (first_given (table_in a.register.now) a.count a.notices.now (length a.answers.now / 8) out)
+    let out = (room n).room_in-room.result.now in
+    ended n.trial_numbers-numbers.result w.0 (gave n).0 (trial_small _ _ _ _) _ _ (gave n).1 _ (search rules) _ _ _ _ f.finish.ensures
+    ∙ written_where w.0 (take (5 * nat_of a.count) (placed w.1 out)) w.1 a.answers-1.now a.answer-1.now
+    (first_given (table_in a.register.now) a.count a.notices.now (length a.answers-1.now / 8) out)
 
-pub petlumas-trial-spec : {M : Type 1} → statement M
-petlumas-trial-spec =
+pub petlumas_trial_spec : {M : Type 1} → statement M
+petlumas_trial_spec =
     tie.close
     (tie.spec
     (λ c. search rules) (λ c κs. search rules) (λ c. search rules) (λ c κs. search rules) (λ c. search rules)
     (λ c κs. search rules) (λ c κs. search rules) (λ c κs. search rules) (λ c κs. search rules) (λ c. search rules)
-    finish-requires
+    finish_requires
     (λ c. search rules) (λ c. search rules)
     returns)

@@ -10,26 +10,26 @@ use Rattle.imagelines.proofs.lent_part.Tie as tie
 holds : (c : tie.Start) → Lent c.args.nums.now
 holds c = lent c.args.nums.now _ refl c.requires
 
-image-fits : (c : tie.After-natural) → c.natural.result < image_count
-image-fits c = omega (arith, (holds c.before).image, c.natural.ensures.0)
+image_fits : (c : tie.After-natural) → c.natural.result < image_count
+image_fits c = omega (arith, (holds c.before).image, c.natural.ensures.0)
 
-bytes_fit : (c : tie.After-natural2) → c.natural2.result ≤ image_bytes
-bytes_fit c = omega (arith, (holds c.before.before).bytes, c.natural2.ensures.0)
+bytes_fit : (c : tie.After-natural-bytes) → c.natural-bytes.result ≤ image_bytes
+bytes_fit c = omega (arith, (holds c.before.before).bytes, c.natural-bytes.ensures.0)
 
-mul-start : tie.Need-overflow-mul-start
-mul-start c = let h = image-fits c in search rules
+mul_start : tie.Need-overflow_mul-start
+mul_start c = let h = image_fits c in search rules
 
-add-end : tie.Need-overflow-add-end
-add-end c =
-    let h = image-fits c.before in
+add_end : tie.Need-overflow_add-end
+add_end c =
+    let h = image_fits c.before in
     let k = bytes_fit c in
     search rules
 
 returns : tie.Need-returns
 returns c =
     let first = c.before.natural.ensures.0 in
-    let second = c.natural2.ensures.0 in
-    (omega (arith, first), omega (arith, second), omega (arith, image-fits c.before, bytes_fit c))
+    let second = c.natural-bytes.ensures.0 in
+    (omega (arith, first), omega (arith, second), omega (arith, image_fits c.before, bytes_fit c))
 
-pub lent-part-spec : {M : Type 1} → statement M
-lent-part-spec = tie.close (tie.spec (λ c κs. search rules) mul-start (λ c κs. search rules) add-end returns)
+pub lent_part_spec : {M : Type 1} → statement M
+lent_part_spec = tie.close (tie.spec (λ c κs. search rules) mul_start (λ c κs. search rules) add_end returns)

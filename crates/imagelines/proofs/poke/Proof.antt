@@ -11,34 +11,34 @@ use Rattle.imagelines.proofs.poke.Tie as tie
 
 -- ---- what the test says of the numbers
 
-holds : (c : tie.Else1) → Poked c.before.before.before.before.args.nums.now
+holds : (c : tie.Else-not-pokeable) → Poked c.before.before.before.before.args.nums.now
 holds c =
     let test = c.before in
-    poked test.before.before.before.args.nums.now test.pokeable.result test.pokeable.ensures (not-false _ c.if1.false)
+    poked test.before.before.before.args.nums.now test.pokeable.result test.pokeable.ensures c.if-not-pokeable.false
 
-image-fits : (c : tie.After-natural) → c.natural.result < image_count
-image-fits c = omega (arith, (holds c.before).image, c.natural.ensures.0)
+image_fits : (c : tie.After-natural) → c.natural.result < image_count
+image_fits c = omega (arith, (holds c.before).image, c.natural.ensures.0)
 
-place-fits : (c : tie.After-natural2) → c.natural2.result < image_bytes
-place-fits c = omega (arith, (holds c.before.before).place, c.natural2.ensures.0)
+place_fits : (c : tie.After-natural-2) → c.natural-2.result < image_bytes
+place_fits c = omega (arith, (holds c.before.before).place, c.natural-2.ensures.0)
 
-byte_fits : (c : tie.After-natural3) → c.natural3.result < 256
-byte_fits c = omega (arith, (holds c.before.before.before).byte, c.natural3.ensures.0)
+byte_fits : (c : tie.After-natural-3) → c.natural-3.result < 256
+byte_fits c = omega (arith, (holds c.before.before.before).byte, c.natural-3.ensures.0)
 
-returns : tie.Need-returns
+returns : tie.Need-returns-then-not-pokeable
 returns c =
     let test = c.before in
     let a = test.before.before.before.args in
-    nothing _ _ _ (not_poked a.images.now a.nums.now test.pokeable.result test.pokeable.ensures c.if1.true)
+    nothing _ _ _ (not_poked a.images.now a.nums.now test.pokeable.result test.pokeable.ensures c.if-not-pokeable.true)
 
-slice-write-images : tie.Need-slice-write-images
-slice-write-images c =
-    let h = image-fits c.before.before in
-    let k = place-fits c.before in
+slice_write_images : tie.Need-bounds-images-place
+slice_write_images c =
+    let h = image_fits c.before.before in
+    let k = place_fits c.before in
     search rules
 
-returns-2 : tie.Need-returns-2
-returns-2 c =
+returns_2 : tie.Need-returns
+returns_2 c =
     let after = c.before.before in
     let byte = after.before.before.before in
     let place = byte.before in
@@ -47,7 +47,7 @@ returns-2 c =
     let test = else1.before in
     let a = test.before.before.before.args in
     let p = after.row in
-    set_byte a.images.now a.nums.now test.pokeable.result test.pokeable.ensures image.natural.result place.natural2.result byte.natural3.result (not-false _ else1.if1.false) image.natural.ensures.0 place.natural2.ensures.0 byte.natural3.ensures.0 (omega (arith, p.ensures.0)) p.ensures.1
+    set_byte a.images.now a.nums.now test.pokeable.result test.pokeable.ensures image.natural.result place.natural-2.result byte.natural-3.result else1.if-not-pokeable.false image.natural.ensures.0 place.natural-2.ensures.0 byte.natural-3.ensures.0 (omega (arith, p.ensures.0)) p.ensures.1
 
 pub poke_spec : {M : Type 1} → statement M
 poke_spec =
@@ -56,11 +56,11 @@ poke_spec =
     (λ c κs. search rules)
     returns
     (λ c κs. search rules)
-    (λ c. let h = image-fits c in search rules)
+    (λ c. let h = image_fits c in search rules)
     (λ c κs. search rules)
-    (λ c. let h = image-fits c.before in let k = place-fits c in search rules)
+    (λ c. let h = image_fits c.before in let k = place_fits c in search rules)
     (λ c κs. search rules)
     (λ c. let h = byte_fits c in search rules)
-    slice-write-images
+    slice_write_images
     (λ c. search rules) (λ c κs. search rules) (λ c. search rules) (λ c. search rules)
-    returns-2)
+    returns_2)

@@ -10,43 +10,43 @@ use borrow.Author.Rules.{rules}
 use Rattle.imagelines.proofs.save.Statement.{statement}
 use Rattle.imagelines.proofs.save.Tie as tie
 
-holds : (c : tie.Else1) → Lent c.before.before.before.before.before.args.nums.now
+holds : (c : tie.Else-not-lendable) → Lent c.before.before.before.before.before.args.nums.now
 holds c =
     let test = c.before in
-    lent test.before.before.before.before.args.nums.now test.lendable.result test.lendable.ensures (not-false _ c.if1.false)
+    lent test.before.before.before.before.args.nums.now test.lendable.result test.lendable.ensures c.if-not-lendable.false
 
-returns : tie.Need-returns
+returns : tie.Need-returns-then-not-lendable
 returns c =
     let test = c.before in
     let a = test.before.before.before.before.args in
-    nothing _ _ _ (not_saved a.register.now a.images.now a.nums.now test.lendable.result test.lendable.ensures c.if1.true)
+    nothing _ _ _ (not_saved a.register.now a.images-1.now a.nums.now test.lendable.result test.lendable.ensures c.if-not-lendable.true)
 
-lent-part-requires : tie.Need-lent-part-requires
-lent-part-requires c κs = sym c.before.lendable.ensures ∙ not-false _ c.if1.false
+lent_part_requires : tie.Need-lent_part-part-requires
+lent_part_requires c κs = sym c.before.lendable.ensures ∙ c.if-not-lendable.false
 
-shared-slice-copy-out-petlumas-save : tie.Need-shared-slice-copy-out-petlumas-save
-shared-slice-copy-out-petlumas-save c = let h = (holds c.before.before.before).count in search rules
+shared_slice_copy_out_petlumas_save : tie.Need-bounds-nums-0
+shared_slice_copy_out_petlumas_save c = let h = (holds c.before.before.before).count in search rules
 
-returns-2 : tie.Need-returns-2
-returns-2 c =
+returns_2 : tie.Need-returns
+returns_2 c =
     let after = c.before.before in
     let made = after.before.before.before.before.before.before in
     let part = made.before.before.before.before in
     let else1 = part.before in
     let test = else1.before in
     let a = test.before.before.before.before.args in
-    let p = part.lent-part in
+    let p = part.lent_part-part in
     let call = rw (to_z-of_z {w = w64} {z = num a.nums.now 0} (search rules)) at made.petlumas_save.ensures in
-    saved a.register.now a.images.now a.nums.now test.lendable.result test.lendable.ensures (not-false _ else1.if1.false) p.result.start p.result.end p.ensures.0 p.ensures.1 made.petlumas_save.result _ _ call after.print-answer.ensures.0 after.print-answer.ensures.1
+    saved a.register.now a.images-1.now a.nums.now test.lendable.result test.lendable.ensures else1.if-not-lendable.false p.result.start p.result.end p.ensures.0 p.ensures.1 made.petlumas_save.result _ _ call after.print_answer.ensures.0 after.print_answer.ensures.1
 
-pub save-spec : {M : Type 1} → statement M
-save-spec =
+pub save_spec : {M : Type 1} → statement M
+save_spec =
     tie.close
     (tie.spec
     (λ c κs. search rules)
     returns
-    lent-part-requires
+    lent_part_requires
     (λ c. search rules) (λ c. search rules) (λ c. search rules) (λ c. search rules)
-    shared-slice-copy-out-petlumas-save
+    shared_slice_copy_out_petlumas_save
     (λ c κs. search rules) (λ c. search rules) (λ c κs. search rules) (λ c. search rules) (λ c. search rules)
-    returns-2)
+    returns_2)
