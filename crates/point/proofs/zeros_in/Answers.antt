@@ -1,5 +1,4 @@
 use mathlib.Core.Path.{◌∙◌}
-use Prim.Native.Nat.{◌-◌}
 use native.Mathlib.Omega.{arith}
 use Rattle.point.proofs.Loops.{zeros_none, zeros_more, zeros_end}
 use Rattle.point.proofs.zeros_in.Goals as goal
