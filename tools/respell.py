@@ -147,13 +147,15 @@ def main():
         return 1
     turned = 0
     for p in antt + rt:
-        new = turn_commented(texts[p], table, imported(texts[p]), p.endswith("/Proof.antt"))
+        # a function of src/ keeps its name, which is no lemma's
+        words = {k: v for k, v in table.items() if k != snake(k)} if p in rt else table
+        new = turn_commented(texts[p], words, imported(texts[p]), p.endswith("/Proof.antt"))
         if new != texts[p]:
             turned += 1
             with open(p, "w", encoding="utf-8") as f:
                 f.write(new)
     for p in edits:
-        new = turn_commented(texts[p], table, set())
+        new = turn_commented(texts[p], {k: v for k, v in table.items() if k != snake(k)}, set())
         if new != texts[p]:
             turned += 1
             with open(p, "w", encoding="utf-8") as f:

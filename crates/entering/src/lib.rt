@@ -91,7 +91,7 @@ pub fn enter_record(p: &mut [i64], x: RaisedNotice) -> Kept
     }
     let end = places::rec_end(p, j);
     if end == x.end {
-        rows::put_record_lem(p, j, x.start, x.end, x.energy, x.type_);
+        rows::put_record(p, j, x.start, x.end, x.energy, x.type_);
         return Kept {
             which: 2,
             removed: 0,

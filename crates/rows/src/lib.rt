@@ -59,7 +59,7 @@ pub fn copy_first(p: &mut [i64], from: &[i64], n: usize)
 }
 
 // Record j: its days, its energy raised by 1,000,000, its type.
-pub fn put_record_lem(p: &mut [i64], j: usize, start: u64, end: u64, u: u64, type_: u64)
+pub fn put_record(p: &mut [i64], j: usize, start: u64, end: u64, u: u64, type_: u64)
     requires { (rec_place (j + 1) ≤ length p.old) × (start < 2 ^ 63) × (end < 2 ^ 63) × (u < 2 ^ 63) × (type_ < 2 ^ 63) }
     ensures { p.new ≡ put_record p.old j (record_of start end u type_) }
 {
@@ -74,7 +74,7 @@ pub fn append_record(p: &mut [i64], n: usize, start: u64, end: u64, u: u64, type
     requires { (rec_place (n + 1) ≤ length p.old) × (start < 2 ^ 63) × (end < 2 ^ 63) × (u < 2 ^ 63) × (type_ < 2 ^ 63) }
     ensures { p.new ≡ append_record p.old n (record_of start end u type_) }
 {
-    put_record_lem(p, n, start, end, u, type_);
+    put_record(p, n, start, end, u, type_);
     numbers::put(p, places::REC_COUNT, n as u64 + 1);
 }
 
@@ -114,7 +114,7 @@ pub fn cut_registrations(p: &mut [i64], j: usize, n: usize)
 }
 
 // One more off span, after n; its on day is -1 until it has one.
-pub fn open_span_lem(p: &mut [i64], n: usize, off: u64)
+pub fn open_span(p: &mut [i64], n: usize, off: u64)
     requires { (n < 8) × (recs_place ≤ length p.old) × (off < 2 ^ 63) }
     ensures { p.new ≡ open_span p.old n off }
 {

@@ -191,7 +191,7 @@ fn rows_ok(p: &[i64]) -> bool
 }
 
 // Is this a sound point? The tests above decide what document 01 says (proofs/Decides.antt).
-pub fn part_sound_lem(p: &[i64]) -> bool
+pub fn part_sound(p: &[i64]) -> bool
     requires { (recs_place ≤ length p.now) × (length p.now % 4 ≡ 0) }
     ensures { result ≡ part_sound p.now }
 {

@@ -93,7 +93,7 @@ fn switch(p: &mut [i64], day: u64, on: u64)
 {
     let n = places::spans(p);
     if on == 0 {
-        rows::open_span_lem(p, n, day);
+        rows::open_span(p, n, day);
     } else {
         rows::close_span(p, n - 1, day);
     }

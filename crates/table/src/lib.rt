@@ -121,7 +121,7 @@ fn parts_sound(t: &[i64], ed: Edition, n: usize) -> bool
 {
     let mut i: usize = 0;
     while i < n {
-        if !soundness::part_sound_lem(part(t, ed, i)) {
+        if !soundness::part_sound(part(t, ed, i)) {
             return false;
         }
         i += 1;

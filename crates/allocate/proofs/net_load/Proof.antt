@@ -40,10 +40,10 @@ load_is c =
     (c.raised-load2.ensures.0 ∙ to_z-of_z w64 s.args.q.clp (sfits_of fits.1.1.1.1.1.0.1))
 
 returns : tie.Need-returns
-returns c = omega (arith, c.if1.true) ∙ load_is c.before
+returns c = (omega (arith, c.if1.true) ∙ load_is c.before, omega arith)
 
 returns-2 : tie.Need-returns-2
-returns-2 c = load_is c.before
+returns-2 c = (load_is c.before, omega (arith, (tdq-is c.before.before.before).1))
 
 pub net-load-spec : {M : Type 1} → statement M
 net-load-spec =

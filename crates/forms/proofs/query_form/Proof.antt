@@ -11,16 +11,12 @@ returns-2 c = rw c.before.enum-told2.given.1 c.shape2.ensures
 returns-3 : tie.Need-returns-3
 returns-3 c = rw c.before.enum-told3.given.1 c.shape3.ensures
 
-returns-4 : tie.Need-returns-4
-returns-4 c = rw c.before.enum-told4.given.1 c.shape4.ensures
-
 pub query-form-spec : {M : Type 1} → statement M
 query-form-spec =
     tie.close
     (tie.spec
     (λ c. search rules) (λ c κs. search rules) (λ c. search rules) (λ c κs. search rules) (λ c. search rules)
-    (λ c κs. search rules) (λ c. search rules) (λ c κs. search rules)
+    (λ c κs. search rules)
     returns
     returns-2
-    returns-3
-    returns-4)
+    returns-3)

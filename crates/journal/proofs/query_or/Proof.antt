@@ -6,16 +6,14 @@ use Rattle.journal.proofs.query_or.Tie as tie
 returns : tie.Need-returns
 unfolding query_or
 returns c =
-    let date = c.before.before in
-    let allocate = date.before.before in
+    let allocate = c.before.before in
     let account = allocate.before.before in
-    rw (c.pick-query4.ensures, date.pick-query3.ensures, allocate.pick-query2.ensures, account.pick-query.ensures)
+    rw (c.pick-query3.ensures, allocate.pick-query2.ensures, account.pick-query.ensures)
 
 pub query-or-spec : {M : Type 1} → statement M
 query-or-spec =
     tie.close
     (tie.spec
-    (λ c. search rules) (λ c κs. search rules)
     (λ c. search rules) (λ c κs. search rules)
     (λ c. search rules) (λ c κs. search rules)
     (λ c. search rules) (λ c κs. search rules)

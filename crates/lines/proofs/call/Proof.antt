@@ -38,14 +38,14 @@ returns-2 c =
     let after = c.before.before.before.before in
     let made = after.before.before.before.before.before.before.before.before.before.before.before in
     let shares = made.before.before.before.before.before.before in
-    let listed = shares.before.before in
-    let place = listed.before.before.before in
+    let days = shares.before.before in
+    let place = days.before.before.before in
     let own = place.before.before in
     let counted = own.before.before in
     let s = counted.before.before.before.before in
     let a = s.args in
     let row = after.print-row.ensures in
-    call_made a.call a.nums.now counted.before.form_of.result counted.counted.result counted.before.form_of.ensures.is counted.counted.ensures a.register.now _ _ _ own.own-numbers.result a.room place.table-room.result _ (not-false _ own.before.if1.false) own.own-numbers.ensures.0 (fits place) s.requires.1 listed.bytes_of.ensures.0 place.table-room.ensures.0 (omega (arith, place.table-room.ensures.1, s.requires.0)) shares.filled.ensures.0 refl (omega (arith, counted.before.form_of.ensures.short)) refl (acted_is made.invoke.ensures row.0 row.1)
+    call_made a.call a.nums.now counted.before.form_of.result counted.counted.result counted.before.form_of.ensures.is counted.counted.ensures a.register.now _ _ _ own.own-numbers.result a.room place.table-room.result _ (not-false _ own.before.if1.false) own.own-numbers.ensures.0 (fits place) s.requires.1 days.bytes_of.ensures.0 place.table-room.ensures.0 (omega (arith, place.table-room.ensures.1, s.requires.0)) shares.filled.ensures.0 refl (omega (arith, counted.before.form_of.ensures.short)) refl (acted_is made.invoke.ensures row.0 row.1)
 
 pub call-spec : {M : Type 1} → statement M
 call-spec =
