@@ -13,7 +13,6 @@ ghost use Rattle.correction.specs.Correction.{correct_call};
 ghost use Rattle.account.specs.Account.{account_call};
 ghost use Rattle.allocate.specs.Allocate.{allocate_call};
 ghost use Rattle.trial.specs.Trial.{trial_call};
-ghost use Rattle.submission.specs.Submission.{check_call};
 ghost use Rattle.images.specs.Images.{save_call, restore_call};
 ghost use Rattle.conversion.specs.Conversion.{convert_call};
 ghost use Rattle.buffers.specs.Buffers.{table_in, numbers_held, replied, written_bytes, written, image_in};
@@ -238,38 +237,6 @@ pub extern "C" fn petlumas_allocate(
     let a = allocate::allocate(table, q, room);
     let numbers = daybook::allocation_numbers(a);
     buffers::finish(shares, answer, room, &numbers)
-}
-
-// The shares have as many numbers as their buffer has bytes for.
-#[unsafe(no_mangle)]
-pub extern "C" fn petlumas_check(
-    register: &[u8],
-    answer: &mut [u8],
-    shares: &[u8],
-    gasday: i64,
-    from: i64,
-    to: i64,
-    tdq: i64,
-    uag: i64,
-    clp: i64,
-) -> i64
-    ensures { (result, answer.new) ≡ replied (check_call editions (table_in register.now) (record { gasday = gasday; from = from; to = to; tdq = tdq; uag = uag; clp = clp }) (numbers_held shares.now)) answer.old }
-{
-    let q = AllocationQuery {
-        gasday,
-        from,
-        to,
-        tdq,
-        uag,
-        clp,
-    };
-    let mut t = [0i64; places::TABLE_LENGTH];
-    let table = buffers::table_in(register, &mut t);
-    let mut list = [0i64; 32];
-    let sent = buffers::list_in(shares, &mut list);
-    let a = submission::check(table, q, sent);
-    let numbers = daybook::check_numbers(a);
-    numbers::integer(buffers::reply(answer, &numbers))
 }
 
 // The batch and its answers have as many numbers as their buffers have bytes for.

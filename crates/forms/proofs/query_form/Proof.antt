@@ -1,0 +1,22 @@
+use borrow.Author.Rules.{rules}
+use Rattle.forms.proofs.query_form.Statement.{statement}
+use Rattle.forms.proofs.query_form.Tie as tie
+
+returns : tie.Need-returns
+returns c = rw c.before.enum_told.given.1 c.shape.ensures
+
+returns-2 : tie.Need-returns-2
+returns-2 c = rw c.before.enum-told2.given.1 c.shape2.ensures
+
+returns-3 : tie.Need-returns-3
+returns-3 c = rw c.before.enum-told3.given.1 c.shape3.ensures
+
+pub query-form-spec : {M : Type 1} → statement M
+query-form-spec =
+    tie.close
+    (tie.spec
+    (λ c. search rules) (λ c κs. search rules) (λ c. search rules) (λ c κs. search rules) (λ c. search rules)
+    (λ c κs. search rules)
+    returns
+    returns-2
+    returns-3)
