@@ -24,58 +24,58 @@ use Rattle.allocate.proofs.apportion.Tie as tie
 abbrev start : tie.After-points → tie.Start
 start c = c.before.before.before.before.before
 
-gasday-is : (c : tie.After-natural) → c.natural.result ≡ nat_of c.before.before.before.args.q.gasday
-gasday-is c = c.natural.ensures.0 ∙ natural_read c.before.before.before.args.q.gasday (sfits_of c.before.struct_told.given.0.1)
+gasday_is : (c : tie.After-natural-g) → c.natural-g.result ≡ nat_of c.before.before.before.args.q.gasday
+gasday_is c = c.natural-g.ensures.0 ∙ natural_read c.before.before.before.args.q.gasday (sfits_of c.before.struct_told-1.given.0.1)
 
 -- the load is the book's
-nsl-is : (c : tie.After-net-load) → c.net_load.result ≡ nsl_of (start c.before).args.q (table_book (start c.before).args.ed (start c.before).args.t.now)
-nsl-is c =
+nsl_is : (c : tie.After-net_load-load) → c.net_load-load.result ≡ nsl_of (start c.before).args.q (table_book (start c.before).args.ed (start c.before).args.t.now)
+nsl_is c =
     let s = start c.before in
     let n = c.before.points.ensures.0 in
     let tdm = c.before.before.metered.result in
-    load_is s.pre tdm
-    (c.net_load.ensures.0 ∙ ap (λ k. at_least0 (load_of s.args.q tdm (1000000 * k))) n)
-    (c.before.before.metered.ensures.0 ∙ ap (λ g. tdm_of g (table_book s.args.ed s.args.t.now)) (gasday-is c.before.before.before))
+    load_is s.requires tdm
+    (c.net_load-load.ensures.0 ∙ ap (λ k. at_least0 (load_of s.args.q tdm (1000000 * k))) n)
+    (c.before.before.metered.ensures.0 ∙ ap (λ g. tdm_of g (table_book s.args.ed s.args.t.now)) (gasday_is c.before.before.before))
 
-fros-is : (c : tie.After-fros)
+fros_is : (c : tie.After-fros-us)
     → let s = start c.before.before.before.before.before in
-    c.fros.result ≡ padded (map (λ p. p.fro (nat_of s.args.q.gasday)) (points_of s.args.ed s.args.t.now))
-fros-is c =
+    c.fros-us.result ≡ padded (map (λ p. p.fro (nat_of s.args.q.gasday)) (points_of s.args.ed s.args.t.now))
+fros_is c =
     let after-points = c.before.before.before.before.before in
     let s = start after-points in
-    c.fros.ensures
-    ∙ ap (λ g. padded (map (λ p. p.fro g) (points_of s.args.ed s.args.t.now))) (gasday-is after-points.before.before)
+    c.fros-us.ensures
+    ∙ ap (λ g. padded (map (λ p. p.fro g) (points_of s.args.ed s.args.t.now))) (gasday_is after-points.before.before)
 
-metered-requires : tie.Need-metered-requires
-metered-requires c κs =
+metered_requires : tie.Need-metered-requires
+metered_requires c κs =
     let s = c.before.before.before in
     let ok = in_range_lem s.requires in
-    (s.requires.fits, s.requires.is_sound, rw (gasday-is c) ok.gasday_low, rw (gasday-is c) ok.gasday_high)
+    (s.requires.fits, s.requires.is_sound, rw (gasday_is c) ok.gasday_low, rw (gasday_is c) ok.gasday_high)
 
-points-requires : tie.Need-points-requires
-points-requires c κs = omega (arith, (sound_long _ _ c.before.before.before.before.requires.is_sound).0)
+points_requires : tie.Need-points-requires
+points_requires c κs = omega (arith, (sound_long _ _ c.before.before.before.before.requires.is_sound).0)
 
-net-load-requires : tie.Need-net-load-requires
-net-load-requires c κs =
+net_load_requires : tie.Need-net_load-load-requires
+net_load_requires c κs =
     let s = c.before.before.before.before.before in
     let ok = in_range_lem s.requires in
     let n = (sound_long _ _ s.requires.is_sound).1 in
     (ok.tdq_ok, ok.uag_ok, ok.clp_ok, omega (arith, c.points.ensures.0, n), rw c.points.ensures.0 c.before.metered.ensures.1)
 
-split-to-requires : tie.Need-split-to-requires
-split-to-requires c κs =
+split_to_requires : tie.Need-split_to-requires
+split_to_requires c κs =
     let s = start c.before.before in
-    (weigh_32 s.pre, (in_range_tells s.args.q (length s.args.out.now) s.pre.in_range).1, c.before.net_load.ensures.1, s.pre.some, s.pre.few, s.pre.sum)
+    (weigh_32 s.requires, (in_range_tells s.args.q (length s.args.out-1.now) s.requires.in_range).1, c.before.net_load-load.ensures.1, s.requires.some, s.requires.few, s.requires.sum)
 
-totals-requires : tie.Need-totals-requires
-totals-requires c κs =
+totals_requires : tie.Need-totals-all-requires
+totals_requires c κs =
     let after-split-to = c.before.before.before.before in
     let s = start after-split-to.before.before.before in
     let load = after-split-to.before.before in
-    let out = after-split-to.split-to.ensures in (
-      ap length (fros-is c.before.before) ∙ fros_32 s.pre,
-      rw out (placed_long (split load.net_load.result s.args.s 0 s.args.ws.now) s.args.out.now (split_32 s.pre load.net_load.result)),
-      subst (SharesBelow 3032000000) (sym out) (shares_small s.pre (nsl-is load) load.net_load.ensures.1 s.args.out.now),
+    let out = after-split-to.split_to.ensures in (
+      ap length (fros_is c.before.before) ∙ fros_32 s.requires,
+      rw out (placed_long (split load.net_load-load.result s.args.s 0 s.args.ws.now) s.args.out-1.now (split_32 s.requires load.net_load-load.result)),
+      subst (SharesBelow 3032000000) (sym out) (shares_small s.requires (nsl_is load) load.net_load-load.ensures.1 s.args.out-1.now),
     )
 
 returns : tie.Need-returns
@@ -84,22 +84,22 @@ returns c =
     let after-fros = c.before.before.before.before in
     let s = start after-fros.before.before.before.before.before in
     let load = after-fros.before.before.before.before in
-    let is = nsl-is load in
-    let out = after-fros.before.before.split-to.ensures in
-    let nsl = to_z-of_z w64 c.integer.result (sfits_of c.integer.type-inv) ∙ c.integer.ensures ∙ ap pos is in
-    let all = c.before.totals.ensures ∙ ap₂ (λ us xs. map (λ u. pos (total_to us xs u 32)) users) (fros-is after-fros) out ∙ totals_are s.pre is s.args.out.now in
-    (ap₂ (λ z l. pos 0 ∷ z ∷ l) nsl all, out ∙ ap (λ l. placed l s.args.out.now) (shares_are s.pre is))
+    let is = nsl_is load in
+    let out = after-fros.before.before.split_to.ensures in
+    let nsl = to_z-of_z w64 c.integer.result (sfits_of c.integer.type_inv) ∙ c.integer.ensures ∙ ap pos is in
+    let all = c.before.totals-all.ensures ∙ ap₂ (λ us xs. map (λ u. pos (total_to us xs u 32)) users) (fros_is after-fros) out ∙ totals_are s.requires is s.args.out-1.now in
+    (ap₂ (λ z l. pos 0 ∷ z ∷ l) nsl all, out ∙ ap (λ l. placed l s.args.out-1.now) (shares_are s.requires is))
 
-pub apportion-spec : {M : Type 1} → statement M
-apportion-spec =
+pub apportion_spec : {M : Type 1} → statement M
+apportion_spec =
     tie.close
     (tie.spec
     (λ c κs. search rules)
-    metered-requires
-    points-requires
-    net-load-requires
-    split-to-requires
+    metered_requires
+    points_requires
+    net_load_requires
+    split_to_requires
     (λ c κs. search rules) (λ c. search rules)
-    totals-requires
+    totals_requires
     (λ c κs. search rules) (λ c. search rules)
     returns)

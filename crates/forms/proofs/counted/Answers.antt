@@ -1,0 +1,4 @@
+use Rattle.forms.proofs.counted.Goals as goal
+
+pub returns : goal.returns
+returns c = rw c.size.ensures
