@@ -1,7 +1,6 @@
 use native.Mathlib.Omega.{arith}
 use mathlib.Core.Path.{◌≡◌, refl, ◌∙◌}
 use borrow.Author.Rules.{sfits_of, rules}
-use borrow.Author.Tests.{not-true, not-false}
 use Rattle.numbers.specs.Naturals.{nat_of}
 use Rattle.numbers.proofs.Naturals.{natural_read}
 use Rattle.calendar.proofs.Dates.{calendar_bound, date_off, date_late, date_day}

@@ -2,9 +2,8 @@ use mathlib.Core.Path.{sym}
 use mathlib.Core.Bool.{true}
 use Prim.Native.Nat.{◌-◌}
 use native.Mathlib.Omega.{arith}
-use borrow.Author.Tests.{not-true, not-false}
 use Rattle.numbers.proofs.Rows.{all_none, all_more, all_fails, all_done}
-use Rattle.point.specs.InnerTests.{apart, no_off}
+use Rattle.point.specs.InnerTests.{no_off}
 use Rattle.point.proofs.no_off.Goals as goal
 
 pub loop-k-init : goal.loop-k-init
@@ -13,13 +12,11 @@ loop-k-init c = (omega arith, all_none _)
 pub returns-then-not-b-off_day : goal.returns-then-not-b-off_day
 unfolding no_off
 returns-then-not-b-off_day c =
-    let s = c.args in
-    sym (all_fails _ c.loop-k.k _ (omega arith) (rw (c.on_day.ensures.0, c.off_day.ensures.0) at (not-true (apart s.a s.b c.off_day.result c.on_day.result) c.if-not-b-off_day.true)))
+    sym (all_fails _ c.loop-k.k _ (omega arith) (rw (c.on_day.ensures.0, c.off_day.ensures.0) at c.if-not-b-off_day.true))
 
 pub loop-k-preserved : goal.loop-k-preserved
 loop-k-preserved c =
-    let s = c.args in
-    (omega arith, all_more _ _ c.loop-k.invariant.1 (rw (c.on_day.ensures.0, c.off_day.ensures.0) at (not-false (apart s.a s.b c.off_day.result c.on_day.result) c.if-not-b-off_day.false)))
+    (omega arith, all_more _ _ c.loop-k.invariant.1 (rw (c.on_day.ensures.0, c.off_day.ensures.0) at c.if-not-b-off_day.false))
 
 pub returns : goal.returns
 unfolding no_off

@@ -12,7 +12,7 @@ use borrow.Author.Rules.{rules}
 use Rattle.rows.proofs.copy_first.Goals as goal
 
 pub loop-k-init : goal.loop-k-init
-loop-k-init c = (search rules, search rules, paste-zero c.args.p-1.now 0 c.args.from.now)
+loop-k-init c = (search rules, search rules, paste-zero c.args.p.now 0 c.args.from.now)
 
 pub loop-k-preserved : goal.loop-k-preserved
 loop-k-preserved c =
@@ -21,10 +21,10 @@ loop-k-preserved c =
     let z : l.k ≡ 0 + l.k = omega arith in (
       search rules,
       search rules,
-      ap (λ x. set l.p-1 l.k x) (to_z-of_z {w = w64} (search rules))
+      ap (λ x. set l.p l.k x) (to_z-of_z {w = w64} (search rules))
           ∙ ap₂ (λ v j. set v j (get_or a.from.now l.k (pos 0))) l.invariant.2 z
-          ∙ paste-suc a.p-1.now 0 a.from.now l.k (pos 0) (omega arith) (omega arith)
-          ∙ ap (paste a.p-1.now 0 a.from.now) (sym (add-one l.k)),
+          ∙ paste-suc a.p.now 0 a.from.now l.k (pos 0) (omega arith) (omega arith)
+          ∙ ap (paste a.p.now 0 a.from.now) (sym (add-one l.k)),
     )
 
 pub returns : goal.returns
@@ -33,4 +33,4 @@ returns c =
     let a = c.args in
     let e : l.k ≡ a.n = omega arith in
     let z : 0 + a.n ≡ a.n = omega arith in
-    l.invariant.2 ∙ ap (paste a.p-1.now 0 a.from.now) e ∙ ap (λ k. take a.n a.from.now ++ drop k a.p-1.now) z
+    l.invariant.2 ∙ ap (paste a.p.now 0 a.from.now) e ∙ ap (λ k. take a.n a.from.now ++ drop k a.p.now) z

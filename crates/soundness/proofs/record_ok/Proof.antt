@@ -1,9 +1,9 @@
 use mathlib.Core.Path.{◌≡◌, sym}
 use mathlib.Core.Bool.{true}
-use borrow.Author.Tests.{not-true, not-false, eq-eqb, ne_eqb, lt-ltb, le-ltb}
+use borrow.Author.Tests.{eq-eqb, ne_eqb, lt-ltb, le-ltb}
 use Rattle.daybook.specs.Notices.{fits_kind}
 use Rattle.point.specs.InnerTests.{rec_in_range}
-use Rattle.soundness.specs.InnerPart.{rec_between, rec_on}
+use Rattle.soundness.specs.InnerPart.{rec_on}
 use Rattle.soundness.proofs.OnePass.{rec_out, rec_beside, rec_fits}
 use borrow.Author.Rules.{rules}
 use Rattle.soundness.proofs.record_ok.Statement.{statement}
@@ -17,15 +17,13 @@ returns c =
     let g = c.before in
     let a = (start g).args in
     rec_out a.p.now a.k _ _ _ g.before.before.bits_at-end.ensures g.before.get_energy.ensures g.get.ensures.0 _ _ _
-    (not-true (rec_in_range g.before.before.bits_at-end.result g.before.get_energy.result g.get.result) c.if-not-end-get_energy.true)
+    c.if-not-end-get_energy.true
 
 -- a record in range
 inside : (c : tie.Else-not-end-get_energy)
     → let g : tie.After-get = c.before in
     rec_in_range g.before.before.bits_at-end.result g.before.get_energy.result g.get.result ≡ true
-inside c =
-    let g = c.before in
-    not-false (rec_in_range g.before.before.bits_at-end.result g.before.get_energy.result g.get.result) c.if-not-end-get_energy.false
+inside c = c.if-not-end-get_energy.false
 
 returns_2 : tie.Need-returns-then-not-bits_at-day
 returns_2 c =
@@ -34,7 +32,7 @@ returns_2 c =
     let a = (start g).args in
     rec_beside a.p.now a.k _ _ _ g.before.before.bits_at-end.ensures g.before.get_energy.ensures g.get.ensures.0 _ _ _
     (inside i) _ c.before.bits_at.ensures (start g).requires.1
-    (not-true (rec_between c.before.bits_at.result g.before.before.bits_at-end.result a.day a.off) c.if-not-bits_at-day.true)
+    c.if-not-bits_at-day.true
 
 -- a record between, too: its kind decides
 kind_decides : (c : tie.Else-not-bits_at-day)
@@ -48,7 +46,7 @@ kind_decides c =
     let a = (start g).args in
     rec_fits a.p.now a.k _ _ _ g.before.before.bits_at-end.ensures g.before.get_energy.ensures g.get.ensures.0 _ _ _
     (inside i) _ c.before.bits_at.ensures (start g).requires.1
-    (not-false (rec_between c.before.bits_at.result g.before.before.bits_at-end.result a.day a.off) c.if-not-bits_at-day.false)
+    c.if-not-bits_at-day.false
 
 returns_3 : tie.Need-returns-then-end-day
 returns_3 c = rw (eq-eqb _ 0 c.before.if-kind-eq0.true, le-ltb _ _ c.if-end-day.true) at (kind_decides c.before.before)

@@ -4,7 +4,7 @@ use mathlib.Core.Bool.{true}
 use mathlib.Core.List.{List}
 use Prim.Native.Nat.{ℕ, suc, ◌≤◌, ◌-◌}
 use native.Mathlib.Omega.{arith}
-use borrow.Author.Tests.{not-true, not-false, eq-eqb, ne_eqb}
+use borrow.Author.Tests.{eq-eqb, ne_eqb}
 use lib.IntN.{ℤ}
 use Rattle.point.specs.InnerTests.{rows, reg_start, reg_user, reg_ok, reg_at, reg_leaves, regs_ok}
 use Rattle.point.proofs.Loops.{rows_pass, rows_fail, rows_end, reg_same, reg_test_lem, small_start}
@@ -39,9 +39,7 @@ tested c = sym (reg_test_lem _ _ _ _ _ _ c.before.bits_at-start.ensures c.bits_a
 passed : (c : tie.Else-not-lo-start invariant_loop decreases_loop)
     → let l : tie.At-loop-k invariant_loop decreases_loop = c.before.before.before.before in
     reg_ok (l.loop-k.latest, l.loop-k.lo) c.before.before.bits_at-start.result c.before.bits_at-user.result ≡ true
-passed c =
-    let l = c.before.before.before.before.loop-k in
-    not-false (reg_ok (l.latest, l.lo) c.before.before.bits_at-start.result c.before.bits_at-user.result) c.if-not-lo-start.false
+passed c = c.if-not-lo-start.false
 
 same : (c : tie.Else-not-lo-start invariant_loop decreases_loop)
     → let l : tie.At-loop-k invariant_loop decreases_loop = c.before.before.before.before in
@@ -52,7 +50,7 @@ same c = reg_same _ _ _ _ _ _ c.before.before.bits_at-start.ensures c.before.bit
 returns_2 : tie.Need-returns-then-not-lo-start invariant_loop decreases_loop
 returns_2 c =
     let l = c.before.before.before.before.loop-k in
-    sym (rows_fail _ _ _ l.k _ (omega arith) (tested c.before ∙ not-true (reg_ok (l.latest, l.lo) c.before.before.bits_at-start.result c.before.bits_at-user.result) c.if-not-lo-start.true)) ∙ l.invariant.1
+    sym (rows_fail _ _ _ l.k _ (omega arith) (tested c.before ∙ c.if-not-lo-start.true)) ∙ l.invariant.1
 
 add_lo : tie.Need-overflow_add-lo invariant_loop decreases_loop
 add_lo c =

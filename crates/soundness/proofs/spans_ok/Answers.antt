@@ -2,8 +2,7 @@ use native.Mathlib.Numerals.{add-one}
 use mathlib.Core.Path.{◌≡◌, sym, ap, ◌∙◌}
 use Prim.Native.Nat.{suc, ◌-◌}
 use native.Mathlib.Omega.{arith}
-use borrow.Author.Tests.{not-true, not-false}
-use Rattle.point.specs.InnerTests.{span_ok, spans_ok}
+use Rattle.point.specs.InnerTests.{spans_ok}
 use Rattle.point.proofs.Loops.{rows_pass, rows_fail, rows_end}
 use Rattle.soundness.proofs.spans_ok.Goals as goal
 
@@ -16,13 +15,13 @@ loop-k-init c =
 pub returns-then-not-lo-off : goal.returns-then-not-lo-off
 returns-then-not-lo-off c =
     let l = c.loop-k in
-    sym (rows_fail _ _ _ l.k _ (omega arith) (rw (c.on_day-on.ensures.0, c.off_day-off.ensures.0) at (not-true (span_ok l.lo c.off_day-off.result c.on_day-on.result) c.if-not-lo-off.true))) ∙ l.invariant.1
+    sym (rows_fail _ _ _ l.k _ (omega arith) (rw (c.on_day-on.ensures.0, c.off_day-off.ensures.0) at c.if-not-lo-off.true)) ∙ l.invariant.1
 
 pub loop-k-preserved : goal.loop-k-preserved
 loop-k-preserved c =
     let l = c.loop-k in
     let on = c.on_day-on in
-    (omega arith, sym (rows_pass _ _ _ l.k _ _ (omega arith) (rw (on.ensures.0, c.off_day-off.ensures.0) at (not-false (span_ok l.lo c.off_day-off.result on.result) c.if-not-lo-off.false)) (add-one on.result ∙ ap suc on.ensures.0)) ∙ l.invariant.1)
+    (omega arith, sym (rows_pass _ _ _ l.k _ _ (omega arith) (rw (on.ensures.0, c.off_day-off.ensures.0) at c.if-not-lo-off.false) (add-one on.result ∙ ap suc on.ensures.0)) ∙ l.invariant.1)
 
 pub returns : goal.returns
 returns c = sym (rows_end _ _ _ c.loop-k.k _ (omega arith)) ∙ c.loop-k.invariant.1

@@ -1,6 +1,4 @@
-use Prim.Native.Nat.{◌-◌}
 use mathlib.Core.Path.{sym, ◌∙◌}
-use mathlib.Core.Bool.{true}
 use borrow.Author.Rules.{rules}
 use Rattle.numbers.proofs.Rows.{all_none}
 use Rattle.table.proofs.Laws.{later_fails, later_more, later_done}

@@ -1,9 +1,6 @@
-use Prim.Native.Nat.{◌-◌}
 use mathlib.Core.Path.{sym, ◌∙◌}
-use mathlib.Core.Bool.{true}
 use borrow.Author.Rules.{rules}
 use Rattle.numbers.proofs.Rows.{all_none, all_more, all_fails, all_done}
-use Rattle.layout.specs.InnerMirns.{later_differ}
 use Rattle.layout.proofs.Mirns.{differ_is}
 use Rattle.table.proofs.mirns_differ.Goals as goal
 

@@ -1,5 +1,5 @@
 -- `words::byte_sums` meets its contract. Assumes nothing.
-use Rattle.std.proofs.Common.{ℕ, ◌-◌, sym, refl, ap, ◌∙◌, rules}
+use Rattle.std.proofs.Common.{ℕ, sym, refl, ap, ◌∙◌, rules}
 use Rattle.words.specs.Sums.{sums_of}
 use Rattle.words.proofs.Checks.{sums_more, sums_end}
 use Rattle.words.proofs.byte_sums.Goals as goal

@@ -1,5 +1,5 @@
 -- `words::decode` meets its contract. Assumes nothing.
-use Rattle.std.proofs.Common.{◌≡◌, ◌-◌, ap, ◌∙◌, arith, to_z-of_z, w64, rules}
+use Rattle.std.proofs.Common.{◌≡◌, ap, ◌∙◌, arith, to_z-of_z, w64, rules}
 use Rattle.words.specs.Tables.{decoded_into}
 use Rattle.words.proofs.Tables.{decoded_more}
 use Rattle.words.proofs.decode.Goals as goal

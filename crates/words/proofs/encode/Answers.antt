@@ -1,5 +1,5 @@
 -- `words::encode` meets its contract. Assumes nothing.
-use Rattle.std.proofs.Common.{◌≡◌, ◌-◌, ap, ◌∙◌, arith, to_z-of_z, w64, rules}
+use Rattle.std.proofs.Common.{◌≡◌, ap, ◌∙◌, arith, to_z-of_z, w64, rules}
 use Rattle.words.specs.Tables.{encoded_into}
 use Rattle.words.proofs.Tables.{encoded_more}
 use Rattle.words.proofs.encode.Goals as goal

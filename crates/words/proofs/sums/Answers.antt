@@ -1,5 +1,5 @@
 -- `words::sums` meets its contract. Assumes nothing.
-use Rattle.std.proofs.Common.{ℕ, ◌-◌, get_or, pos, sym, refl, ap, ◌∙◌, to_z-of_z, w64, of_z, rules}
+use Rattle.std.proofs.Common.{ℕ, get_or, pos, sym, refl, ap, ◌∙◌, to_z-of_z, w64, of_z, rules}
 use lib.ListN.{length-map, get_or-map}
 use Rattle.words.specs.Sums.{sums_of}
 use Rattle.words.specs.Words.{bits_of}
