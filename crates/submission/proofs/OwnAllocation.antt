@@ -12,7 +12,6 @@ use borrow.Author.Tests.{lt-ltb, eq-eqb}
 use Rattle.numbers.specs.Naturals.{nat_of}
 use Rattle.numbers.specs.Answers.{refused}
 use Rattle.numbers.specs.Shares.{floor_part}
-use Rattle.numbers.specs.Rows.{all}
 use Rattle.numbers.proofs.Bools.{join}
 use Rattle.numbers.proofs.Integers.{pos_same}
 use Rattle.numbers.proofs.Rows.{all_of}

@@ -1,5 +1,4 @@
 use mathlib.Core.Path.{sym}
-use Prim.Native.Nat.{◌-◌}
 use native.Mathlib.Omega.{arith}
 use Rattle.numbers.proofs.Rows.{all_none, all_more, all_fails, all_done}
 use Rattle.daybook.specs.FromNumbers.{num}
