@@ -39,7 +39,7 @@ book c = table_book (with_edition (else2 c)).edition-ed.result (start c).args.t.
 sound_is : (c : tie.Else-not-sound) → sound c.before.before.edition-ed.result c.before.before.before.args.t.now ≡ true
 sound_is c = sym c.before.sound.ensures ∙ c.if-not-sound.false
 
-range_is : (c : tie.Else-not-in_range) → allocation_in_range (with_edition c).before.args.q (length (with_edition c).before.args.out-1.now) ≡ true
+range_is : (c : tie.Else-not-in_range) → allocation_in_range (with_edition c).before.args.q (length (with_edition c).before.args.out.now) ≡ true
 range_is c = sym c.in_range.ensures ∙ c.if-not-in_range.false
 
 -- the days as they were read
@@ -65,18 +65,18 @@ sum_is c = c.sum_of-s.ensures ∙ ap total (weights_are c.before.before) ∙ tot
 returns : tie.Need-returns-then-not-sound
 returns c =
     let e = c.before.before.before in
-    sent_back_lem 1 e.before.args.out-1.now c.refused.ensures
+    sent_back_lem 1 e.before.args.out.now c.refused.ensures
     (call_unsound _ _ e.edition-ed.ensures.0 _ _ (sym c.before.before.sound.ensures ∙ c.before.if-not-sound.true))
 
 returns_2 : tie.Need-returns-then-not-in_range
 returns_2 c =
     let e = c.before.before.before.before.before in
-    sent_back_lem 2 e.before.args.out-1.now c.refused-then-not-in_range.ensures
+    sent_back_lem 2 e.before.args.out.now c.refused-then-not-in_range.ensures
     (call_range _ _ e.edition-ed.ensures.0 _ _ (sound_is c.before.before.before) (sym c.in_range.ensures ∙ c.before.if-not-in_range.true))
 
 weights_requires : tie.Need-weights-ws-requires
 weights_requires c κs =
-    let ok = (in_range_tells (start c).args.q (length (start c).args.out-1.now) (range_is (else2 c))).0 in (
+    let ok = (in_range_tells (start c).args.q (length (start c).args.out.now) (range_is (else2 c))).0 in (
       (with_edition (else2 c)).edition-ed.ensures.1,
       sound_is (else2 c).before.before,
       omega (arith, ok.gasday_high, gasday_is c),
@@ -89,7 +89,7 @@ returns_3 : tie.Need-returns-then-s-eq0
 returns_3 c =
     let m = c.before.before in
     let e = else2 (days m) in
-    sent_back_lem 15 (with_edition e).before.args.out-1.now c.refused-then-s-eq0.ensures
+    sent_back_lem 15 (with_edition e).before.args.out.now c.refused-then-s-eq0.ensures
     (call_weightless _ _ (with_edition e).edition-ed.ensures.0 _ _ (sound_is e.before.before) (range_is e) (sym (sum_is m) ∙ c.before.if-s-eq0.true))
 
 apportion_requires : tie.Need-apportion-requires
@@ -111,7 +111,7 @@ returns_4 c =
     let else3 = c.before.before.before.before in
     let m = else3.before in
     let e = else2 (days m) in
-    handed_out (with_edition e).before.args.out-1.now c.before.apportion.ensures
+    handed_out (with_edition e).before.args.out.now c.before.apportion.ensures
     (call_given _ _ (with_edition e).edition-ed.ensures.0 _ _ (sound_is e.before.before) (range_is e) (λ z. else3.if-s-eq0.false (sum_is m ∙ z)))
 
 pub allocate_spec : {M : Type 1} → statement M

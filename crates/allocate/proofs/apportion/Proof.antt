@@ -65,7 +65,7 @@ net_load_requires c κs =
 split_to_requires : tie.Need-split_to-requires
 split_to_requires c κs =
     let s = start c.before.before in
-    (weigh_32 s.requires, (in_range_tells s.args.q (length s.args.out-1.now) s.requires.in_range).1, c.before.net_load-load.ensures.1, s.requires.some, s.requires.few, s.requires.sum)
+    (weigh_32 s.requires, (in_range_tells s.args.q (length s.args.out.now) s.requires.in_range).1, c.before.net_load-load.ensures.1, s.requires.some, s.requires.few, s.requires.sum)
 
 totals_requires : tie.Need-totals-all-requires
 totals_requires c κs =
@@ -74,8 +74,8 @@ totals_requires c κs =
     let load = after-split-to.before.before in
     let out = after-split-to.split_to.ensures in (
       ap length (fros_is c.before.before) ∙ fros_32 s.requires,
-      rw out (placed_long (split load.net_load-load.result s.args.s 0 s.args.ws.now) s.args.out-1.now (split_32 s.requires load.net_load-load.result)),
-      subst (SharesBelow 3032000000) (sym out) (shares_small s.requires (nsl_is load) load.net_load-load.ensures.1 s.args.out-1.now),
+      rw out (placed_long (split load.net_load-load.result s.args.s 0 s.args.ws.now) s.args.out.now (split_32 s.requires load.net_load-load.result)),
+      subst (SharesBelow 3032000000) (sym out) (shares_small s.requires (nsl_is load) load.net_load-load.ensures.1 s.args.out.now),
     )
 
 returns : tie.Need-returns
@@ -87,8 +87,8 @@ returns c =
     let is = nsl_is load in
     let out = after-fros.before.before.split_to.ensures in
     let nsl = to_z-of_z w64 c.integer.result (sfits_of c.integer.type_inv) ∙ c.integer.ensures ∙ ap pos is in
-    let all = c.before.totals-all.ensures ∙ ap₂ (λ us xs. map (λ u. pos (total_to us xs u 32)) users) (fros_is after-fros) out ∙ totals_are s.requires is s.args.out-1.now in
-    (ap₂ (λ z l. pos 0 ∷ z ∷ l) nsl all, out ∙ ap (λ l. placed l s.args.out-1.now) (shares_are s.requires is))
+    let all = c.before.totals-all.ensures ∙ ap₂ (λ us xs. map (λ u. pos (total_to us xs u 32)) users) (fros_is after-fros) out ∙ totals_are s.requires is s.args.out.now in
+    (ap₂ (λ z l. pos 0 ∷ z ∷ l) nsl all, out ∙ ap (λ l. placed l s.args.out.now) (shares_are s.requires is))
 
 pub apportion_spec : {M : Type 1} → statement M
 apportion_spec =
