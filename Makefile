@@ -33,22 +33,19 @@ CASES := 10000
 JOURNALS := hub/lines.in $(if $(VECTORS),$(wildcard $(VECTORS)/*.in),crates/replay/stdin)
 HUB_SOURCES := hub/main.c hub/player.c hub/line.c hub/words.c
 TEST_SOURCES := hub/functions.c hub/chance.c hub/words.c
-DAMAGE_SOURCES := hub/damage.c hub/lent.c hub/images.c hub/conversions.c hub/batches.c hub/shares.c $(TEST_SOURCES)
+DAMAGE_SOURCES := hub/damage.c hub/lent.c hub/images.c hub/conversions.c hub/batches.c $(TEST_SOURCES)
 EDITIONS_SOURCES := hub/editions.c hub/checks.c hub/conversions.c $(TEST_SOURCES)
 TRIALS_SOURCES := hub/trials.c hub/checks.c hub/lent.c hub/batches.c $(TEST_SOURCES)
-SUBMISSIONS_SOURCES := hub/submissions.c hub/submitting.c hub/splits.c hub/checks.c hub/lent.c hub/shares.c \
-  $(TEST_SOURCES)
 BENCH_SOURCES := $(wildcard bench/*.c) hub/images.c hub/chance.c hub/words.c
 HEADERS := include/petlumas.h $(wildcard hub/*.h bench/*.h)
 BUILD_C = mkdir -p $(@D) && $(CC) $(STRICT) $(CFLAGS) $(filter %.c,$^) $(LIB) -o $@
 
 test-c: test-c-plain test-c-example test-c-sanitized test-c-valgrind
 
-test-c-plain: target/c/hub target/c/editions target/c/trials target/c/submissions target/c/damage
+test-c-plain: target/c/hub target/c/editions target/c/trials target/c/damage
 	hub/test.sh target/c/hub $(JOURNALS)
 	target/c/editions
 	target/c/trials
-	target/c/submissions
 	target/c/damage $(CASES)
 
 # The README's example compiles and prints what its comment says.
@@ -56,18 +53,16 @@ test-c-example: target/c/example
 	test "$$(target/c/example)" = '0 7'
 
 # Only the C program is instrumented: what the library does outside a buffer is for valgrind and lent.c's pages.
-test-c-sanitized: target/c/hub-sanitized target/c/editions-sanitized target/c/trials-sanitized \
-  target/c/submissions-sanitized target/c/damage-sanitized
+test-c-sanitized: target/c/hub-sanitized target/c/editions-sanitized target/c/trials-sanitized target/c/damage-sanitized
 	hub/test.sh target/c/hub-sanitized $(JOURNALS)
 	target/c/editions-sanitized
 	target/c/trials-sanitized
-	target/c/submissions-sanitized
 	target/c/damage-sanitized $(CASES)
 
-test-c-valgrind: target/c/hub target/c/editions target/c/trials target/c/submissions target/c/damage
+test-c-valgrind: target/c/hub target/c/editions target/c/trials target/c/damage
 	if command -v valgrind > /dev/null; then \
 	  hub/test.sh '$(VALGRIND) target/c/hub' $(JOURNALS) && $(VALGRIND) target/c/editions && \
-	  $(VALGRIND) target/c/trials && $(VALGRIND) target/c/submissions && $(VALGRIND) target/c/damage $(CASES); \
+	  $(VALGRIND) target/c/trials && $(VALGRIND) target/c/damage $(CASES); \
 	else echo 'valgrind is not installed: its tests are left out'; fi
 
 bench: target/c/bench
@@ -83,9 +78,6 @@ target/c/editions: $(EDITIONS_SOURCES) $(HEADERS) $(LIB)
 	$(BUILD_C)
 
 target/c/trials: $(TRIALS_SOURCES) $(HEADERS) $(LIB)
-	$(BUILD_C)
-
-target/c/submissions: $(SUBMISSIONS_SOURCES) $(HEADERS) $(LIB)
 	$(BUILD_C)
 
 target/c/example: target/c/example.c include/petlumas.h $(LIB)
@@ -109,7 +101,4 @@ target/c/editions-sanitized: $(EDITIONS_SOURCES) $(HEADERS) $(LIB)
 	$(BUILD_C) $(SANITIZE)
 
 target/c/trials-sanitized: $(TRIALS_SOURCES) $(HEADERS) $(LIB)
-	$(BUILD_C) $(SANITIZE)
-
-target/c/submissions-sanitized: $(SUBMISSIONS_SOURCES) $(HEADERS) $(LIB)
 	$(BUILD_C) $(SANITIZE)

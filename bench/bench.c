@@ -75,16 +75,6 @@ static void make_batch(struct both *both, const struct edition *edition) {
     decode(both->notice_bytes, both->notices, NOTICE_NUMBERS * NOTICES);
 }
 
-static const int64_t window_400[ARGS_MOST] = {20000, 19600, 19999, 1000000000, 0, 0};
-
-/* The register's own; where it has no points they are 0. */
-static void make_shares(struct both *both) {
-    uint8_t answer[PETLUMAS_ALLOCATE_ANSWER_BYTES];
-    memset(both->share_bytes, 0, sizeof both->share_bytes);
-    library_allocate(both->bytes, answer, both->share_bytes, window_400);
-    decode(both->share_bytes, both->shares, SHARES);
-}
-
 static const int64_t saved_state[ARGS_MOST] = {1};
 
 /* The same table and images for both sides. Every eighth point is daily, the others have records
@@ -97,7 +87,6 @@ static void make_register(struct both *both, const struct filling *filling) {
         fill_point(both->bytes, mirn, filling);
     decode(both->bytes, both->table, REGISTER_NUMBERS);
     make_batch(both, &editions[filling->edition]);
-    make_shares(both);
     must_enter(library_save(both->bytes, answer, both->library_image, saved_state), "image");
     must_enter(c_save(both->table, both->c_image, saved_state), "image in C");
 }
@@ -163,15 +152,6 @@ static void time_library_allocate(struct both *both, const int64_t *args) {
 static void time_c_allocate(struct both *both, const int64_t *args) {
     int64_t shares[SHARES];
     c_allocate(both->table, shares, args);
-}
-
-static void time_library_check(struct both *both, const int64_t *args) {
-    uint8_t answer[PETLUMAS_CHECK_ANSWER_BYTES];
-    library_check(both->bytes, answer, both->share_bytes, args);
-}
-
-static void time_c_check(struct both *both, const int64_t *args) {
-    c_check(both->table, both->shares, args);
 }
 
 static void time_library_save(struct both *both, const int64_t *args) {
@@ -251,6 +231,7 @@ static const int64_t all_notices[ARGS_MOST] = {NOTICES};
 static void time_against_c(struct both *both) {
     const struct edition *edition = &editions[both->table[EDITION]];
     const int64_t account[ARGS_MOST] = {1, 0, 39999};
+    const int64_t allocate[ARGS_MOST] = {20000, 19600, 19999, 1000000000, 0, 0};
     /* A replacement of the last record of the last point but one, where there is one. */
     const int64_t *record =
         both->table + point_place(edition, (size_t)edition->points - 1) - RECORD_NUMBERS;
@@ -260,10 +241,8 @@ static void time_against_c(struct both *both) {
               time_pair(time_library_trial, all_notices, time_c_trial, all_notices, both, BATCH));
     print_row("account over days 0 to 39,999",
               time_pair(time_library_account, account, time_c_account, account, both, BATCH));
-    print_row("allocate over 400 days", time_pair(time_library_allocate, window_400,
-                                                  time_c_allocate, window_400, both, BATCH));
-    print_row("check over 400 days",
-              time_pair(time_library_check, window_400, time_c_check, window_400, both, BATCH));
+    print_row("allocate over 400 days",
+              time_pair(time_library_allocate, allocate, time_c_allocate, allocate, both, BATCH));
     print_row("save",
               time_pair(time_library_save, saved_state, time_c_save, saved_state, both, BATCH));
     print_row("restore", time_pair(time_library_restore, saved_state, time_c_restore, saved_state,
@@ -290,22 +269,19 @@ static void time_days(struct both *both) {
     const int64_t all_days[ARGS_MOST] = {1, 0, 39999};
     const int64_t one_day[ARGS_MOST] = {1, 20000, 20000};
     const int64_t window[ARGS_MOST] = {1, 19600, 19999};
+    const int64_t allocate[ARGS_MOST] = {20000, 19600, 19999, 1000000000, 0, 0};
     struct pair walk =
         time_pair(time_library_account, all_days, time_c_account_by_days, all_days, both, FEW);
     struct pair span =
         time_pair(time_library_account, all_days, time_library_account, one_day, both, BATCH);
     struct pair three =
-        time_pair(time_library_allocate, window_400, time_library_account, window, both, BATCH);
-    struct pair checked =
-        time_pair(time_library_check, window_400, time_library_allocate, window_400, both, BATCH);
+        time_pair(time_library_allocate, allocate, time_library_account, window, both, BATCH);
     printf("  library's account of all days %.2f, a C loop over the days %.2f, %.0f times\n",
            walk.first, walk.second, walk.second / walk.first);
     printf("  library's account of all days %.2f, of one day %.2f, ratio %.2f\n", span.first,
            span.second, span.first / span.second);
     printf("  library's allocate over 400 days %.2f, three accounts of these %.2f, ratio %.2f\n",
            three.first, 3 * three.second, three.first / (3 * three.second));
-    printf("  library's check over 400 days %.2f, allocate over these %.2f, ratio %.2f\n",
-           checked.first, checked.second, checked.first / checked.second);
 }
 
 static void time_edition(struct both *both, const char *name, int64_t edition) {

@@ -8,13 +8,10 @@
 #include <stdlib.h>
 #include <string.h>
 
-enum { CHECKS = 3 }; /* with the numbers of each allocation */
-
 /* All calls, and those given of each. */
 struct counts {
     uint64_t calls;
     uint64_t energies, trials, corrections, accounts, allocations, saves, restores, conversions;
-    uint64_t yeses, noes; /* of checks */
 };
 
 struct compared {
@@ -129,24 +126,6 @@ static void compare_allocate(struct compared *c, const int64_t *a) {
     c->counts->allocations += result == 0;
 }
 
-/* The shares are often near those of the register that arguments are chosen for. */
-static void compare_check(struct compared *c, const int64_t *a) {
-    struct both *both = &c->both;
-    uint8_t answer[PETLUMAS_CHECK_ANSWER_BYTES];
-    choose_shares(&c->chance, a, both->share_bytes);
-    decode(both->share_bytes, both->shares, SHARES);
-    int64_t result = library_check(both->bytes, answer, both->share_bytes, a);
-    struct plain_checked plain = c_check(both->table, both->shares, a);
-    expect(result == plain.refusal && get_number(answer, 0) == plain.refusal &&
-               get_number(answer, 1) == plain.yes,
-           "check", a);
-    expect(same_numbers(both->share_bytes, both->shares, SHARES), "check, shares", a);
-    expect(same_table(both), "check, table", a);
-    c->counts->calls++;
-    c->counts->yeses += result == 0 && plain.yes == 1;
-    c->counts->noes += result == 0 && plain.yes == 0;
-}
-
 static void compare_save(struct compared *c, const int64_t *a) {
     uint8_t answer[PETLUMAS_SAVE_ANSWER_BYTES];
     int64_t result = library_save(c->both.bytes, answer, c->both.library_image, a);
@@ -211,8 +190,6 @@ static void compare_calls(struct compared *c, uint64_t damages) {
     compare_account(c, args);
     choose_allocate(&c->chance, args);
     compare_allocate(c, args);
-    for (int k = 0; k < CHECKS; k++)
-        compare_check(c, args);
     choose_count(&c->chance, args);
     compare_trial(c, args);
     choose_energy_notice(&c->chance, args);
@@ -249,10 +226,9 @@ static void compare_list(struct compared *c, uint64_t length) {
 static void print_counts(const char *edition, const struct counts *n) {
     printf("%s edition: equal answers, tables and images in %" PRIu64 " calls; given: %" PRIu64
            " energy, %" PRIu64 " trial, %" PRIu64 " correct, %" PRIu64 " account, %" PRIu64
-           " allocate, %" PRIu64 " check yes, %" PRIu64 " check no, %" PRIu64 " save, %" PRIu64
-           " restore, %" PRIu64 " convert\n",
+           " allocate, %" PRIu64 " save, %" PRIu64 " restore, %" PRIu64 " convert\n",
            edition, n->calls, n->energies, n->trials, n->corrections, n->accounts, n->allocations,
-           n->yeses, n->noes, n->saves, n->restores, n->conversions);
+           n->saves, n->restores, n->conversions);
 }
 
 void compare(uint64_t seed, uint64_t lists, uint64_t length) {

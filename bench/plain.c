@@ -10,8 +10,6 @@ enum {
     PERIOD = 425,
 };
 
-static const int64_t SHARE_MOST = 4000000000;
-
 static int64_t least(int64_t a, int64_t b) {
     return a < b ? a : b;
 }
@@ -377,23 +375,6 @@ static bool allocation_in_range(int64_t gasday, int64_t from, int64_t to, int64_
            within(uag, -AMOUNT_MOST, AMOUNT_MOST) && within(clp, -AMOUNT_MOST, AMOUNT_MOST);
 }
 
-/* Fills in the points' weights and gives their sum; *daily is the gas of the daily points. */
-static int64_t weigh(const int64_t *table, int64_t gasday, int64_t from, int64_t to,
-                     int64_t *weights, int64_t *daily) {
-    int64_t total = 0;
-    const int64_t *p = points(table);
-    *daily = 0;
-    for (int64_t i = 0; i < table[POINT_COUNT]; i++, p += stride(table)) {
-        if (!is_active(p, gasday))
-            continue;
-        if (p[KIND] == 1)
-            *daily += reading(p, gasday);
-        else
-            total += weights[i] = weight(p, from, to);
-    }
-    return total;
-}
-
 /* Splits nsl among the points by their weights, which add up to total. */
 static void split(const int64_t *table, const int64_t *weights, int64_t total, int64_t gasday,
                   struct plain_allocation *answer, int64_t *shares) {
@@ -414,7 +395,8 @@ struct plain_allocation plain_allocate(const int64_t *table, size_t length, int6
                                        int64_t to, int64_t tdq, int64_t uag, int64_t clp) {
     struct plain_allocation answer = {0};
     int64_t weights[SHARES] = {0};
-    int64_t daily;
+    int64_t total = 0;
+    int64_t daily = 0;
     if (!plain_sound(table, length)) {
         answer.refusal = 1;
         return answer;
@@ -423,7 +405,15 @@ struct plain_allocation plain_allocate(const int64_t *table, size_t length, int6
         answer.refusal = 2;
         return answer;
     }
-    int64_t total = weigh(table, gasday, from, to, weights, &daily);
+    const int64_t *p = points(table);
+    for (int64_t i = 0; i < table[POINT_COUNT]; i++, p += stride(table)) {
+        if (!is_active(p, gasday))
+            continue;
+        if (p[KIND] == 1)
+            daily += reading(p, gasday);
+        else
+            total += weights[i] = weight(p, from, to);
+    }
     if (total == 0) {
         answer.refusal = 15;
         return answer;
@@ -431,47 +421,4 @@ struct plain_allocation plain_allocate(const int64_t *table, size_t length, int6
     answer.nsl = most(tdq - daily - uag - clp, 0);
     split(table, weights, total, gasday, &answer, shares);
     return answer;
-}
-
-/* ---- check */
-
-static bool shares_in_range(const int64_t *shares) {
-    for (size_t k = 0; k < SHARES; k++)
-        if (!within(shares[k], 0, SHARE_MOST))
-            return false;
-    return true;
-}
-
-/* No product is beyond 4,000,000,000 * 16 * 108 * 1,000,000, which is below 2^63. */
-static bool share_agrees(int64_t share, int64_t weight, int64_t nsl, int64_t total) {
-    int64_t apart = share * total - nsl * weight;
-    return (weight != 0 || share == 0) && -total < apart && apart < total;
-}
-
-static bool shares_agree(const int64_t *shares, const int64_t *weights, int64_t nsl,
-                         int64_t total) {
-    int64_t sum = 0;
-    for (size_t k = 0; k < SHARES; k++) {
-        if (!share_agrees(shares[k], weights[k], nsl, total))
-            return false;
-        sum += shares[k];
-    }
-    return sum == nsl;
-}
-
-struct plain_checked plain_check(const int64_t *table, size_t length, const int64_t *shares,
-                                 size_t shares_length, int64_t gasday, int64_t from, int64_t to,
-                                 int64_t tdq, int64_t uag, int64_t clp) {
-    int64_t weights[SHARES] = {0};
-    int64_t daily;
-    if (!plain_sound(table, length))
-        return (struct plain_checked){1, 0};
-    if (!allocation_in_range(gasday, from, to, tdq, uag, clp) || shares_length < SHARES ||
-        !shares_in_range(shares))
-        return (struct plain_checked){2, 0};
-    int64_t total = weigh(table, gasday, from, to, weights, &daily);
-    if (total == 0)
-        return (struct plain_checked){15, 0};
-    int64_t nsl = most(tdq - daily - uag - clp, 0);
-    return (struct plain_checked){0, shares_agree(shares, weights, nsl, total)};
 }

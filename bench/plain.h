@@ -27,10 +27,6 @@ struct plain_allocation {
     int64_t refusal, nsl, totals[16];
 };
 
-struct plain_checked {
-    int64_t refusal, yes;
-};
-
 bool plain_sound(const int64_t *table, size_t length);
 
 struct plain_energy plain_energy(int64_t *table, size_t length, int64_t mirn, int64_t start,
@@ -55,10 +51,6 @@ struct plain_account plain_account_by_days(const int64_t *table, size_t length, 
 struct plain_allocation plain_allocate(const int64_t *table, size_t length, int64_t *shares,
                                        size_t shares_length, int64_t gasday, int64_t from,
                                        int64_t to, int64_t tdq, int64_t uag, int64_t clp);
-
-struct plain_checked plain_check(const int64_t *table, size_t length, const int64_t *shares,
-                                 size_t shares_length, int64_t gasday, int64_t from, int64_t to,
-                                 int64_t tdq, int64_t uag, int64_t clp);
 
 /* These give the refusal. */
 int64_t plain_save(const int64_t *table, size_t length, uint8_t *image, size_t image_length,

@@ -58,16 +58,6 @@ struct plain_allocation c_allocate(const int64_t *table, int64_t *shares, const 
                           a[5]);
 }
 
-int64_t library_check(const uint8_t *bytes, uint8_t *answer, const uint8_t *shares,
-                      const int64_t *a) {
-    return petlumas_check(bytes, BYTES, answer, PETLUMAS_CHECK_ANSWER_BYTES, shares,
-                          PETLUMAS_ALLOCATE_TABLE_BYTES, a[0], a[1], a[2], a[3], a[4], a[5]);
-}
-
-struct plain_checked c_check(const int64_t *table, const int64_t *shares, const int64_t *a) {
-    return plain_check(table, REGISTER_NUMBERS, shares, SHARES, a[0], a[1], a[2], a[3], a[4], a[5]);
-}
-
 int64_t library_save(const uint8_t *bytes, uint8_t *answer, uint8_t *image, const int64_t *a) {
     return petlumas_save(bytes, BYTES, answer, PETLUMAS_SAVE_ANSWER_BYTES, image, IMAGE_BYTES,
                          a[0]);

@@ -10,16 +10,14 @@
 
 enum { BYTES = PETLUMAS_REGISTER_BYTES, IMAGE_BYTES = PETLUMAS_IMAGE_BYTES };
 
-/* One register on both sides, an image of it, what it is converted into, a trial's batch and
-   answers, with room for as many notices as it takes, and a check's shares. */
+/* One register on both sides, an image of it, what it is converted into, and a trial's batch and
+   answers, with room for as many notices as it takes. */
 struct both {
     uint8_t bytes[BYTES], other_bytes[BYTES];
     int64_t table[REGISTER_NUMBERS], other_table[REGISTER_NUMBERS];
     uint8_t library_image[IMAGE_BYTES], c_image[IMAGE_BYTES];
     uint8_t notice_bytes[8 * NOTICE_NUMBERS * NOTICES], answer_bytes[8 * ANSWER_NUMBERS * NOTICES];
     int64_t notices[NOTICE_NUMBERS * NOTICES], answers[ANSWER_NUMBERS * NOTICES];
-    uint8_t share_bytes[8 * SHARES];
-    int64_t shares[SHARES];
 };
 
 void decode(const uint8_t *bytes, int64_t *numbers, size_t count);
@@ -41,10 +39,6 @@ struct plain_account c_account_by_days(const int64_t *table, const int64_t *a);
 
 int64_t library_allocate(const uint8_t *bytes, uint8_t *answer, uint8_t *shares, const int64_t *a);
 struct plain_allocation c_allocate(const int64_t *table, int64_t *shares, const int64_t *a);
-
-int64_t library_check(const uint8_t *bytes, uint8_t *answer, const uint8_t *shares,
-                      const int64_t *a);
-struct plain_checked c_check(const int64_t *table, const int64_t *shares, const int64_t *a);
 
 int64_t library_save(const uint8_t *bytes, uint8_t *answer, uint8_t *image, const int64_t *a);
 int64_t c_save(const int64_t *table, uint8_t *image, const int64_t *a);

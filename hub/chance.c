@@ -224,58 +224,6 @@ void choose_batch(struct chance *c, uint8_t *notices, size_t count) {
     memcpy(c->reg, kept, sizeof kept);
 }
 
-/* ---- shares */
-
-static void add_share(uint8_t *shares, size_t place, int64_t more) {
-    put_number(shares, place, get_number(shares, place) + more);
-}
-
-/* The place of any share that is not 0, but this one; SHARES if there is none. */
-static size_t any_taken(struct chance *c, const uint8_t *shares, size_t but) {
-    size_t found = SHARES;
-    uint64_t taken = 0;
-    for (size_t k = 0; k < SHARES; k++)
-        if (k != but && get_number(shares, k) != 0 && one_in(c, ++taken))
-            found = k;
-    return found;
-}
-
-/* Mostly 1, and to a point that has something. The sum stays. */
-static void move_share(struct chance *c, uint8_t *shares) {
-    int64_t amount = one_in(c, 8) ? 2 : 1;
-    size_t from = any_taken(c, shares, SHARES);
-    size_t to = one_in(c, 6) ? (size_t)below(c, SHARES) : any_taken(c, shares, from);
-    if (from == SHARES || to == SHARES)
-        return;
-    add_share(shares, from, -amount);
-    add_share(shares, to, amount);
-}
-
-/* An allocation that is refused leaves 0 everywhere. */
-void choose_shares(struct chance *c, const int64_t *a, uint8_t *shares) {
-    uint8_t answer[PETLUMAS_ALLOCATE_ANSWER_BYTES];
-    memset(shares, 0, PETLUMAS_ALLOCATE_TABLE_BYTES);
-    petlumas_allocate(c->reg, PETLUMAS_REGISTER_BYTES, answer, sizeof answer, shares,
-                      PETLUMAS_ALLOCATE_TABLE_BYTES, a[0], a[1], a[2], a[3], a[4], a[5]);
-    size_t place = one_in(c, 2) ? (size_t)below(c, SHARES) : 0;
-    switch (below(c, 12)) {
-    case 0:
-        break;
-    case 1:
-        put_number(shares, place, one_in(c, 2) ? wild(c) : 4000000000 + between(c, -1, 1));
-        break;
-    case 2:
-        add_share(shares, place, one_in(c, 2) ? 1 : -1);
-        break;
-    case 3:
-        move_share(c, shares);
-        move_share(c, shares);
-        break;
-    default:
-        move_share(c, shares);
-    }
-}
-
 /* ---- registers */
 
 static size_t any_place(struct chance *c) {

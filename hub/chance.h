@@ -43,8 +43,4 @@ void choose_date(struct chance *c, int64_t *args);
    itself stays as it is. */
 void choose_batch(struct chance *c, uint8_t *notices, size_t count);
 
-/* The 32 shares of a check with these arguments: the register's own allocation, often changed a
-   little. */
-void choose_shares(struct chance *c, const int64_t *args, uint8_t *shares);
-
 #endif

@@ -5,7 +5,6 @@
 #include "functions.h"
 #include "images.h"
 #include "places.h"
-#include "shares.h"
 #include "words.h"
 
 #include <inttypes.h>
@@ -26,7 +25,6 @@ struct test {
     struct chance chance;
     uint64_t number; /* of the present case */
     uint64_t calls;
-    uint64_t yeses, noes; /* of checks */
     uint64_t failures;
     uint8_t work[REGISTER_BYTES + PAST_BYTES]; /* the chance's register, perhaps damaged */
     uint8_t earlier[REGISTER_BYTES];           /* a sound one from before it */
@@ -82,12 +80,6 @@ static void lend_batch(struct test *t, int64_t count) {
     choose_batch(c, t->copy, notices);
     lend(c, &t->lent.notices, t->copy, choose_length(t, given));
     lend_filled(t, &t->lent.answers, choose_length(t, room));
-}
-
-static void lend_shares(struct test *t, const int64_t *args) {
-    memset(t->copy, (int)below(&t->chance, 256), SHARES_BYTES + PAST_BYTES);
-    choose_shares(&t->chance, args, t->copy);
-    lend(&t->chance, &t->lent.shares, t->copy, choose_length(t, SHARES_BYTES));
 }
 
 static void lend_holidays(struct test *t) {
@@ -209,27 +201,6 @@ static void check_trial(struct test *t, int64_t count, bool sound, int64_t resul
     expect(t, get_number(t->lent.answer.at, 2) == counted.removed, f, "not the total removed");
 }
 
-/* What the lent bytes get. */
-static struct verdict judge_check(const struct test *t, const int64_t *args, bool sound) {
-    if (!sound)
-        return (struct verdict){1, 0};
-    if (t->lent.answer.length < PETLUMAS_CHECK_ANSWER_BYTES)
-        return (struct verdict){2, 0};
-    return judge_shares(t->lent.reg.before, t->lent.shares.before, t->lent.shares.length, args);
-}
-
-static void check_shares(struct test *t, const int64_t *args, bool sound, int64_t result) {
-    const struct function *f = &functions[CHECK];
-    struct verdict verdict = judge_check(t, args, sound);
-    expect(t, result == verdict.refusal, f, "not the refusal that the bytes get");
-    expect(t, unchanged_from(&t->lent.shares, 0), f, "the shares changed");
-    if (verdict.refusal != 0)
-        return;
-    expect(t, get_number(t->lent.answer.at, 1) == verdict.yes, f, "not what the shares get");
-    t->yeses += verdict.yes == 1;
-    t->noes += verdict.yes == 0;
-}
-
 static void check_save(struct test *t, int64_t state, bool sound, int64_t result) {
     const struct function *f = &functions[SAVE];
     bool good = 1 <= state && state <= 4 && t->lent.image.length >= IMAGE_BYTES &&
@@ -308,18 +279,15 @@ static void lend_register(struct test *t, bool restores, size_t length) {
 }
 
 /* The first number of the call is a trial's count, and the state of a save or a restore. */
-static void lend_buffers(struct test *t, const struct function *f, size_t length,
-                         const int64_t *args) {
+static void lend_buffers(struct test *t, const struct function *f, size_t length, int64_t first) {
     lend_register(t, f == &functions[RESTORE], length);
     lend_filled(t, &t->lent.answer, choose_length(t, 8 * f->fields));
     lend_filled(t, &t->lent.table, choose_length(t, SHARES_BYTES));
     lend_holidays(t);
     if (f == &functions[TRIAL])
-        lend_batch(t, args[0]);
-    if (f == &functions[CHECK])
-        lend_shares(t, args);
+        lend_batch(t, first);
     if (f == &functions[SAVE] || f == &functions[RESTORE])
-        lend_image(t, f == &functions[RESTORE], args[0]);
+        lend_image(t, f == &functions[RESTORE], first);
     if (f == &functions[CONVERT])
         lend_other(t);
 }
@@ -330,7 +298,6 @@ static void take_all_back(struct test *t) {
     take_back(&t->lent.notices);
     take_back(&t->lent.answers);
     take_back(&t->lent.table);
-    take_back(&t->lent.shares);
     take_back(&t->lent.holidays);
     take_back(&t->lent.image);
     take_back(&t->lent.other);
@@ -358,8 +325,6 @@ static void check_call(struct test *t, const struct function *f, const int64_t *
     check_others(t, f, result);
     if (f == &functions[TRIAL])
         check_trial(t, args[0], sound, result);
-    if (f == &functions[CHECK])
-        check_shares(t, args, sound, result);
     if (f == &functions[SAVE])
         check_save(t, args[0], sound, result);
     if (f == &functions[RESTORE])
@@ -376,7 +341,7 @@ static void try_function(struct test *t, const struct function *f, size_t length
                          uint64_t *refusals) {
     int64_t args[ARGS_MOST] = {0};
     f->choose(&t->chance, args);
-    lend_buffers(t, f, length, args);
+    lend_buffers(t, f, length, args[0]);
     int64_t result = f->call(&t->lent, args);
     t->calls++;
     check_call(t, f, args, sound, result);
@@ -428,14 +393,12 @@ int main(int argc, char **argv) {
     make_arena(&test.lent.notices);
     make_arena(&test.lent.answers);
     make_arena(&test.lent.table);
-    make_arena(&test.lent.shares);
     make_arena(&test.lent.holidays);
     make_arena(&test.lent.image);
     make_arena(&test.lent.other);
     for (test.number = 0; test.number < cases && test.failures < 20; test.number++)
         run_case(&test, refusals);
     print_counts(refusals);
-    printf("checks: %" PRIu64 " yes, %" PRIu64 " no\n", test.yeses, test.noes);
     printf("%" PRIu64 " cases, %" PRIu64 " calls, %" PRIu64 " failures\n", test.number, test.calls,
            test.failures);
     return test.failures != 0;

@@ -49,11 +49,6 @@ static int64_t call_allocate(struct buffers *b, const int64_t *a) {
                              b->table.length, a[0], a[1], a[2], a[3], a[4], a[5]);
 }
 
-static int64_t call_check(struct buffers *b, const int64_t *a) {
-    return petlumas_check(b->reg.at, b->reg.length, b->answer.at, b->answer.length, b->shares.at,
-                          b->shares.length, a[0], a[1], a[2], a[3], a[4], a[5]);
-}
-
 static int64_t call_save(struct buffers *b, const int64_t *a) {
     return petlumas_save(b->reg.at, b->reg.length, b->answer.at, b->answer.length, b->image.at,
                          b->image.length, a[0]);
@@ -91,7 +86,6 @@ const struct function functions[FUNCTIONS] = {
     [CORRECT] = {"correct", 17, true, choose_correct, call_correct},
     [ACCOUNT] = {"account", 2, false, choose_account, call_account},
     [ALLOCATE] = {"allocate", 18, false, choose_allocate, call_allocate},
-    [CHECK] = {"check", 2, false, choose_allocate, call_check},
     [SAVE] = {"save", 1, false, choose_state, call_save},
     [RESTORE] = {"restore", 1, true, choose_state, call_restore},
     [CONVERT] = {"convert", 1, false, choose_nothing, call_convert},

@@ -6,7 +6,7 @@
 
 /* What a call is lent; each function takes those that it has. */
 struct buffers {
-    struct lent reg, answer, notices, answers, table, shares, holidays, image;
+    struct lent reg, answer, notices, answers, table, holidays, image;
     struct lent other; /* for a register of the other edition */
 };
 
@@ -29,7 +29,6 @@ enum {
     CORRECT,
     ACCOUNT,
     ALLOCATE,
-    CHECK,
     SAVE,
     RESTORE,
     CONVERT,

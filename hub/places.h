@@ -12,7 +12,7 @@ enum {
     REGISTRATIONS = 8,
     SPANS = 8,
     OPERATORS = 4,
-    SHARES = 32, /* of allocate's answer table and of a check; no edition has more points */
+    SHARES = 32, /* numbers of allocate's answer table; no edition has more points */
 };
 
 /* The header. */

@@ -208,20 +208,6 @@ static bool play_allocate(struct player *p, struct numbers n) {
     return print_answer_and_table(p, answer, sizeof answer / 8, table, p->shares);
 }
 
-/* Allocate's numbers, and a list of shares with its count in front. */
-static bool play_check(struct player *p, struct numbers n) {
-    uint8_t answer[PETLUMAS_CHECK_ANSWER_BYTES];
-    if (n.count < 7 || !is_length(n.at[6], SHARES_MOST) || (uint64_t)n.at[6] != n.count - 7)
-        return false;
-    struct bytes shares = make_bytes(8 * n.at[6]);
-    for (size_t k = 0; k < n.count - 7; k++)
-        put_number(shares.at, k, n.at[7 + k]);
-    petlumas_check(p->buffer, lent_bytes(p), answer, sizeof answer, shares.at, shares.length,
-                   n.at[0], n.at[1], n.at[2], n.at[3], n.at[4], n.at[5]);
-    free(shares.at);
-    return print_answer(p, answer, sizeof answer / 8);
-}
-
 /* Save's and restore's numbers: the state, the image's buffer, how many of its bytes are lent. */
 static bool lends_image(struct numbers n) {
     return is_image(n.at[1]) && is_length(n.at[2], IMAGE_BUFFER_BYTES);
@@ -411,29 +397,17 @@ static bool hub_allocate(struct player *p, struct numbers n) {
 /* ---- lines */
 
 static const struct call calls[] = {
-    {"fresh", 3, play_fresh},
-    {"open", 7, play_open},
-    {"energy", 6, play_energy},
-    {"trial", ANY, play_trial},
-    {"status", 3, play_status},
-    {"request", ANY, play_request},
-    {"withdraw", 2, play_withdraw},
-    {"correct", 4, play_correct},
-    {"account", 3, play_account},
-    {"allocate", 6, play_allocate},
-    {"check", ANY, play_check},
-    {"save", 3, play_save},
-    {"restore", 3, play_restore},
-    {"convert", 1, play_convert},
-    {"date", 3, play_date},
-    {"look", 1, play_look},
-    {"poke", 2, play_poke},
-    {"tlen", 1, play_tlen},
-    {"alen", 1, play_alen},
-    {"table", 0, play_table},
-    {"imgpoke", 3, play_imgpoke},
-    {"image", 1, play_image},
-    {NULL, 0, NULL},
+    {"fresh", 3, play_fresh},       {"open", 7, play_open},
+    {"energy", 6, play_energy},     {"trial", ANY, play_trial},
+    {"status", 3, play_status},     {"request", ANY, play_request},
+    {"withdraw", 2, play_withdraw}, {"correct", 4, play_correct},
+    {"account", 3, play_account},   {"allocate", 6, play_allocate},
+    {"save", 3, play_save},         {"restore", 3, play_restore},
+    {"convert", 1, play_convert},   {"date", 3, play_date},
+    {"look", 1, play_look},         {"poke", 2, play_poke},
+    {"tlen", 1, play_tlen},         {"alen", 1, play_alen},
+    {"table", 0, play_table},       {"imgpoke", 3, play_imgpoke},
+    {"image", 1, play_image},       {NULL, 0, NULL},
 };
 
 static const struct call hub_calls[] = {

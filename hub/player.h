@@ -10,7 +10,7 @@ enum {
     PAST_NUMBERS = 16, /* stand behind the register; no call may touch them */
     BUFFER_NUMBERS = REGISTER_NUMBERS + PAST_NUMBERS,
     BUFFER_BYTES = 8 * BUFFER_NUMBERS,
-    SHARES_MOST = 64,   /* numbers of the longest answer table or list of shares */
+    SHARES_MOST = 64,   /* numbers of the longest answer table */
     REPLY_BYTES = 300,  /* the longest answer or answer table of a hub line */
     BATCH_MOST = 606,   /* numbers of a trial's longest table of notices */
     ANSWERS_MOST = 512, /* and of its longest table of answers */

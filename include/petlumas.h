@@ -26,10 +26,9 @@
  *    1  the register is too short or (petlumas_fresh and petlumas_restore
  *       aside) unsound, or the register in an image to restore is unsound, or
  *       the buffer for a converted register is too short
- *    2  a number or a share out of range, no such date, from after to (for an
- *       allocation and its check after to + 1), to not before the gas day, more
- *       than 400 days or 100 notices, or a buffer that is no register's too
- *       short
+ *    2  a number out of range, no such date, from after to (for an allocation
+ *       after to + 1), to not before the gas day, more than 400 days or 100
+ *       notices, or a buffer that is no register's too short
  *    3  the holidays are more than 512, or not strictly ascending, or one is
  *       no day
  *    4  the MIRN is unknown
@@ -70,8 +69,7 @@
  * type 0 (actual), 1 (estimated) or 2 (substituted), a section 1 (Wagga Wagga
  * and Tamworth) or 0 (the rest), an operator 1 to 4, an edition 0 (standard) or
  * 1 (long), a state number 1 to 4, a yes 1 and a no 0. Energy is in whole MJ,
- * -1,000,000 to 1,000,000, and a share that is sent in 0 to 4,000,000,000. Any
- * other number gets its refusal.
+ * -1,000,000 to 1,000,000. Any other number gets its refusal.
  *
  * What the caller owes, since no proof can see it:
  *   - A pointer is not null and has as many bytes behind it as its length says.
@@ -100,7 +98,6 @@
 #define PETLUMAS_CORRECT_ANSWER_BYTES 136
 #define PETLUMAS_ACCOUNT_ANSWER_BYTES 16
 #define PETLUMAS_ALLOCATE_ANSWER_BYTES 144
-#define PETLUMAS_CHECK_ANSWER_BYTES 16
 #define PETLUMAS_SAVE_ANSWER_BYTES 8
 #define PETLUMAS_RESTORE_ANSWER_BYTES 8
 #define PETLUMAS_CONVERT_ANSWER_BYTES 8
@@ -250,23 +247,6 @@ int64_t petlumas_allocate(const uint8_t *PETLUMAS_RESTRICT reg, size_t reg_len,
                           uint8_t *PETLUMAS_RESTRICT table, size_t table_len,
                           int64_t gasday, int64_t from, int64_t to,
                           int64_t tdq, int64_t uag, int64_t clp);
-
-/* Checks a retailer's own allocation. What petlumas_allocate writes into its
- * table gets a yes.
- * shares: PETLUMAS_ALLOCATE_TABLE_BYTES bytes or more: 32 shares, 8 bytes each,
- *   little endian, in the order of petlumas_allocate's table.
- * gasday, from, to, tdq, uag, clp: as for petlumas_allocate.
- * Answer: whether the shares agree with the register. Let T be the weight of a
- *   point in petlumas_allocate and S the sum of all T: the shares sum to the
- *   net section load, a point with T = 0 and a place past the last point have
- *   0, and for each point share * S and load * T differ by less than S.
- * Refusals: 1, 2 (shares too short included), 15. */
-int64_t petlumas_check(const uint8_t *PETLUMAS_RESTRICT reg, size_t reg_len,
-                       uint8_t *PETLUMAS_RESTRICT answer, size_t answer_len,
-                       const uint8_t *PETLUMAS_RESTRICT shares,
-                       size_t shares_len,
-                       int64_t gasday, int64_t from, int64_t to,
-                       int64_t tdq, int64_t uag, int64_t clp);
 
 /* Saves the register as an image.
  * image: PETLUMAS_IMAGE_BYTES bytes or more. Where the result is 0 its first

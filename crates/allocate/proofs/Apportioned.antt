@@ -2,7 +2,7 @@
 use mathlib.Core.Path.{◌≡◌, ◌∙◌, ap, ap₂}
 use mathlib.Core.Bool.{true}
 use mathlib.Core.List.{List, ◌++◌, map}
-use Prim.Native.Nat.{ℕ, ◌+◌, ◌-◌, ◌≤◌, ◌<◌}
+use Prim.Native.Nat.{ℕ, ◌+◌, ◌-◌, ◌*◌, ◌≤◌, ◌<◌}
 use native.Mathlib.Omega.{arith}
 use lib.Dec.{leb}
 use lib.ListN.{length, drop, replicate, length-append, length-map, length-replicate, get_or-append}
@@ -20,14 +20,24 @@ use Rattle.daybook.specs.Notices.{users}
 use Rattle.daybook.specs.Queries.{allocation_in_range, at_least0, tdm_of, nsl_of, weight, weights, total, split, point_shares, total_of}
 use Rattle.lists.proofs.Bounds.{within_bounds}
 use Rattle.lists.proofs.Splits.{split_length}
-use Rattle.layout.specs.Layout.{table_book}
+use Rattle.layout.specs.Layout.{num_at, table_book}
 use Rattle.layout.specs.Calls.{placed}
-use Rattle.allocate.specs.InnerParts.{points_of, padded, SharesBelow, total_to, load_of, InRange, MaySplit, given_of}
+use Rattle.allocate.specs.InnerParts.{points_of, padded, SharesBelow, total_to, load_of, MaySplit, given_of}
 use Rattle.allocate.proofs.Loads.{is_load, next_order}
-use Rattle.allocate.proofs.Arrays.{points_few_lem, weights_few}
+use Rattle.allocate.proofs.Arrays.{points_few_lem}
 use Rattle.allocate.proofs.Given.{total_padded, split_padded, split_small, user_total}
 
 -- ---- numbers in range
+
+pub record InRange (q : AllocationQuery) : Type 0 where
+  pub gasday_low : 1 ≤ nat_of q.gasday
+  pub gasday_high : nat_of q.gasday ≤ 39999
+  pub order : nat_of q.from ≤ nat_of q.to + 1
+  pub window : nat_of q.to ≤ nat_of q.from + 399
+  pub to_high : nat_of q.to ≤ 39999
+  pub tdq_ok : within (pos 0) (pos 1000000000) q.tdq ≡ true
+  pub uag_ok : is_load q.uag ≡ true
+  pub clp_ok : is_load q.clp ≡ true
 
 pub in_range_tells : (q : AllocationQuery) (room : ℕ) → allocation_in_range q room ≡ true → InRange q × (32 ≤ room)
 in_range_tells q room e =
@@ -55,13 +65,6 @@ in_range_tells q room e =
       leb-true 32 room j.1,
     )
 
--- ---- the load from TDM raised by m
-
-pub load_is : (q : AllocationQuery) (B : Book) {load : ℕ} (tdm m : ℕ) → load ≡ at_least0 (load_of q tdm m)
-    → sub_ℕ tdm m ≡ tdm_of (nat_of q.gasday) B → load ≡ nsl_of q B
-unfolding nsl_of
-load_is q B tdm m e f = e ∙ ap (λ z. at_least0 (q.tdq -ℤ z -ℤ q.uag -ℤ q.clp)) f
-
 -- ---- arrays of 32
 
 pub padded_32 : (l : List ℕ) → length l ≤ 32 → length (padded l) ≡ 32
@@ -87,6 +90,10 @@ module _ {ed : Edition} {t : List ℤ} {q : AllocationQuery} {ws : List ℕ} {s 
   pub in_range_lem : InRange q
   in_range_lem = (in_range_tells q room given.in_range).0
 
+  pub load_is : {load : ℕ} (tdm : ℕ) → load ≡ at_least0 (load_of q tdm (1000000 * num_at t 0)) → sub_ℕ tdm (1000000 * num_at t 0) ≡ tdm_of G B → load ≡ nsl_of q B
+  unfolding nsl_of
+  load_is tdm e f = e ∙ ap (λ z. at_least0 (q.tdq -ℤ z -ℤ q.uag -ℤ q.clp)) f
+
   sum_is : s ≡ total (weights q B)
   sum_is = given.sum ∙ ap total given.weigh ∙ total_padded (weights q B)
 
@@ -94,7 +101,8 @@ module _ {ed : Edition} {t : List ℤ} {q : AllocationQuery} {ws : List ℕ} {s 
   fros_32 = padded_32 (map (λ p. p.fro G) (points_of ed t)) (omega (arith, length-map (points_of ed t) (λ p. p.fro G), few_points))
 
   pub weigh_32 : length ws ≡ 32
-  weigh_32 = ap length given.weigh ∙ padded_32 (weights q B) (weights_few ed given.fits t given.is_sound q)
+  unfolding weights
+  weigh_32 = ap length given.weigh ∙ padded_32 (weights q B) (omega (arith, length-map (points_of ed t) (weight G (nat_of q.from) (nat_of q.to)), few_points))
 
   pub split_32 : (load : ℕ) → length (split load s 0 ws) ≡ 32
   split_32 load = split_length load s 0 ws ∙ weigh_32

@@ -4,15 +4,13 @@ use mathlib.Core.Bool.{true}
 use mathlib.Core.List.{List, [], ◌∷◌, ◌++◌, map, append_assoc}
 use Prim.Native.Nat.{ℕ, zero, suc, ◌+◌, ◌-◌, ◌≤◌, ◌<◌}
 use native.Mathlib.Omega.{arith}
-use lib.ListN.{length, set, replicate, length-map}
+use lib.ListN.{length, set, replicate}
 use lib.Seq.{set_at}
 use lib.IntN.{ℤ}
-use Rattle.numbers.specs.Naturals.{nat_of}
-use Rattle.daybook.specs.declared.AllocationQuery.{AllocationQuery}
 use Rattle.daybook.specs.declared.Edition.{Edition}
 use Rattle.daybook.specs.Book.{Point}
-use Rattle.daybook.specs.Queries.{weight, weights, total}
-use Rattle.layout.specs.Layout.{Fits, num_at, table_book}
+use Rattle.daybook.specs.Queries.{total}
+use Rattle.layout.specs.Layout.{Fits, num_at}
 use Rattle.layout.specs.Sound.{sound}
 use Rattle.point.proofs.Rows.{rows_at, length_rows, rows_join}
 use Rattle.table.proofs.Laws.{sound_long}
@@ -50,11 +48,6 @@ pub points_few_lem : (ed : Edition) → Fits ed → (t : List ℤ) → sound ed 
 points_few_lem ed f t s =
     let is : length (points_of ed t) ≡ num_at t 0 = ap length (points_are ed t) ∙ length_rows (part_point ed t) 0 (num_at t 0) in
     omega (arith, (sound_long ed t s).1, f.few)
-
-pub weights_few : (ed : Edition) → Fits ed → (t : List ℤ) → sound ed t ≡ true → (q : AllocationQuery) → length (weights q (table_book ed t)) ≤ 32
-unfolding weights
-weights_few ed f t s q =
-    omega (arith, length-map (points_of ed t) (weight (nat_of q.gasday) (nat_of q.from) (nat_of q.to)), points_few_lem ed f t s)
 
 -- at the end there is a number for each point
 pub all_filled_lem : (f : Point → ℕ) (ed : Edition) (t : List ℤ)

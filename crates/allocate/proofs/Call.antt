@@ -1,21 +1,20 @@
 -- What the call answers, case by case. Assumes nothing.
 use mathlib.Core.Path.{◌≡◌, refl, sym, ◌∙◌, ap}
-use mathlib.Core.Bool.{Bool, true, false, not, false≢true}
+use mathlib.Core.Bool.{true, false, not}
 use mathlib.Core.List.{List, [], ◌∷◌}
 use Prim.Native.Nat.{ℕ}
 use lib.Dec.{eqb}
 use lib.ListN.{replicate}
 use lib.IntN.{ℤ, pos}
 use borrow.Author.Tests.{eq-eqb, ne_eqb}
-use Rattle.numbers.specs.Answers.{refused}
 use Rattle.daybook.specs.declared.AllocationQuery.{AllocationQuery}
 use Rattle.daybook.specs.declared.Edition.{Edition}
 use Rattle.daybook.specs.Notices.{Numbers, least, decide}
 use Rattle.daybook.specs.Queries.{allocation_in_range, weights, total, allocate_rows, allocate}
 use Rattle.daybook.specs.Book.{Book}
-use Rattle.daybook.specs.Editions.{Editions}
+use Rattle.daybook.specs.Editions.{editions}
 use Rattle.lists.proofs.Rows.{above, least_first, least_skip, decide_taken, decide_refused}
-use Rattle.layout.specs.Layout.{edition_in, table_book}
+use Rattle.layout.specs.Layout.{edition_of, table_book}
 use Rattle.layout.specs.Sound.{sound}
 use Rattle.layout.specs.Calls.{of_edition, placed}
 use Rattle.table.proofs.Calls.{query_unsound, query_sound}
@@ -34,26 +33,26 @@ sent_back_lem row out e f = (e ∙ ap (λ w. w.0) (sym f), ap (λ w. placed w.1 
 pub handed_out : (out : List ℤ) {a : Numbers} {l : List ℤ} {w v : Numbers × List ℤ} → (a ≡ pos 0 ∷ v.0) × (l ≡ placed v.1 out) → w ≡ (pos 0 ∷ v.0, v.1) → (a ≡ w.0) × (l ≡ placed w.1 out)
 handed_out out e f = (e.0 ∙ ap (λ w. w.0) (sym f), e.1 ∙ ap (λ w. placed w.1 out) (sym f))
 
-module _ (E : Editions) (ed : Edition) (t : List ℤ) (own : ed ≡ edition_in E t) (q : AllocationQuery) (room : ℕ) where
+module _ (ed : Edition) (t : List ℤ) (own : ed ≡ edition_of t) (q : AllocationQuery) (room : ℕ) where
   abbrev B : Book
   B = table_book ed t
 
   -- the call is the query of the table's own edition
-  call_is : allocate_call E t q room ≡ of_edition (refusal 1) (allocate q room) ed t
+  call_is : allocate_call editions t q room ≡ of_edition (refusal 1) (allocate q room) ed t
   unfolding allocate_call
   call_is = ap (λ ed. of_edition (refusal 1) (allocate q room) ed t) (sym own)
 
-  pub call_unsound : sound ed t ≡ false → allocate_call E t q room ≡ refusal 1
+  pub call_unsound : sound ed t ≡ false → allocate_call editions t q room ≡ refusal 1
   call_unsound e = call_is ∙ query_unsound (refusal 1) (allocate q room) ed t e
 
   module _ (s : sound ed t ≡ true) where
     -- by the row that applies, 0 for none
-    by_row : (r : ℕ) → least (allocate_rows q room B) ≡ r → allocate_call E t q room ≡ decide r 17 [] (given_of q B)
+    by_row : (r : ℕ) → least (allocate_rows q room B) ≡ r → allocate_call editions t q room ≡ decide r 17 [] (given_of q B)
     unfolding allocate given_of
     by_row r e =
         call_is ∙ query_sound (refusal 1) (allocate q room) ed t s ∙ ap (λ r. decide r 17 [] (given_of q B)) e
 
-    pub call_range : allocation_in_range q room ≡ false → allocate_call E t q room ≡ refusal 2
+    pub call_range : allocation_in_range q room ≡ false → allocate_call editions t q room ≡ refusal 2
     unfolding allocate_rows above
     call_range e = by_row 2 (least_first 2 (not (allocation_in_range q room)) _ refl (ap not e)) ∙ decide_refused 17 [] (given_of q B) 1
 
@@ -62,40 +61,14 @@ module _ (E : Editions) (ed : Edition) (t : List ℤ) (own : ed ≡ edition_in E
       unfolding allocate_rows
       no_two = least_skip 2 (not (allocation_in_range q room)) _ (ap not e)
 
-      pub call_weightless : total (weights q B) ≡ 0 → allocate_call E t q room ≡ refusal 15
+      pub call_weightless : total (weights q B) ≡ 0 → allocate_call editions t q room ≡ refusal 15
       unfolding above
       call_weightless z =
           by_row 15 (no_two ∙ least_first 15 (eqb (total (weights q B)) 0) [] refl (eq-eqb (total (weights q B)) 0 z))
           ∙ decide_refused 17 [] (given_of q B) 14
 
-      pub call_given : (total (weights q B) ≡ 0 → ⊥) → allocate_call E t q room ≡ (pos 0 ∷ (given_of q B).0, (given_of q B).1)
+      pub call_given : (total (weights q B) ≡ 0 → ⊥) → allocate_call editions t q room ≡ (pos 0 ∷ (given_of q B).0, (given_of q B).1)
       unfolding least
       call_given n =
           by_row 0 (no_two ∙ least_skip 15 (eqb (total (weights q B)) 0) [] (ne_eqb (total (weights q B)) 0 n))
           ∙ decide_taken 17 [] (given_of q B)
-
-  -- what holds where it is given
-  pub record Passed : Type 0 where
-    pub is_sound : sound ed t ≡ true
-    pub in_range : allocation_in_range q room ≡ true
-    pub some : total (weights q B) ≡ 0 → ⊥
-
-  pub call_passed : refused (allocate_call E t q room).0 ≡ false → Passed
-  call_passed h = record { is_sound = s; in_range = i; some = λ z. not_by 15 (call_weightless s i z) refl }
-    where
-      not_by : {A : Type 0} (row : ℕ) → allocate_call E t q room ≡ refusal row → eqb row 0 ≡ false → A
-      not_by row e f = absurd (false≢true (sym h ∙ ap (λ w. refused w.0) e ∙ ap not f))
-
-      s : sound ed t ≡ true
-      s = go (sound ed t) refl
-        where
-          go : (b : Bool) → sound ed t ≡ b → b ≡ true
-          go true e = refl
-          go false e = not_by 1 (call_unsound e) refl
-
-      i : allocation_in_range q room ≡ true
-      i = go (allocation_in_range q room) refl
-        where
-          go : (b : Bool) → allocation_in_range q room ≡ b → b ≡ true
-          go true e = refl
-          go false e = not_by 2 (call_range s e) refl

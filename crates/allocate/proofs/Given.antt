@@ -50,7 +50,7 @@ module _ (load s : ℕ) (p : 0 < s) where
   abbrev share : ℕ → ℕ → ℤ
   share acc x = floor_part (pos load) s (acc + x) -ℤ floor_part (pos load) s acc
 
-  pub share_natural : (acc x : ℕ) → pos (nat_of (share acc x)) ≡ share acc x
+  share_natural : (acc x : ℕ) → pos (nat_of (share acc x)) ≡ share acc x
   share_natural acc x = ap (λ z. pos (nat_of z)) (sym (share_is load s acc x p)) ∙ share_is load s acc x p
 
   share_small : (acc x : ℕ) → acc + x ≤ s → nat_of (share acc x) ≤ load

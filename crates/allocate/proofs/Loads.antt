@@ -1,8 +1,7 @@
--- The window of an allocation on naturals; the net section load from raised numbers, and its bound. Assumes nothing.
-use mathlib.Core.Path.{◌≡◌, refl, sym, ap, ap₂, ◌∙◌, subst}
+-- The window of an allocation on naturals, and the net section load from raised numbers. Assumes nothing.
+use mathlib.Core.Path.{◌≡◌, refl, sym, ap, ap₂, ◌∙◌}
 use mathlib.Core.Bool.{Bool, true, false, ◌&&◌, false≢true}
-use mathlib.Core.List.{List}
-use Prim.Native.Nat.{ℕ, ◌+◌, ◌-◌, ◌*◌, ◌≤◌}
+use Prim.Native.Nat.{ℕ, ◌+◌, ◌-◌, ◌≤◌}
 use native.Mathlib.Omega.{arith}
 use lib.Dec.{leb}
 use lib.IntN.{ℤ, pos, negsuc, sub_ℕ, ◌+ℤ◌, ◌-ℤ◌}
@@ -10,21 +9,12 @@ use lib.Signed.{le_z, lt_z}
 use borrow.Author.Tests.{leb-true, leb-false, le-leb, lt-leb}
 use Rattle.numbers.specs.Naturals.{nat_of}
 use Rattle.numbers.proofs.Bools.{both, and_where}
-use Rattle.numbers.proofs.Integers.{up, dn, eq_z, add_fact, minus_fact, sub_fact, le_fact, minus_high}
-use Rattle.numbers.proofs.Sums.{sum_low}
+use Rattle.numbers.proofs.Integers.{up, dn, eq_z, add_fact, minus_fact, sub_fact, le_fact}
 use Rattle.calendar.specs.Calendar.{within, is_day}
 use Rattle.daybook.specs.declared.AllocationQuery.{AllocationQuery}
-use Rattle.daybook.specs.declared.Edition.{Edition}
-use Rattle.daybook.specs.Queries.{metered_of, tdm_of, at_least0, nsl_of}
-use Rattle.lists.proofs.Bounds.{within_bounds, within_pos}
-use Rattle.layout.specs.Layout.{Fits, num_at, table_book}
-use Rattle.layout.specs.Sound.{sound}
-use Rattle.layout.proofs.SoundParts.{sound_at}
-use Rattle.table.proofs.Laws.{sound_long}
-use Rattle.readings.proofs.Points.{part_point, points_sum}
-use Rattle.readings.proofs.Shares.{metered_low}
+use Rattle.daybook.specs.Queries.{at_least0}
 use Rattle.readings.proofs.Weights.{at_least}
-use Rattle.allocate.specs.InnerParts.{load_of, InRange}
+use Rattle.allocate.specs.InnerParts.{load_of}
 
 -- ---- an amount of at most 1,000,000,000 either way
 
@@ -59,31 +49,6 @@ module _ (q : AllocationQuery) (tdq tdm most uag clp : ℕ) (a : q.tdq ≡ pos t
       whole =
           rw (a, ← b, ← c)
           (eq_z _ _ (omega (arith, minus_fact (pos tdq -ℤ sub_ℕ tdm most -ℤ sub_ℕ uag 1000000000) (sub_ℕ clp 1000000000), minus_fact (pos tdq -ℤ sub_ℕ tdm most) (sub_ℕ uag 1000000000), minus_fact (pos tdq) (sub_ℕ tdm most), sub_fact tdm most, sub_fact uag 1000000000, sub_fact clp 1000000000, sub_fact (tdq + most + 2000000000) (tdm + uag + clp))))
-
--- ---- it is at most 3,032,000,000 of a sound table, in any edition that fits
-
-load_low : (x : ℤ) → is_load x ≡ true → dn x ≤ 1000000000
-load_low (pos n) e = omega arith
-load_low (negsuc n) e = omega (arith, (bounds (negsuc n) e).0)
-
-cut : (z : ℤ) → at_least0 z ≤ up z
-cut (pos n) = omega arith
-cut (negsuc n) = omega arith
-
-module _ (ed : Edition) (f : Fits ed) (t : List ℤ) (s : sound ed t ≡ true) where
-  tdm_low : (g : ℕ) → dn (tdm_of g (table_book ed t)) ≤ 32000000
-  unfolding tdm_of
-  tdm_low g =
-      let few : num_at t 0 ≤ 32 = omega (arith, (sound_long ed t s).1, f.few) in
-      let low = sum_low (λ k. metered_of g (part_point ed t k)) 1000000 0 (num_at t 0) (λ k i j. metered_low (sound_at ed f t k s (omega arith)) g) in
-      omega (arith, subst (λ z. dn z ≤ 1000000 * num_at t 0) (sym (points_sum ed t (metered_of g))) low)
-
-  pub nsl_small : (q : AllocationQuery) → InRange q → nsl_of q (table_book ed t) ≤ 3032000000
-  unfolding nsl_of
-  nsl_small q ok =
-      let tdm : ℤ = tdm_of (nat_of q.gasday) (table_book ed t) in
-      let tdq : up q.tdq ≤ 1000000000 = omega (arith, ap up (within_pos 0 1000000000 q.tdq ok.tdq_ok), (within_bounds 0 1000000000 q.tdq ok.tdq_ok).1) in
-      omega (arith, cut (q.tdq -ℤ tdm -ℤ q.uag -ℤ q.clp), minus_high (q.tdq -ℤ tdm -ℤ q.uag) q.clp, minus_high (q.tdq -ℤ tdm) q.uag, minus_high q.tdq tdm, tdq, tdm_low (nat_of q.gasday), load_low q.uag ok.uag_ok, load_low q.clp ok.clp_ok)
 
 -- ---- row 2
 

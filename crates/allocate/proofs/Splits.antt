@@ -1,19 +1,16 @@
--- The split of a load by an array of weights, turn by turn; and its shares add up to the load. Assumes nothing.
-use mathlib.Core.Path.{◌≡◌, refl, sym, ◌∙◌, ap, ap₂}
+-- The split of a load by an array of weights, turn by turn. Assumes nothing.
+use mathlib.Core.Path.{◌≡◌, refl, ◌∙◌, ap}
 use mathlib.Core.List.{List, [], ◌∷◌, ◌++◌, append_assoc}
 use Prim.Native.Nat.{ℕ, zero, suc, ◌+◌, ◌-◌, ◌*◌, ◌/◌, ◌≤◌, ◌<◌}
 use native.Mathlib.Omega.{arith}
-use native.Mathlib.Nat.{mul-le-mul, mul-le-mul_left, mul_comm, mul-zero, zero-div, div-le_of_le-mul, div-mul-le_self, le-div_iff_mul-le, add-zero, zero-add, add_assoc}
+use native.Mathlib.Nat.{mul-le-mul, mul-le-mul_left, mul_comm, mul-zero, zero-div, div-le_of_le-mul, div-mul-le_self, le-div_iff_mul-le, add-zero}
 use native.Mathlib.Numerals.{add-one}
 use lib.ListN.{length, get_or, take, drop, set}
 use lib.Seq.{take-suc, drop-cons, set_at, take_all, length-take-le}
-use lib.IntN.{ℤ, pos, ◌+ℤ◌, ◌-ℤ◌, +ℤ_idr}
-use Rattle.numbers.specs.Sums.{sum_from}
+use lib.IntN.{ℤ, pos, ◌-ℤ◌}
 use Rattle.numbers.specs.Shares.{floor_part}
 use Rattle.numbers.proofs.Integers.{eq_z, minus_fact}
-use Rattle.numbers.proofs.Sums.{sum_shift, telescope}
-use Rattle.numbers.proofs.Floor.{floor_all, floor_none}
-use Rattle.daybook.specs.Queries.{sum_of, total, split}
+use Rattle.daybook.specs.Queries.{total, split}
 use Rattle.lists.proofs.Splits.{total_append, split_append, split_length}
 use Rattle.allocate.specs.InnerParts.{most_total}
 
@@ -82,42 +79,3 @@ split_step load s ws out l k p h g e =
     let z : 0 + total (take k ws) ≡ total (take k ws) = omega arith in
     rw (e, drop-cons out k (pos 0) g, add-one k, take-suc ws k 0 h, split_snoc load s 0 (take k ws) (get_or ws k 0), z, append_assoc, share_is load s (total (take k ws)) (get_or ws k 0) p)
     (set_at (split load s 0 (take k ws)) _ (drop (suc k) out) _ k (split_length load s 0 (take k ws) ∙ length-take-le k ws (omega arith)))
-
--- ---- the shares add up to the load
-
--- The weight of the first i of the points with these weights, and C of those before them.
-unfoldable up_to : ℕ → List ℕ → ℕ → ℕ
-up_to C ts zero = C
-up_to C [] (suc i) = C
-up_to C (t ∷ ts) (suc i) = up_to (C + t) ts i
-
-up_to_all : (C : ℕ) (ts : List ℕ) → up_to C ts (length ts) ≡ C + total ts
-unfolding up_to total
-up_to_all C [] = sym (add-zero C)
-up_to_all C (t ∷ ts) = up_to_all (C + t) ts ∙ add_assoc C t (total ts)
-
-module _ (nsl S : ℕ) where
-  -- The part of the load that weights of k together get.
-  abbrev pub part : ℕ → ℤ
-  part k = floor_part (pos nsl) S k
-
-  abbrev nth : ℕ → List ℕ → ℕ → ℤ
-  nth C ts i = part (up_to C ts (suc i)) -ℤ part (up_to C ts i)
-
-  -- The shares by index.
-  split_sum : (C : ℕ) (ts : List ℕ) → sum_of (λ z. z) (split nsl S C ts) ≡ sum_from (nth C ts) 0 (length ts)
-  unfolding split sum_of sum_from up_to
-  split_sum C [] = refl
-  split_sum C (t ∷ ts) =
-      ap (λ z. (part (C + t) -ℤ part C) +ℤ z) (split_sum (C + t) ts ∙ sym (sum_shift (nth C (t ∷ ts)) 0 (length ts)))
-
--- They telescope, from no weight to all of it.
-pub split_whole : (nsl : ℕ) (ts : List ℕ) → 0 < total ts → sum_of (λ z. z) (split nsl (total ts) 0 ts) ≡ pos nsl
-unfolding up_to
-split_whole nsl ts p =
-    split_sum nsl S 0 ts ∙ telescope (λ i. part nsl S (up_to 0 ts i)) 0 (length ts)
-    ∙ ap₂ ◌-ℤ◌ (ap (part nsl S) (ap (up_to 0 ts) (zero-add (length ts)) ∙ up_to_all 0 ts ∙ zero-add S) ∙ floor_all (pos nsl) S p) (floor_none (pos nsl) S p)
-    ∙ +ℤ_idr (pos nsl)
-  where
-    S : ℕ
-    S = total ts

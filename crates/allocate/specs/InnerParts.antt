@@ -1,8 +1,7 @@
 -- What the functions behind allocate say: of arrays of 32, a place for each point and 0 past the last one.
-use Rattle.std.specs.Prelude.{◌≡◌, true, cond, List, ◌∷◌, ◌++◌, map, ℕ, zero, suc, ◌+◌, ◌-◌, ◌*◌, ◌≤◌, ◌<◌, eqb, ℤ, pos, negsuc, ◌-ℤ◌, length, get_or, replicate}
+use Rattle.std.specs.Prelude.{◌≡◌, true, cond, List, ◌∷◌, ◌++◌, map, ℕ, zero, suc, ◌+◌, ◌-◌, ◌*◌, ◌≤◌, ◌<◌, eqb, ℤ, pos, ◌-ℤ◌, length, get_or, replicate}
 use Rattle.std.proofs.Math.IntN.{sub_ℕ}
 use Rattle.numbers.specs.Naturals.{nat_of}
-use Rattle.calendar.specs.Calendar.{within}
 use Rattle.daybook.specs.declared.AllocationQuery.{AllocationQuery}
 use Rattle.daybook.specs.declared.Edition.{Edition}
 use Rattle.daybook.specs.Book.{Point, Book}
@@ -26,17 +25,6 @@ total_to us xs u (suc k) = total_to us xs u k + cond (eqb (get_or us k 0) u) (nu
 -- The load before it is cut at 0, from TDM raised by 1,000,000 for each point.
 abbrev pub load_of : AllocationQuery → ℕ → ℕ → ℤ
 load_of n tdm raised = n.tdq -ℤ sub_ℕ tdm raised -ℤ n.uag -ℤ n.clp
-
--- What row 2 says of an allocation's own numbers.
-pub record InRange (q : AllocationQuery) : Type 0 where
-  pub gasday_low : 1 ≤ nat_of q.gasday
-  pub gasday_high : nat_of q.gasday ≤ 39999
-  pub order : nat_of q.from ≤ nat_of q.to + 1
-  pub window : nat_of q.to ≤ nat_of q.from + 399
-  pub to_high : nat_of q.to ≤ 39999
-  pub tdq_ok : within (pos 0) (pos 1000000000) q.tdq ≡ true
-  pub uag_ok : within (negsuc 999999999) (pos 1000000000) q.uag ≡ true
-  pub clp_ok : within (negsuc 999999999) (pos 1000000000) q.clp ≡ true
 
 -- S is at most this, in any edition of the table: 4,000,000 for each of at most 32 points, a base load of 10,000 over
 -- 400 days, and 1,000,000 for each record, which takes four of the 7,680 numbers of all points.

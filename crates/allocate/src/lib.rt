@@ -6,7 +6,7 @@ ghost use Rattle.std.specs.Prelude.{◌≡◌, true, cond, ◌∷◌, map, ◌+�
 ghost use Rattle.std.proofs.Math.IntN.{sub_ℕ};
 ghost use Rattle.calendar.specs.Calendar.{within};
 ghost use Rattle.daybook.specs.Notices.{users};
-ghost use Rattle.daybook.specs.Queries.{allocation_in_range, at_least0, tdm_of, nsl_of, weight, weights as book_weights, total as total_weight, split};
+ghost use Rattle.daybook.specs.Queries.{allocation_in_range, at_least0, tdm_of, weight, total as total_weight, split};
 ghost use Rattle.daybook.specs.Calls.{allocation_numbers};
 ghost use Rattle.daybook.specs.Editions.{editions};
 ghost use Rattle.layout.specs.Places.{points_place};
@@ -14,7 +14,7 @@ ghost use Rattle.layout.specs.Layout.{Fits, num_at, table_book};
 ghost use Rattle.layout.specs.Sound.{sound};
 ghost use Rattle.layout.specs.Calls.{placed};
 ghost use Rattle.allocate.specs.Allocate.{allocate_call};
-ghost use Rattle.allocate.specs.InnerParts.{points_of, padded, InRange, most_total, SharesBelow, total_to, load_of, MaySplit, given_of};
+ghost use Rattle.allocate.specs.InnerParts.{points_of, padded, most_total, SharesBelow, total_to, load_of, MaySplit, given_of};
 
 use daybook::{AllocationAnswer, AllocationQuery, Edition};
 
@@ -34,7 +34,7 @@ fn raised_load(x: i64) -> u64
 }
 
 // Row 2, for an answer table of that length.
-pub fn in_range(n: AllocationQuery, room: usize) -> bool
+fn in_range(n: AllocationQuery, room: usize) -> bool
     ensures { result ≡ allocation_in_range n room }
 {
     let gasday = n.gasday;
@@ -60,7 +60,7 @@ pub fn in_range(n: AllocationQuery, room: usize) -> bool
 // The net section load, from TDM raised by 1,000,000 for each of n points.
 fn net_load(q: AllocationQuery, tdm: u64, n: u64) -> u64
     requires { (within (pos 0) (pos 1000000000) q.tdq ≡ true) × (within (negsuc 999999999) (pos 1000000000) q.uag ≡ true) × (within (negsuc 999999999) (pos 1000000000) q.clp ≡ true) × (n ≤ 32) × (tdm ≤ 2000000 * n) }
-    ensures { result ≡ at_least0 (load_of q tdm (1000000 * n)) }
+    ensures { (result ≡ at_least0 (load_of q tdm (1000000 * n))) × (result ≤ 3032000000) }
 {
     let tdq = q.tdq;
     let uag = q.uag;
@@ -74,7 +74,7 @@ fn net_load(q: AllocationQuery, tdm: u64, n: u64) -> u64
 }
 
 // S, the sum of 32 weights.
-pub fn sum_of(ws: &[u64]) -> u64
+fn sum_of(ws: &[u64]) -> u64
     requires { (length ws.now ≡ 32) × (total_weight ws.now ≤ most_total) }
     ensures { result ≡ total_weight ws.now }
 {
@@ -142,7 +142,7 @@ fn totals(us: &[u64], xs: &[i64]) -> [i64; 16]
     all
 }
 
-// The weights of the points over the days a to b, 0 past the last one.
+// The weights of the points, 0 past the last one.
 fn weights(t: &[i64], ed: Edition, g: u64, a: u64, b: u64) -> [u64; 32]
     requires { Fits ed × (sound ed t.now ≡ true) × (g ≤ 39999) × (a ≤ b + 1) × (b ≤ a + 399) × (b ≤ 39999) }
     ensures { (result ≡ padded (map (weight g a b) (points_of ed t.now))) × (total_weight result ≤ most_total) }
@@ -155,23 +155,6 @@ fn weights(t: &[i64], ed: Edition, g: u64, a: u64, b: u64) -> [u64; 32]
         i += 1;
     }
     ws
-}
-
-// The weights by which an allocation splits.
-pub fn weights_of(t: &[i64], ed: Edition, q: AllocationQuery) -> [u64; 32]
-    requires { Fits ed × (sound ed t.now ≡ true) × InRange q }
-    ensures { (result ≡ padded (book_weights q (table_book ed t.now))) × (total_weight result ≤ most_total) }
-{
-    let gasday = q.gasday;
-    let from = q.from;
-    let to = q.to;
-    weights(
-        t,
-        ed,
-        numbers::natural(gasday),
-        numbers::natural(from),
-        numbers::natural(to),
-    )
 }
 
 // The FROs of the points on day g, 0 past the last one.
@@ -204,16 +187,6 @@ fn metered(t: &[i64], ed: Edition, g: u64) -> u64
     sum
 }
 
-// The net section load of an allocation.
-pub fn net_section_load(t: &[i64], ed: Edition, q: AllocationQuery) -> u64
-    requires { Fits ed × (sound ed t.now ≡ true) × InRange q }
-    ensures { (result ≡ nsl_of q (table_book ed t.now)) × (result ≤ 3032000000) }
-{
-    let gasday = q.gasday;
-    let tdm = metered(t, ed, numbers::natural(gasday));
-    net_load(q, tdm, places::points(t) as u64)
-}
-
 // A refusal: every other field is 0.
 fn refused(row: u64) -> AllocationAnswer
     ensures { allocation_numbers result ≡ pos row ∷ replicate 17 (pos 0) }
@@ -238,9 +211,10 @@ fn apportion(
     ensures { (allocation_numbers result ≡ pos 0 ∷ (given_of q (table_book ed t.now)).0) × (out.new ≡ placed (given_of q (table_book ed t.now)).1 out.old) }
 {
     let gasday = q.gasday;
-    let load = net_section_load(t, ed, q);
+    let g = numbers::natural(gasday);
+    let load = net_load(q, metered(t, ed, g), places::points(t) as u64);
     split_to(ws, load, s, out);
-    let us = fros(t, ed, numbers::natural(gasday));
+    let us = fros(t, ed, g);
     let all = totals(&us, out);
     AllocationAnswer {
         refusal: 0,
@@ -260,7 +234,16 @@ pub fn allocate(t: &[i64], q: AllocationQuery, out: &mut [i64]) -> AllocationAns
     if !in_range(q, out.len()) {
         return refused(2);
     }
-    let ws = weights_of(t, ed, q);
+    let gasday = q.gasday;
+    let from = q.from;
+    let to = q.to;
+    let ws = weights(
+        t,
+        ed,
+        numbers::natural(gasday),
+        numbers::natural(from),
+        numbers::natural(to),
+    );
     let s = sum_of(&ws);
     if s == 0 {
         return refused(15);

@@ -8,12 +8,11 @@ use lib.IntN.{ℤ, pos}
 use lib.ListN.{length, get_or, take, replicate, length-replicate, length-map, get_or-map}
 use lib.Seq.{take_all, length-take-le}
 use borrow.Author.Tests.{le-leb, lt-leb, ne_eqb}
-use Rattle.words.specs.Words.{with_number, with_word, word_at}
+use Rattle.words.specs.Words.{with_number, with_word}
 use Rattle.words.specs.Tables.{decoded_into, encoded_into}
-use Rattle.words.proofs.Tables.{length_decoded, decoded_at, encoded_more}
+use Rattle.words.proofs.Tables.{length_decoded, encoded_more}
 use Rattle.words.proofs.Back.{decoded_alike}
 use Rattle.daybook.specs.Notices.{Numbers}
-use Rattle.daybook.specs.FromNumbers.{num}
 use Rattle.buffers.specs.Buffers.{numbers_in, with_numbers, table_in, replied, written}
 
 -- ---- numbers that are read
@@ -21,11 +20,6 @@ use Rattle.buffers.specs.Buffers.{numbers_in, with_numbers, table_in, replied, w
 pub numbers_length : (b : List ℕ) (n : ℕ) → length (numbers_in b n) ≡ n
 unfolding numbers_in
 numbers_length b n = length_decoded (replicate n (pos 0)) 0 b 0 n ∙ length-replicate n (pos 0)
-
-pub number_at : (b : List ℕ) (n i : ℕ) → i < n → num (numbers_in b n) i ≡ word_at b (8 * i)
-unfolding numbers_in
-number_at b n i h =
-    rw (zero-add i, zero-add (8 * i)) at (decoded_at (replicate n (pos 0)) 0 b 0 n i (pos 0) (omega (arith, length-replicate n (pos 0))) h)
 
 module _ (b : List ℕ) (t u : List ℤ) (n : ℕ) (h : n ≤ length t) (e : u ≡ decoded_into t 0 b 0 n) where
   pub read_length : length (take n u) ≡ n

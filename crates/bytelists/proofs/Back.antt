@@ -10,8 +10,6 @@ use lib.IntN.{ℤ, pos}
 use lib.ListN.{length, get_or, replicate, length-replicate}
 use lib.Seq.{ext_get_or, take_all}
 use borrow.Author.Tests.{leb-true, leb-false}
-use mir.Val.{SFits}
-use mir.Syntax.{w64}
 use Rattle.words.specs.Tables.{decoded_into, encoded_into}
 use Rattle.words.proofs.Tables.{length_decoded, length_encoded}
 use Rattle.words.proofs.Back.{decoded_encoded_at}
@@ -27,8 +25,7 @@ unfolding with_numbers
 bytes_length t b = length_encoded b 0 t 0 (length t)
 
 -- numbers that fit come back
-pub numbers_back : (t : List ℤ) (b : List ℕ) → ((i : ℕ) → i < length t → SFits w64 (get_or t i (pos 0))) → 8 * length t ≤ length b
-    → numbers_in (with_numbers t b) (length t) ≡ t
+numbers_back : (t : List ℤ) (b : List ℕ) → AllFit t → 8 * length t ≤ length b → numbers_in (with_numbers t b) (length t) ≡ t
 unfolding numbers_in with_numbers
 numbers_back t b f h = ext_get_or (pos 0) u t long (λ i l. at i (omega (arith, long)))
   where
@@ -44,7 +41,7 @@ numbers_back t b f h = ext_get_or (pos 0) u t long (λ i l. at i (omega (arith, 
     at : (i : ℕ) → i < length t → get_or u i (pos 0) ≡ get_or t i (pos 0)
     at i l =
         subst (λ k. get_or u k (pos 0) ≡ get_or t k (pos 0)) (zero-add i)
-        (decoded_encoded_at z 0 b 0 t 0 (length t) (omega arith) (omega (arith, length-replicate (length t) (pos 0))) i (pos 0) l (f (0 + i) (omega arith)))
+        (decoded_encoded_at z 0 b 0 t 0 (length t) (omega arith) (omega (arith, length-replicate (length t) (pos 0))) i (pos 0) l (fit_at f (0 + i)))
 
 -- ---- the register
 
@@ -66,7 +63,7 @@ table_enough b k = go (leb 61504 (length b)) refl
 pub table_back : (ed : Edition) → Fits ed → (t : List ℤ) (b : List ℕ) → sound ed t ≡ true → length t ≡ table_length → 61504 ≤ length b → table_in (with_numbers t b) ≡ t
 table_back ed f t b s e h =
     sym (table_long (with_numbers t b) (omega (arith, bytes_length t b)))
-    ∙ subst (λ n. numbers_in (with_numbers t b) n ≡ t) e (numbers_back t b (λ i l. fit_at fits i) (omega arith))
+    ∙ subst (λ n. numbers_in (with_numbers t b) n ≡ t) e (numbers_back t b fits (omega arith))
   where
     fits : AllFit t
     fits = subst AllFit (take_all table_length t (omega arith)) (sound_fits ed f t s)

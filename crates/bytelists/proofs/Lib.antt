@@ -3,4 +3,3 @@ pub mod Back
 pub mod Steps
 pub mod Begins
 pub mod Theorem
-pub mod OwnShares

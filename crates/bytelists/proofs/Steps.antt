@@ -63,7 +63,7 @@ refused_is : (ns : Numbers) → same_z (get_or ns 0 (pos 0)) (pos 0) ≡ false �
 refused_is [] e = absurd (false≢true (sym e))
 refused_is (r ∷ ns) e = ap not e
 
-pub given_is : (ns : Numbers) → same_z (get_or ns 0 (pos 0)) (pos 0) ≡ true → refused ns ≡ false
+given_is : (ns : Numbers) → same_z (get_or ns 0 (pos 0)) (pos 0) ≡ true → refused ns ≡ false
 given_is [] e = refl
 given_is (r ∷ ns) e = ap not e
 
@@ -77,7 +77,7 @@ table_put E fit t b images S r e h =
     }
 
 -- a call with no numbers for its second buffer leaves it
-pub second_kept : (ns : Numbers) (second answer : List ℕ)
+second_kept : (ns : Numbers) (second answer : List ℕ)
     → ((replied ns answer).0, (second, (replied ns answer).1)) ≡ written (ns, []) second answer
 unfolding written with_numbers encoded_into
 second_kept ns second answer =

@@ -13,7 +13,7 @@ use Rattle.daybook.specs.declared.AccountQuery.{AccountQuery}
 use Rattle.daybook.specs.declared.AllocationQuery.{AllocationQuery}
 use Rattle.daybook.specs.States.{under}
 use Rattle.daybook.specs.Editions.{Editions}
-use Rattle.daybook.specs.Calls.{Notice, open!, energy!, status!, request!, withdraw!, correct!, Query, account!, allocate!, trial!, check!, StateCall, save!, restore!, Call, fresh!, notice!, query!, state!, convert!, State, Answer, step}
+use Rattle.daybook.specs.Calls.{Notice, open!, energy!, status!, request!, withdraw!, correct!, Query, account!, allocate!, trial!, StateCall, save!, restore!, Call, fresh!, notice!, query!, state!, convert!, State, Answer, step}
 use Rattle.history.specs.Runs.{Lent, notice_call, query_call}
 use Rattle.opening.specs.Opening.{fresh_call}
 use Rattle.images.specs.Images.{save_call, restore_call}
@@ -35,7 +35,6 @@ pub data HubQuery : Type 0 where
   petlumas_account : AccountQuery → HubQuery
   petlumas_allocate : AllocationQuery → HubQuery
   petlumas_trial : ℤ → List ℕ → HubQuery
-  petlumas_check : AllocationQuery → HubQuery
 
 pub data HubState : Type 0 where
   petlumas_save : ℤ → ℕ → HubState
@@ -49,8 +48,8 @@ pub data HubCall : Type 0 where
   petlumas_convert : HubCall
 
 -- A call, and the bytes that it lends beside the register, the images and a trial's notices: its second buffer, a
--- request's holidays, an allocation's or a trial's answer table, a check's shares or a conversion's second register (no
--- other call has one: its bytes do not matter and stay), and its answer buffer.
+-- request's holidays, an allocation's or a trial's answer table or a conversion's second register (no other call has
+-- one: its bytes do not matter and stay), and its answer buffer.
 pub record LentCall : Type 0 where
   pub call : HubCall
   pub second : List ℕ
@@ -71,12 +70,11 @@ notice_in (petlumas_request n) second = request! n (numbers_held second)
 notice_in (petlumas_withdraw n) second = withdraw! n
 notice_in (petlumas_correct n) second = correct! n
 
--- An answer table has 8 bytes a number. A check's shares are those that its bytes spell.
+-- An answer table has 8 bytes a number.
 unfoldable pub query_in : HubQuery → List ℕ → Query
 query_in (petlumas_account n) second = account! n
 query_in (petlumas_allocate n) second = allocate! n (length second / 8)
 query_in (petlumas_trial count notices) second = trial! count (numbers_held notices) (length second / 8)
-query_in (petlumas_check n) second = check! n (numbers_held second)
 
 unfoldable pub state_in : HubState → StateCall
 state_in (petlumas_save n lent) = save! n lent
@@ -121,9 +119,9 @@ with_register L b = record { register = b; images = L.images }
 
 -- The reply to a call, and what it leaves of what it is lent: the definitions that the hub's contracts equate the code
 -- with. Fresh and a notice write the register and leave their second buffer; a query only reads the register. (An
--- account and a check have no numbers for a second buffer: `written` with none of them leaves that, and is `replied`.) A
--- conversion reads the register and writes its second buffer. Where it returns 0 that is the register from then on, and
--- its reply has the second buffer as it was lent.
+-- account has no numbers for a second buffer: `written` with none of them leaves that, and is `replied`.) A conversion
+-- reads the register and writes its second buffer. Where it returns 0 that is the register from then on, and its reply
+-- has the second buffer as it was lent.
 unfoldable pub byte_step : Editions → HubCall → List ℕ → List ℕ → LentBytes → Reply × LentBytes
 byte_step E (petlumas_fresh n) second answer L =
     let w : ℤ × (List ℕ × List ℕ) = written (fresh_call E (table_in L.register) n) L.register answer in

@@ -16,17 +16,16 @@ use Rattle.bytelists.specs.ByteLists.{petlumas_fresh, petlumas_open, hub_notice,
 -- register's bytes after the last call and the state of the day book given the same calls all that `Agrees` says holds.
 -- Each call returns what the book's answer begins with, and leaves the bytes of the book's numbers in its answer buffer
 -- and, for an allocation or a trial, in its answer table; the book decides a request by the holidays that its bytes
--- spell, tries the notices that a trial's bytes spell, and checks the shares that a check's bytes spell. A call whose
--- answer buffer is too short for the book's answer returns 2, and leaves the book and its buffers as they were. And an
--- operator that then holds fewer points than its reserve gets neither 16 nor 19 from petlumas_open.
+-- spell, and tries the notices that a trial's bytes spell. A call whose answer buffer is too short for the book's answer
+-- returns 2, and leaves the book and its buffers as they were. And an operator that then holds fewer points than its
+-- reserve gets neither 16 nor 19 from petlumas_open.
 --
 -- The calls here are definitions. The contracts of the hub's exported functions equate what each returns and leaves
 -- with them, for every register, all numbers and buffers, where E is `editions`: petlumas_fresh, petlumas_open,
 -- petlumas_energy, petlumas_status, petlumas_request, petlumas_withdraw, petlumas_correct, petlumas_allocate,
--- petlumas_trial, petlumas_restore and petlumas_convert with `written`, petlumas_account and petlumas_check with
--- `replied`, petlumas_save with `written_bytes`. A request borrows its holidays, an account, an allocation, a check, a
--- trial, a save and a conversion the register, a check its shares, a trial its notices, and a restore its image, without
--- changing them.
+-- petlumas_trial, petlumas_restore and petlumas_convert with `written`, petlumas_account with `replied`, petlumas_save
+-- with `written_bytes`. A request borrows its holidays, an account, an allocation, a trial, a save and a conversion the
+-- register, a trial its notices, and a restore its image, without changing them.
 abbrev pub EveryHubList : Type 0
 EveryHubList =
     (E : Editions) → BothFit E → (b₀ second answer : List ℕ) (n : NewRegister) (past : ℕ → ℕ)

@@ -16,7 +16,7 @@ use Rattle.journal.specs.declared.NoticeWord.{NoticeWord}
 use Rattle.journal.specs.declared.NoticeWord.TheVariants.{Fresh, Open, Energy, Status, Transfer}
 use Rattle.journal.specs.declared.TransferWord.TheVariants.{Request, Withdraw, Correct}
 use Rattle.journal.specs.declared.QueryWord.{QueryWord}
-use Rattle.journal.specs.declared.QueryWord.TheVariants.{Account, Allocate, Date, Check}
+use Rattle.journal.specs.declared.QueryWord.TheVariants.{Account, Allocate, Date}
 use Rattle.journal.specs.declared.CallWord.{CallWord}
 use Rattle.journal.specs.declared.CallWord.TheVariants as Call·
 use Rattle.calls.specs.declared.Seven.{Seven}
@@ -32,11 +32,10 @@ seven_noticed (Transfer Request) t xs list = refl
 seven_noticed (Transfer Withdraw) t xs list = refl
 seven_noticed (Transfer Correct) t xs list = refl
 
-pub seven_asked : (q : QueryWord) (t xs list : List ℤ) (room : ℕ) → asked q t (listed (seven_of xs)) list room ≡ asked q t xs list room
-seven_asked Account t xs list room = refl
-seven_asked Allocate t xs list room = refl
-seven_asked Date t xs list room = refl
-seven_asked Check t xs list room = refl
+pub seven_asked : (q : QueryWord) (t xs : List ℤ) (room : ℕ) → asked q t (listed (seven_of xs)) room ≡ asked q t xs room
+seven_asked Account t xs room = refl
+seven_asked Allocate t xs room = refl
+seven_asked Date t xs room = refl
 
 -- a signed number is read back from its bits
 pub back : (z : ℤ) → SFits w64 z → to_z w64 (of_z w64 z) ≡ z
@@ -59,5 +58,5 @@ module _ (xs : List ℤ) (seven : Seven) (list register answer table : List ℕ)
   pub notice_left : {call : CallWord} {n : NoticeWord} → call ≡ Call·.Notice n → w ≡ written (noticed n (table_in register) (listed seven) (numbers_held list)) register answer → called call xs list register answer table ≡ after_notice table w
   notice_left {n = n} t h = rw t (ap (after_notice table) (sym (rw (e, seven_noticed n (table_in register) xs (numbers_held list)) at h)))
 
-  pub query_left : {call : CallWord} {q : QueryWord} → call ≡ Call·.Query q → w ≡ written (asked q (table_in register) (listed seven) (numbers_held list) (length table / 8)) table answer → called call xs list register answer table ≡ after_query register w
-  query_left {q = q} t h = rw t (ap (after_query register) (sym (rw (e, seven_asked q (table_in register) xs (numbers_held list) (length table / 8)) at h)))
+  pub query_left : {call : CallWord} {q : QueryWord} → call ≡ Call·.Query q → w ≡ written (asked q (table_in register) (listed seven) (length table / 8)) table answer → called call xs list register answer table ≡ after_query register w
+  query_left {q = q} t h = rw t (ap (after_query register) (sym (rw (e, seven_asked q (table_in register) xs (length table / 8)) at h)))

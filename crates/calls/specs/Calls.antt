@@ -11,14 +11,13 @@ use Rattle.transfer.specs.Transfer.{request_call, withdraw_call}
 use Rattle.correction.specs.Correction.{correct_call}
 use Rattle.account.specs.Account.{account_call}
 use Rattle.allocate.specs.Allocate.{allocate_call}
-use Rattle.submission.specs.Submission.{check_call}
 use Rattle.buffers.specs.Buffers.{table_in, numbers_held, written}
 use Rattle.journal.specs.declared.NoticeWord.{NoticeWord}
 use Rattle.journal.specs.declared.NoticeWord.TheVariants.{Fresh, Open, Energy, Status, Transfer}
 use Rattle.journal.specs.declared.TransferWord.{TransferWord}
 use Rattle.journal.specs.declared.TransferWord.TheVariants.{Request, Withdraw, Correct}
 use Rattle.journal.specs.declared.QueryWord.{QueryWord}
-use Rattle.journal.specs.declared.QueryWord.TheVariants.{Account, Allocate, Date, Check}
+use Rattle.journal.specs.declared.QueryWord.TheVariants.{Account, Allocate, Date}
 use Rattle.journal.specs.declared.CallWord.{CallWord}
 use Rattle.journal.specs.declared.CallWord.TheVariants as Call·
 
@@ -36,11 +35,10 @@ noticed Status t xs list = status_call editions t (status_of xs)
 noticed (Transfer w) t xs list = transferred w t xs list
 
 -- A query's answer, and its numbers for an answer table of `room` places.
-abbrev pub asked : QueryWord → List ℤ → List ℤ → List ℤ → ℕ → Numbers × List ℤ
-asked Account t xs list room = (account_call editions t (account_query_of xs), [])
-asked Allocate t xs list room = allocate_call editions t (allocation_query_of xs) room
-asked Date t xs list room = (date_call (num xs 0) (num xs 1) (num xs 2), [])
-asked Check t xs list room = (check_call editions t (allocation_query_of xs) list, [])
+abbrev pub asked : QueryWord → List ℤ → List ℤ → ℕ → Numbers × List ℤ
+asked Account t xs room = (account_call editions t (account_query_of xs), [])
+asked Allocate t xs room = allocate_call editions t (allocation_query_of xs) room
+asked Date t xs room = (date_call (num xs 0) (num xs 1) (num xs 2), [])
 
 -- What a call leaves: its result, and the bytes of the register, of its answer and of its answer table.
 pub record Left : Type 0 where
@@ -55,6 +53,5 @@ called (Call·.Notice n) xs list register answer table =
     let w : ℤ × (List ℕ × List ℕ) = written (noticed n (table_in register) xs (numbers_held list)) register answer in
     record { result = w.0; register = w.1.0; answer = w.1.1; table = table }
 called (Call·.Query q) xs list register answer table =
-    let answered : Numbers × List ℤ = asked q (table_in register) xs (numbers_held list) (length table / 8) in
-    let w : ℤ × (List ℕ × List ℕ) = written answered table answer in
+    let w : ℤ × (List ℕ × List ℕ) = written (asked q (table_in register) xs (length table / 8)) table answer in
     record { result = w.0; register = register; answer = w.1.1; table = w.1.0 }

@@ -77,15 +77,8 @@ fn notify(n: NoticeWord, a: Seven, list: &[u8], register: &mut [u8], answer: &mu
 }
 
 // And a query.
-fn ask(
-    q: QueryWord,
-    a: Seven,
-    list: &[u8],
-    register: &[u8],
-    answer: &mut [u8],
-    table: &mut [u8],
-) -> i64
-    ensures { (result, (table.new, answer.new)) ≡ written (asked q (table_in register.now) (listed a) (numbers_held list.now) (length table.old / 8)) table.old answer.old }
+fn ask(q: QueryWord, a: Seven, register: &[u8], answer: &mut [u8], table: &mut [u8]) -> i64
+    ensures { (result, (table.new, answer.new)) ≡ written (asked q (table_in register.now) (listed a) (length table.old / 8)) table.old answer.old }
 {
     match q {
         QueryWord::Account => hub::petlumas_account(register, answer, a.n0, a.n1, a.n2),
@@ -93,9 +86,6 @@ fn ask(
             hub::petlumas_allocate(register, answer, table, a.n0, a.n1, a.n2, a.n3, a.n4, a.n5)
         }
         QueryWord::Date => hub::petlumas_date(answer, a.n0, a.n1, a.n2),
-        QueryWord::Check => {
-            hub::petlumas_check(register, answer, list, a.n0, a.n1, a.n2, a.n3, a.n4, a.n5)
-        }
     }
 }
 
@@ -113,6 +103,6 @@ pub fn invoke(
     let a = first_seven(nums);
     match call {
         CallWord::Notice(n) => notify(n, a, list, register, answer),
-        CallWord::Query(q) => ask(q, a, list, register, answer, table),
+        CallWord::Query(q) => ask(q, a, register, answer, table),
     }
 }

@@ -15,8 +15,7 @@ use Rattle.daybook.specs.Queries.{sum_of, own_share, account_of, account_rows, a
 use Rattle.daybook.specs.States.{image_length, first_row}
 use Rattle.daybook.specs.Editions.{Editions, edition_no, largest, most_records, no_room, convert_rows}
 use Rattle.daybook.specs.Trials.{notices_in, answers_to, books_on_the_way, trial_rows, trial}
-use Rattle.daybook.specs.Submissions.{shares_agree, shares_in_range, shares_in, check_rows, check}
-use Rattle.daybook.specs.Calls.{open!, energy!, status!, request!, withdraw!, account!, allocate!, trial!, check!, save!, restore!, Call, fresh!, notice!, query!, state!, convert!, Answer, noted, given, State, renewed, converted, stated, step, answers}
+use Rattle.daybook.specs.Calls.{open!, energy!, status!, request!, withdraw!, account!, allocate!, trial!, save!, restore!, Call, fresh!, notice!, query!, state!, convert!, Answer, noted, given, State, renewed, converted, stated, step, answers}
 
 -- in an edition
 abbrev pub FreshIn : ℤ → ℤ → ℤ → Call
@@ -79,11 +78,6 @@ Allocate g a b tdq =
 abbrev pub Trial : ℤ → List (List ℤ) → ℕ → Call
 Trial count notices room = query! (trial! count (flatten notices) room)
 
--- with no unaccounted gas or linepack change, and these shares
-abbrev pub Check : ℕ → ℕ → ℕ → ℕ → List ℤ → Call
-Check g a b tdq shares =
-    query! (check! (record { gasday = pos g; from = pos a; to = pos b; tdq = pos tdq; uag = pos 0; clp = pos 0 }) shares)
-
 -- lent all bytes of an image
 abbrev pub Save : ℤ → Call
 Save n = state! (save! n image_length)
@@ -97,7 +91,7 @@ numbers (a ∷ l) = a.0 ∷ numbers l
 
 -- Each call's answer, and its numbers for an answer table. To unfold this definition is to unfold the whole day book.
 unfoldable pub replies_from : Editions → State → List Call → List Answer
-unfolding all first_from last_below sum_from floor_part ceil_part partial_energy share allowable_period business_day_before business_day_after listed holiday_list from_on fill with_entries with_off with_fro with_pending last_of gather record_at records begins registration_at registrations latest span_at spans last_filled append_day day_share least decide find put with_point on_point fresh_rows facts_of opened held others_unfilled opening_rows opening which entry_of energy_early off_within energy_rows later_starts entered enter energy_rows_at energy status_early status_rows switched status request_early request_rows request withdraw_early withdraw_rows withdraw corrected fro_changed affected flags correct_early full correct_rows correct_rows_at correct_at correct sum_of own_share account_of account_rows account some_filled all_filled daily_gas metered_of tdm_of nsl_of weight weights total split point_shares total_of allocate_rows allocate first_row edition_no largest most_records no_room convert_rows notices_in answers_to books_on_the_way trial_rows trial flatten shares_agree shares_in_range shares_in check_rows check noted given renewed converted stated step answers
+unfolding all first_from last_below sum_from floor_part ceil_part partial_energy share allowable_period business_day_before business_day_after listed holiday_list from_on fill with_entries with_off with_fro with_pending last_of gather record_at records begins registration_at registrations latest span_at spans last_filled append_day day_share least decide find put with_point on_point fresh_rows facts_of opened held others_unfilled opening_rows opening which entry_of energy_early off_within energy_rows later_starts entered enter energy_rows_at energy status_early status_rows switched status request_early request_rows request withdraw_early withdraw_rows withdraw corrected fro_changed affected flags correct_early full correct_rows correct_rows_at correct_at correct sum_of own_share account_of account_rows account some_filled all_filled daily_gas metered_of tdm_of nsl_of weight weights total split point_shares total_of allocate_rows allocate first_row edition_no largest most_records no_room convert_rows notices_in answers_to books_on_the_way trial_rows trial flatten noted given renewed converted stated step answers
 replies_from E S calls = answers E calls S
 
 -- Each call's numbers, the refusal first.

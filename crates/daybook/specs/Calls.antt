@@ -24,8 +24,6 @@ use Rattle.daybook.specs.declared.AccountAnswer.TheVariants as Account
 use Rattle.daybook.specs.declared.AllocationAnswer.{AllocationAnswer}
 use Rattle.daybook.specs.declared.TrialAnswer.{TrialAnswer}
 use Rattle.daybook.specs.declared.TrialAnswer.TheVariants as Trial
-use Rattle.daybook.specs.declared.CheckAnswer.{CheckAnswer}
-use Rattle.daybook.specs.declared.CheckAnswer.TheVariants as Check
 use Rattle.daybook.specs.declared.Edition.{Edition}
 use Rattle.daybook.specs.Book.{Book}
 use Rattle.daybook.specs.Notices.{least, Numbers, decide, fresh_rows, fresh_book, opening, energy, status, request, withdraw}
@@ -34,7 +32,6 @@ use Rattle.daybook.specs.Queries.{account, allocate}
 use Rattle.daybook.specs.States.{state_row, under}
 use Rattle.daybook.specs.Editions.{Editions, edition_no, other_than, convert_rows}
 use Rattle.daybook.specs.Trials.{trial}
-use Rattle.daybook.specs.Submissions.{check}
 
 -- ---- the numbers of an answer: the refusal first, then the fields, every one 0 on a refusal
 
@@ -64,11 +61,6 @@ abbrev pub trial_numbers : TrialAnswer → Numbers
 trial_numbers (Trial.Given most removed) = pos 0 ∷ pos most ∷ pos removed ∷ []
 trial_numbers (Trial.Refused r) = pos r ∷ replicate 2 (pos 0)
 
-abbrev pub check_numbers : CheckAnswer → Numbers
-check_numbers Check.Yes = pos 0 ∷ pos 1 ∷ []
-check_numbers Check.No = pos 0 ∷ pos 0 ∷ []
-check_numbers (Check.Refused r) = pos r ∷ pos 0 ∷ []
-
 -- ---- which case an answer is: its numbers alone do not tell Refused(0) from an answer without a refusal, so that a
 -- contract says this too
 
@@ -92,11 +84,6 @@ abbrev pub trial_refused : TrialAnswer → Bool
 trial_refused (Trial.Given most removed) = false
 trial_refused (Trial.Refused r) = true
 
-abbrev pub check_refused : CheckAnswer → Bool
-check_refused Check.Yes = false
-check_refused Check.No = false
-check_refused (Check.Refused r) = true
-
 -- ---- calls
 
 -- A call that may change the book, in its edition: its numbers, and the holidays that a request lends.
@@ -109,12 +96,11 @@ pub data Notice : Type 0 where
   correct! : Correction → Notice
 
 -- A call that only reads: its numbers, and the length of the answer table that an allocation or a trial lends. A trial
--- says how many notices it tries and lends them as a table of numbers, and a check lends the shares so.
+-- says how many notices it tries and lends them as a table of numbers.
 pub data Query : Type 0 where
   account! : AccountQuery → Query
   allocate! : AllocationQuery → ℕ → Query
   trial! : ℤ → List ℤ → ℕ → Query
-  check! : AllocationQuery → List ℤ → Query
 
 -- A call on a named state: its number, and how many of its image's bytes are lent.
 pub data StateCall : Type 0 where
@@ -147,7 +133,6 @@ unfoldable pub given : Query → Edition → Book → Answer
 given (account! n) ed B = (account n B, [])
 given (allocate! n room) ed B = allocate n room B
 given (trial! count notices room) ed B = trial ed count notices room B
-given (check! n shares) ed B = (check n shares B, [])
 
 -- ---- lists of calls, from state to state
 

@@ -8,5 +8,4 @@ pub mod States
 pub mod Editions
 pub mod FromNumbers
 pub mod Trials
-pub mod Submissions
 pub mod Calls

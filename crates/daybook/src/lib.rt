@@ -8,7 +8,7 @@ ghost use Rattle.words.specs.Words.{bits_of};
 ghost use Rattle.calendar.specs.Calendar.{date_numbers};
 ghost use Rattle.daybook.specs.Notices.{is_mirn, is_user, is_flag, is_range, is_edition};
 ghost use Rattle.daybook.specs.States.{is_state};
-ghost use Rattle.daybook.specs.Calls.{notice_numbers, energy_numbers, request_numbers, correction_numbers, account_numbers, allocation_numbers, trial_numbers, check_numbers};
+ghost use Rattle.daybook.specs.Calls.{notice_numbers, energy_numbers, request_numbers, correction_numbers, account_numbers, allocation_numbers, trial_numbers};
 
 use calendar::{DateAnswer, Day};
 
@@ -166,14 +166,6 @@ pub enum TrialAnswer {
     Refused(u64),
 }
 
-// Whether a retailer's own allocation agrees with the register (document 02, l).
-#[derive(Clone, Copy)]
-pub enum CheckAnswer {
-    Yes,
-    No,
-    Refused(u64),
-}
-
 pub fn is_mirn(x: i64) -> bool
     ensures { result ≡ is_mirn x }
 {
@@ -300,15 +292,5 @@ pub fn trial_numbers(a: TrialAnswer) -> [u64; 3]
     match a {
         TrialAnswer::Given { most, removed } => [0, most, removed],
         TrialAnswer::Refused(r) => [r, 0, 0],
-    }
-}
-
-pub fn check_numbers(a: CheckAnswer) -> [u64; 2]
-    ensures { result ≡ bits_of (check_numbers a) }
-{
-    match a {
-        CheckAnswer::Yes => [0, 1],
-        CheckAnswer::No => [0, 0],
-        CheckAnswer::Refused(r) => [r, 0],
     }
 }

@@ -5,7 +5,7 @@ use Rattle.numbers.specs.InnerEnergies.{bias_of, energy_of}
 use Rattle.calendar.specs.Calendar.{within, is_day}
 use Rattle.daybook.specs.declared.EnergyNotice.{EnergyNotice}
 use Rattle.daybook.specs.Book.{Entry}
-use Rattle.daybook.specs.Notices.{Row, is_mirn, is_flag, append, which_number, removed, Outcome, outcome_of, outcome_numbers}
+use Rattle.daybook.specs.Notices.{is_mirn, is_flag, append, which_number, removed, Outcome, outcome_of, outcome_numbers}
 use Rattle.lists.specs.Lists.{Lists}
 use Rattle.lists.specs.InnerSteps.{latest_of, which_in, recs_after, regs_after, pending_after}
 use Rattle.layout.specs.Layout.{point_numbers, point_from}

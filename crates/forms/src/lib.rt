@@ -1,34 +1,32 @@
 // The form of each call's line in a journal.
 #![tactic(auto)]
 
-ghost use Rattle.std.specs.Prelude.{◌≡◌, ◌≤◌, ◌^◌};
+ghost use Rattle.std.specs.Prelude.{◌≡◌, ◌≤◌, ◌^◌, eqb, length};
 ghost use Rattle.numbers.specs.Naturals.{nat_of};
 ghost use Rattle.daybook.specs.FromNumbers.{num};
-ghost use Rattle.forms.specs.Forms.{shape_of, transfer_form, notice_form, query_form, form_of, own_numbers, list_numbers, counted as Forms·counted};
+ghost use Rattle.forms.specs.Forms.{shape_of, transfer_form, notice_form, query_form, form_of, own_numbers, size_of};
 ghost use Rattle.forms.specs.InnerForms.{Formed};
 
 use journal::{CallWord, NoticeWord, QueryWord, TransferWord};
 
-// How many numbers a call and its answer have; whether a list follows the call's numbers, with its count in front, and
-// how many numbers the list has at most; and whether an answer table is lent.
+// How many numbers a call and its answer have; whether a list follows the call's numbers, with its count in front; and
+// whether an answer table is lent.
 #[derive(Clone, Copy)]
 pub struct Form {
     pub takes: usize,
     pub gives: usize,
     pub list: bool,
-    pub most: usize,
     pub table: bool,
 }
 
-fn shape(takes: usize, gives: usize, list: bool, most: usize, table: bool) -> Form
+fn shape(takes: usize, gives: usize, list: bool, table: bool) -> Form
     requires { (takes ≤ 7) × (gives ≤ 18) }
-    ensures { Formed result (shape_of takes gives list most table) }
+    ensures { Formed result (shape_of takes gives list table) }
 {
     Form {
         takes,
         gives,
         list,
-        most,
         table,
     }
 }
@@ -37,9 +35,9 @@ fn transfer_form(w: TransferWord) -> Form
     ensures { Formed result (transfer_form w) }
 {
     match w {
-        TransferWord::Request => shape(4, 3, true, 4096, false),
-        TransferWord::Withdraw => shape(2, 1, false, 0, false),
-        TransferWord::Correct => shape(4, 17, false, 0, false),
+        TransferWord::Request => shape(4, 3, true, false),
+        TransferWord::Withdraw => shape(2, 1, false, false),
+        TransferWord::Correct => shape(4, 17, false, false),
     }
 }
 
@@ -47,10 +45,10 @@ fn notice_form(n: NoticeWord) -> Form
     ensures { Formed result (notice_form n) }
 {
     match n {
-        NoticeWord::Fresh => shape(3, 1, false, 0, false),
-        NoticeWord::Open => shape(7, 1, false, 0, false),
-        NoticeWord::Energy => shape(6, 5, false, 0, false),
-        NoticeWord::Status => shape(3, 1, false, 0, false),
+        NoticeWord::Fresh => shape(3, 1, false, false),
+        NoticeWord::Open => shape(7, 1, false, false),
+        NoticeWord::Energy => shape(6, 5, false, false),
+        NoticeWord::Status => shape(3, 1, false, false),
         NoticeWord::Transfer(w) => transfer_form(w),
     }
 }
@@ -59,10 +57,9 @@ fn query_form(q: QueryWord) -> Form
     ensures { Formed result (query_form q) }
 {
     match q {
-        QueryWord::Account => shape(3, 2, false, 0, false),
-        QueryWord::Allocate => shape(6, 18, false, 0, true),
-        QueryWord::Date => shape(3, 2, false, 0, false),
-        QueryWord::Check => shape(6, 2, true, 64, false),
+        QueryWord::Account => shape(3, 2, false, false),
+        QueryWord::Allocate => shape(6, 18, false, true),
+        QueryWord::Date => shape(3, 2, false, false),
     }
 }
 
@@ -96,23 +93,23 @@ pub fn own_numbers(f: Form) -> usize
     f.takes
 }
 
-// The numbers of its list.
-fn list_numbers(f: Form, nums: &[i64]) -> u64
-    ensures { (result ≡ list_numbers f nums.now) × (result ≤ 2 ^ 63) }
+// All its numbers.
+fn size(f: Form, nums: &[i64]) -> u64
+    requires { f.takes ≤ 7 }
+    ensures { result ≡ size_of f nums.now }
 {
+    let own = own_numbers(f) as u64;
     let takes = f.takes;
     if f.list {
-        return natural(nums, takes);
+        return own + natural(nums, takes);
     }
-    0
+    own
 }
 
 // Whether a line has the numbers of its form.
 pub fn counted(f: Form, nums: &[i64]) -> bool
     requires { f.takes ≤ 7 }
-    ensures { result ≡ Forms·counted f nums.now }
+    ensures { result ≡ eqb (length nums.now) (size_of f nums.now) }
 {
-    let own = own_numbers(f) as u64;
-    let list = list_numbers(f, nums);
-    (nums.len() as u64 == own + list) & (list <= f.most as u64)
+    nums.len() as u64 == size(f, nums)
 }

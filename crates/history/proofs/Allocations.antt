@@ -1,19 +1,21 @@
 -- An allocation that is given hands out its net section load, no more and no less: the points' shares add up to it, and so
 -- do the sixteen Users' totals. Assumes nothing.
-use mathlib.Core.Path.{◌≡◌, refl, ◌∙◌, ap, ap₂}
+use mathlib.Core.Path.{◌≡◌, refl, sym, ◌∙◌, ap, ap₂}
 use mathlib.Core.Bool.{Bool, true, false}
 use mathlib.Core.List.{List, [], ◌∷◌, ◌++◌, map}
 use Prim.Native.Nat.{ℕ, zero, suc, ◌+◌, ◌-◌, ◌≤◌, ◌<◌}
-use native.Mathlib.Nat.{add-zero}
+use native.Mathlib.Nat.{add-zero, zero-add, add_assoc}
 use native.Mathlib.Omega.{arith}
 use lib.Dec.{eqb}
 use lib.ListN.{length, length-append, length-map, length-replicate, replicate}
-use lib.IntN.{ℤ, pos, ◌+ℤ◌, ◌-ℤ◌, +ℤ_idl, +ℤ_invr}
+use lib.IntN.{ℤ, pos, ◌+ℤ◌, ◌-ℤ◌, +ℤ_idl, +ℤ_idr, +ℤ_invr}
 use borrow.Author.Tests.{leb-true, eqb-true, eqb-false, not-false}
 use Rattle.numbers.specs.Sums.{sum_from}
+use Rattle.numbers.specs.Shares.{floor_part}
 use Rattle.numbers.specs.Answers.{refused}
 use Rattle.numbers.proofs.Bools.{both}
-use Rattle.numbers.proofs.Sums.{sum_zero, sum_plus}
+use Rattle.numbers.proofs.Sums.{sum_zero, sum_plus, sum_shift, telescope}
+use Rattle.numbers.proofs.Floor.{floor_all, floor_none}
 use Rattle.daybook.specs.declared.AllocationQuery.{AllocationQuery}
 use Rattle.daybook.specs.declared.Edition.{Edition}
 use Rattle.daybook.specs.Book.{Point, Book}
@@ -24,11 +26,47 @@ use Rattle.lists.specs.InnerWell.{Well, Points, nopoint, point, WellFormed}
 use Rattle.lists.proofs.Splits.{split_length}
 use Rattle.lists.proofs.Rows.{least_none}
 use Rattle.layout.specs.Layout.{Fits}
-use Rattle.allocate.proofs.Splits.{part, split_whole}
 use Rattle.history.specs.Agreement.{load_in, totals_in, added}
 use Rattle.history.proofs.Accounts.{Owned, nothing, owned, counted_once, installed_user}
 
--- ---- the shares of a load
+-- ---- the split of a load by weights
+
+-- The weight of the first i of the points with these weights, and C of those before them.
+unfoldable up_to : ℕ → List ℕ → ℕ → ℕ
+up_to C ts zero = C
+up_to C [] (suc i) = C
+up_to C (t ∷ ts) (suc i) = up_to (C + t) ts i
+
+up_to_all : (C : ℕ) (ts : List ℕ) → up_to C ts (length ts) ≡ C + total ts
+unfolding up_to total
+up_to_all C [] = sym (add-zero C)
+up_to_all C (t ∷ ts) = up_to_all (C + t) ts ∙ add_assoc C t (total ts)
+
+module _ (nsl S : ℕ) where
+  -- The part of the load that weights of k together get.
+  abbrev part : ℕ → ℤ
+  part k = floor_part (pos nsl) S k
+
+  abbrev nth : ℕ → List ℕ → ℕ → ℤ
+  nth C ts i = part (up_to C ts (suc i)) -ℤ part (up_to C ts i)
+
+  -- The shares by index.
+  split_sum : (C : ℕ) (ts : List ℕ) → added (split nsl S C ts) ≡ sum_from (nth C ts) 0 (length ts)
+  unfolding split sum_of sum_from up_to
+  split_sum C [] = refl
+  split_sum C (t ∷ ts) =
+      ap (λ z. (part (C + t) -ℤ part C) +ℤ z) (split_sum (C + t) ts ∙ sym (sum_shift (nth C (t ∷ ts)) 0 (length ts)))
+
+-- They telescope, from no weight to all of it.
+split_whole : (nsl : ℕ) (ts : List ℕ) → 0 < total ts → added (split nsl (total ts) 0 ts) ≡ pos nsl
+unfolding up_to
+split_whole nsl ts p =
+    split_sum nsl S 0 ts ∙ telescope (λ i. part nsl S (up_to 0 ts i)) 0 (length ts)
+    ∙ ap₂ ◌-ℤ◌ (ap (part nsl S) (ap (up_to 0 ts) (zero-add (length ts)) ∙ up_to_all 0 ts ∙ zero-add S) ∙ floor_all (pos nsl) S p) (floor_none (pos nsl) S p)
+    ∙ +ℤ_idr (pos nsl)
+  where
+    S : ℕ
+    S = total ts
 
 -- Zeros behind a list add nothing.
 added_zeros : (xs : List ℤ) (k : ℕ) → added (xs ++ replicate k (pos 0)) ≡ added xs

@@ -15,7 +15,7 @@ use Rattle.daybook.specs.declared.NewRegister.{NewRegister}
 use Rattle.daybook.specs.Book.{Book}
 use Rattle.daybook.specs.Notices.{least, Numbers, decide, fresh_rows, fresh_book}
 use Rattle.daybook.specs.Editions.{Editions, edition_no, other_than, convert_rows}
-use Rattle.daybook.specs.Calls.{Notice, open!, energy!, status!, request!, withdraw!, correct!, Query, account!, allocate!, trial!, check!, Call, fresh!, notice!, query!, state!, convert!, Answer, noted, given, State, on_with, renewed, converted, step}
+use Rattle.daybook.specs.Calls.{Notice, open!, energy!, status!, request!, withdraw!, correct!, Query, account!, allocate!, trial!, Call, fresh!, notice!, query!, state!, convert!, Answer, noted, given, State, on_with, renewed, converted, step}
 use Rattle.lists.specs.Lists.{book_of}
 use Rattle.lists.proofs.Rows.{least_skip, least_none, decide_keeps}
 use Rattle.lists.proofs.OpenStep.{no_points}
@@ -34,7 +34,6 @@ use Rattle.transfer.specs.Transfer.{request_call, withdraw_call}
 use Rattle.correction.specs.Correction.{correct_call}
 use Rattle.account.specs.Account.{account_call}
 use Rattle.allocate.specs.Allocate.{allocate_call}
-use Rattle.submission.specs.Submission.{check_call}
 use Rattle.trial.specs.Trial.{trial_call}
 use Rattle.conversion.specs.Conversion.{convert_call}
 use Rattle.conversion.proofs.Calls.{convert_rows_lem}
@@ -87,11 +86,10 @@ module _ (E : Editions) (fit : BothFit E) (t : List ℤ) (s : sound (edition_in 
 
   -- a query is the book's
   pub query_is : (q : Query) → query_call E q t ≡ given q ed (table_book ed t)
-  unfolding query_call given account_call allocate_call trial_call check_call
+  unfolding query_call given account_call allocate_call trial_call
   query_is (account! n) = ap (λ (a : Numbers). (a, [])) (query_sound _ _ ed t s)
   query_is (allocate! n room) = query_sound _ _ ed t s
   query_is (trial! count notices room) = query_sound _ _ ed t s
-  query_is (check! n shares) = ap (λ (a : Numbers). (a, [])) (query_sound _ _ ed t s)
 
   -- the edition stays
   pub left_edition : (c : Notice) → edition_in E (notice_call E c t).1 ≡ ed

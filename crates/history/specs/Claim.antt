@@ -23,8 +23,8 @@ use Rattle.history.specs.Promise.{refusal_in, Reserved}
 -- all numbers, where E is `editions`: opening::fresh with fresh_call, opening::open with open_call, energy::energy with
 -- energy_call, status::status with status_call, transfer::request with request_call, transfer::withdraw with withdraw_call,
 -- correction::correct with correct_call, account::account with account_call, allocate::allocate with allocate_call,
--- submission::check with check_call, trial::trial with trial_call, images::save with save_call, images::restore with
--- restore_call, conversion::convert with convert_call.
+-- trial::trial with trial_call, images::save with save_call, images::restore with restore_call, conversion::convert with
+-- convert_call.
 abbrev pub EveryList : Type 0
 EveryList =
     (E : Editions) → BothFit E → (t₀ : List ℤ) (n : NewRegister) (past : ℕ → ℕ) → (fresh_call E t₀ n).0 ≡ pos 0 ∷ []

@@ -7,7 +7,7 @@ use Rattle.daybook.specs.declared.NewRegister.{NewRegister}
 use Rattle.daybook.specs.Notices.{Numbers, fresh_book}
 use Rattle.daybook.specs.States.{image_length, under}
 use Rattle.daybook.specs.Editions.{Editions, edition_no}
-use Rattle.daybook.specs.Calls.{Notice, open!, energy!, status!, request!, withdraw!, correct!, Query, account!, allocate!, trial!, check!, StateCall, save!, restore!, Call, fresh!, notice!, query!, state!, convert!, State, Answer}
+use Rattle.daybook.specs.Calls.{Notice, open!, energy!, status!, request!, withdraw!, correct!, Query, account!, allocate!, trial!, StateCall, save!, restore!, Call, fresh!, notice!, query!, state!, convert!, State, Answer}
 use Rattle.opening.specs.Opening.{fresh_call, open_call}
 use Rattle.energy.specs.Energy.{energy_call}
 use Rattle.status.specs.Status.{status_call}
@@ -15,7 +15,6 @@ use Rattle.transfer.specs.Transfer.{request_call, withdraw_call}
 use Rattle.correction.specs.Correction.{correct_call}
 use Rattle.account.specs.Account.{account_call}
 use Rattle.allocate.specs.Allocate.{allocate_call}
-use Rattle.submission.specs.Submission.{check_call}
 use Rattle.images.specs.Images.{save_call, restore_call}
 use Rattle.trial.specs.Trial.{trial_call}
 use Rattle.conversion.specs.Conversion.{convert_call}
@@ -36,7 +35,6 @@ unfoldable pub query_call : Editions → Query → List ℤ → Answer
 query_call E (account! n) t = (account_call E t n, [])
 query_call E (allocate! n room) t = allocate_call E t n room
 query_call E (trial! count notices room) t = trial_call E t count notices room
-query_call E (check! n shares) t = (check_call E t n shares, [])
 
 -- ---- lists of calls
 

@@ -2,17 +2,20 @@
 use mathlib.Core.Path.{◌≡◌, refl, sym, ◌∙◌, ap, ap₂, subst}
 use mathlib.Core.Bool.{Bool, true, false, ◌&&◌}
 use mathlib.Core.List.{List, [], ◌∷◌, flatten}
-use Prim.Native.Nat.{ℕ, suc, ◌*◌, ◌/◌, ◌≤◌, min}
-use native.Mathlib.Nat.{mul-le-mul_left}
+use Prim.Native.Nat.{ℕ, suc, ◌*◌, ◌/◌, ◌≤◌, ◌<◌, min}
+use native.Mathlib.Nat.{zero-add, mul-le-mul_left}
 use native.Mathlib.Omega.{arith}
 use lib.Dec.{leb}
 use lib.IntN.{ℤ, pos}
-use lib.ListN.{length, get_or, take, replicate}
+use lib.ListN.{length, get_or, take, replicate, length-replicate}
 use lib.Seq.{take_at}
 use borrow.Author.Tests.{leb-true, leb-false, le-leb, lt-leb}
 use Rattle.numbers.specs.Naturals.{nat_of}
 use Rattle.calendar.specs.Calendar.{within}
+use Rattle.words.specs.Words.{word_at}
+use Rattle.words.proofs.Tables.{decoded_at}
 use Rattle.daybook.specs.Notices.{Numbers}
+use Rattle.daybook.specs.FromNumbers.{num}
 use Rattle.daybook.specs.Editions.{editions}
 use Rattle.daybook.specs.Queries.{sum_of}
 use Rattle.daybook.specs.Trials.{notices_in, answers_to, books_on_the_way, most_in, removed_in, batch_fits}
@@ -24,7 +27,7 @@ use Rattle.trial.specs.Trial.{trial_call}
 use Rattle.trial.proofs.Answers.{answers_length, notices_length, notices_alike}
 use Rattle.trial.proofs.Calls.{fits_few, trial_unsound, trial_unfit, trial_given}
 use Rattle.buffers.specs.Buffers.{numbers_in, numbers_held}
-use Rattle.buffers.proofs.Bytes.{numbers_length, number_at}
+use Rattle.buffers.proofs.Bytes.{numbers_length}
 
 -- ---- what fits
 
@@ -59,10 +62,15 @@ module _ (t : List ℤ) (count : ℤ) (b : List ℕ) (r : ℕ) where
   fitting : batch_fits count (length (numbers_held b)) r ≡ true → Fitting
   fitting e = let f = fits_few count (length (numbers_in b k)) r e in (f.0, omega (arith, f.1, numbers_length b k), f.2)
 
+  number_at : (n i : ℕ) → i < n → num (numbers_in b n) i ≡ word_at b (8 * i)
+  unfolding numbers_in
+  number_at n i h =
+      rw (zero-add i, zero-add (8 * i)) at (decoded_at (replicate n (pos 0)) 0 b 0 n i (pos 0) (omega (arith, length-replicate n (pos 0))) h)
+
   read_same : Fitting → notices_in (nat_of count) first ≡ notices_in (nat_of count) (numbers_held b)
   read_same f =
       notices_alike (nat_of count) first (numbers_in b k) (λ i h.
-      number_at b (min 600 k) i (omega (arith, f.0, f.1)) ∙ sym (number_at b k i (omega (arith, f.1))))
+      number_at (min 600 k) i (omega (arith, f.0, f.1)) ∙ sym (number_at k i (omega (arith, f.1))))
 
   abbrev w : Numbers × List ℤ
   w = trial_call editions t count (numbers_held b) r

@@ -3,4 +3,3 @@ mod Refusals
 mod Holidays
 mod Shares
 mod Batches
-mod Submissions

@@ -30,7 +30,6 @@ use Rattle.daybook.specs.Queries.{account_rows, account, allocate_rows, allocate
 use Rattle.daybook.specs.States.{state_row, first_row}
 use Rattle.daybook.specs.Editions.{editions, other_than, convert_rows}
 use Rattle.daybook.specs.Trials.{trial_rows, trial}
-use Rattle.daybook.specs.Submissions.{check_rows, check}
 use Rattle.lists.proofs.Rows.{up_to, up_to_append, up_to_least}
 use Rattle.layout.specs.Layout.{table_length, edition_of, table_book}
 use Rattle.layout.specs.Sound.{sound}
@@ -43,7 +42,6 @@ use Rattle.correction.specs.Correction.{correct_call}
 use Rattle.account.specs.Account.{account_call}
 use Rattle.allocate.specs.Allocate.{allocate_call}
 use Rattle.trial.specs.Trial.{trial_call}
-use Rattle.submission.specs.Submission.{check_call}
 use Rattle.images.specs.Images.{save_call, restore_row, restore_call}
 use Rattle.conversion.specs.Conversion.{convert_call}
 use Rattle.buffers.proofs.Ends.{refusal_of}
@@ -138,14 +136,6 @@ trial_small t count notices room = go (sound (edition_of t) t)
   where
     go : (s : Bool) → refusal_of (cond s (trial (edition_of t) count notices room (table_book (edition_of t) t)) (pos 1 ∷ replicate 2 (pos 0), [])).0 ≤ highest_refusal
     go true = rw decided (up_to_least highest_refusal (trial_rows count (length notices) room) refl)
-    go false = omega arith
-
-pub check_small : (t : List ℤ) (q : AllocationQuery) (shares : List ℤ) → refusal_of (check_call editions t q shares) ≤ highest_refusal
-unfolding check_call check check_rows allocate_rows of_edition up_to
-check_small t q shares = go (sound (edition_of t) t)
-  where
-    go : (s : Bool) → refusal_of (cond s (check q shares (table_book (edition_of t) t)) (pos 1 ∷ pos 0 ∷ [])) ≤ highest_refusal
-    go true = rw decided (up_to_least highest_refusal (check_rows q shares (table_book (edition_of t) t)) refl)
     go false = omega arith
 
 pub save_small : (t : List ℤ) (n : ℤ) (image : List ℕ) → refusal_of (save_call editions t n image).0 ≤ highest_refusal

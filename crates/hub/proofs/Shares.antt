@@ -2,7 +2,7 @@
 use mathlib.Core.Path.{◌≡◌, refl, sym, ap, subst, ◌∙◌}
 use mathlib.Core.Bool.{Bool, true, false, cond}
 use mathlib.Core.List.{List, [], ◌∷◌, ◌++◌, append-nil}
-use Prim.Native.Nat.{ℕ, suc, ◌-◌, ◌*◌, ◌≤◌, min}
+use Prim.Native.Nat.{ℕ, suc, ◌*◌, ◌≤◌, min}
 use native.Mathlib.Omega.{arith}
 use lib.Dec.{leb, eqb}
 use lib.IntN.{ℤ, pos}
@@ -62,11 +62,11 @@ module _ (t : List ℤ) (q : AllocationQuery) (room : ℕ) where
   taken_32 = go (sound (edition_of t) t) (allocation_in_range q room) (eqb (total (weights q (table_book (edition_of t) t))) 0) refl refl refl
     where
       go : (s i z : Bool) → sound (edition_of t) t ≡ s → allocation_in_range q room ≡ i → eqb (total (weights q (table_book (edition_of t) t))) 0 ≡ z → Taken (allocate_call editions t q room)
-      go false i z a b c = subst Taken (sym (call_unsound editions (edition_of t) t refl q room a)) (not_taken 0 (replicate 17 (pos 0)))
-      go true false z a b c = subst Taken (sym (call_range editions (edition_of t) t refl q room a b)) (not_taken 1 (replicate 17 (pos 0)))
-      go true true true a b c = subst Taken (sym (call_weightless editions (edition_of t) t refl q room a b (eqb-true (total (weights q (table_book (edition_of t) t))) 0 c))) (not_taken 14 (replicate 17 (pos 0)))
+      go false i z a b c = subst Taken (sym (call_unsound (edition_of t) t refl q room a)) (not_taken 0 (replicate 17 (pos 0)))
+      go true false z a b c = subst Taken (sym (call_range (edition_of t) t refl q room a b)) (not_taken 1 (replicate 17 (pos 0)))
+      go true true true a b c = subst Taken (sym (call_weightless (edition_of t) t refl q room a b (eqb-true (total (weights q (table_book (edition_of t) t))) 0 c))) (not_taken 14 (replicate 17 (pos 0)))
       go true true false a b c =
-          subst Taken (sym (call_given editions (edition_of t) t refl q room a b (eqb-false (total (weights q (table_book (edition_of t) t))) 0 c))) (λ e. (given_32 t a q, (in_range_tells q room b).1))
+          subst Taken (sym (call_given (edition_of t) t refl q room a b (eqb-false (total (weights q (table_book (edition_of t) t))) 0 c))) (λ e. (given_32 t a q, (in_range_tells q room b).1))
 
   -- so that the answer table is what is given
   pub placed_all : (out : List ℤ) → length out ≡ min 32 room → get_or w.0 0 (pos 0) ≡ pos 0 → placed w.1 out ≡ w.1

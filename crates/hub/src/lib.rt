@@ -13,7 +13,6 @@ ghost use Rattle.correction.specs.Correction.{correct_call};
 ghost use Rattle.account.specs.Account.{account_call};
 ghost use Rattle.allocate.specs.Allocate.{allocate_call};
 ghost use Rattle.trial.specs.Trial.{trial_call};
-ghost use Rattle.submission.specs.Submission.{check_call};
 ghost use Rattle.images.specs.Images.{save_call, restore_call};
 ghost use Rattle.conversion.specs.Conversion.{convert_call};
 ghost use Rattle.buffers.specs.Buffers.{table_in, numbers_held, replied, written_bytes, written, image_in};
@@ -24,8 +23,7 @@ use daybook::{
     TransferRequest, Withdrawal,
 };
 
-#[unsafe(no_mangle)]
-pub extern "C" fn petlumas_fresh(
+pub fn petlumas_fresh(
     register: &mut [u8],
     answer: &mut [u8],
     nondaily: i64,
@@ -46,8 +44,7 @@ pub extern "C" fn petlumas_fresh(
     buffers::finish(register, answer, table, &numbers)
 }
 
-#[unsafe(no_mangle)]
-pub extern "C" fn petlumas_open(
+pub fn petlumas_open(
     register: &mut [u8],
     answer: &mut [u8],
     mirn: i64,
@@ -76,8 +73,7 @@ pub extern "C" fn petlumas_open(
     buffers::finish(register, answer, table, &numbers)
 }
 
-#[unsafe(no_mangle)]
-pub extern "C" fn petlumas_energy(
+pub fn petlumas_energy(
     register: &mut [u8],
     answer: &mut [u8],
     mirn: i64,
@@ -104,14 +100,7 @@ pub extern "C" fn petlumas_energy(
     buffers::finish(register, answer, table, &numbers)
 }
 
-#[unsafe(no_mangle)]
-pub extern "C" fn petlumas_status(
-    register: &mut [u8],
-    answer: &mut [u8],
-    mirn: i64,
-    day: i64,
-    on: i64,
-) -> i64
+pub fn petlumas_status(register: &mut [u8], answer: &mut [u8], mirn: i64, day: i64, on: i64) -> i64
     ensures { (result, (register.new, answer.new)) ≡ written (status_call editions (table_in register.old) (record { mirn = mirn; day = day; on = on })) register.old answer.old }
 {
     let n = StatusNotice { mirn, day, on };
@@ -122,8 +111,7 @@ pub extern "C" fn petlumas_status(
     buffers::finish(register, answer, table, &numbers)
 }
 
-#[unsafe(no_mangle)]
-pub extern "C" fn petlumas_request(
+pub fn petlumas_request(
     register: &mut [u8],
     answer: &mut [u8],
     holidays: &[u8],
@@ -149,13 +137,7 @@ pub extern "C" fn petlumas_request(
     buffers::finish(register, answer, table, &numbers)
 }
 
-#[unsafe(no_mangle)]
-pub extern "C" fn petlumas_withdraw(
-    register: &mut [u8],
-    answer: &mut [u8],
-    mirn: i64,
-    user: i64,
-) -> i64
+pub fn petlumas_withdraw(register: &mut [u8], answer: &mut [u8], mirn: i64, user: i64) -> i64
     ensures { (result, (register.new, answer.new)) ≡ written (withdraw_call editions (table_in register.old) (record { mirn = mirn; user = user })) register.old answer.old }
 {
     let n = Withdrawal { mirn, user };
@@ -166,8 +148,7 @@ pub extern "C" fn petlumas_withdraw(
     buffers::finish(register, answer, table, &numbers)
 }
 
-#[unsafe(no_mangle)]
-pub extern "C" fn petlumas_correct(
+pub fn petlumas_correct(
     register: &mut [u8],
     answer: &mut [u8],
     mirn: i64,
@@ -190,14 +171,7 @@ pub extern "C" fn petlumas_correct(
     buffers::finish(register, answer, table, &numbers)
 }
 
-#[unsafe(no_mangle)]
-pub extern "C" fn petlumas_account(
-    register: &[u8],
-    answer: &mut [u8],
-    user: i64,
-    from: i64,
-    to: i64,
-) -> i64
+pub fn petlumas_account(register: &[u8], answer: &mut [u8], user: i64, from: i64, to: i64) -> i64
     ensures { (result, answer.new) ≡ replied (account_call editions (table_in register.now) (record { user = user; from = from; to = to })) answer.old }
 {
     let n = AccountQuery { user, from, to };
@@ -209,8 +183,7 @@ pub extern "C" fn petlumas_account(
 }
 
 // The answer table has as many numbers as `shares` has bytes for.
-#[unsafe(no_mangle)]
-pub extern "C" fn petlumas_allocate(
+pub fn petlumas_allocate(
     register: &[u8],
     answer: &mut [u8],
     shares: &mut [u8],
@@ -240,41 +213,8 @@ pub extern "C" fn petlumas_allocate(
     buffers::finish(shares, answer, room, &numbers)
 }
 
-// The shares have as many numbers as their buffer has bytes for.
-#[unsafe(no_mangle)]
-pub extern "C" fn petlumas_check(
-    register: &[u8],
-    answer: &mut [u8],
-    shares: &[u8],
-    gasday: i64,
-    from: i64,
-    to: i64,
-    tdq: i64,
-    uag: i64,
-    clp: i64,
-) -> i64
-    ensures { (result, answer.new) ≡ replied (check_call editions (table_in register.now) (record { gasday = gasday; from = from; to = to; tdq = tdq; uag = uag; clp = clp }) (numbers_held shares.now)) answer.old }
-{
-    let q = AllocationQuery {
-        gasday,
-        from,
-        to,
-        tdq,
-        uag,
-        clp,
-    };
-    let mut t = [0i64; places::TABLE_LENGTH];
-    let table = buffers::table_in(register, &mut t);
-    let mut list = [0i64; 32];
-    let sent = buffers::list_in(shares, &mut list);
-    let a = submission::check(table, q, sent);
-    let numbers = daybook::check_numbers(a);
-    numbers::integer(buffers::reply(answer, &numbers))
-}
-
 // The batch and its answers have as many numbers as their buffers have bytes for.
-#[unsafe(no_mangle)]
-pub extern "C" fn petlumas_trial(
+pub fn petlumas_trial(
     register: &[u8],
     answer: &mut [u8],
     notices: &[u8],
@@ -295,13 +235,7 @@ pub extern "C" fn petlumas_trial(
     buffers::finish(answers, answer, given, &numbers)
 }
 
-#[unsafe(no_mangle)]
-pub extern "C" fn petlumas_save(
-    register: &[u8],
-    answer: &mut [u8],
-    image: &mut [u8],
-    state: i64,
-) -> i64
+pub fn petlumas_save(register: &[u8], answer: &mut [u8], image: &mut [u8], state: i64) -> i64
     ensures { (result, (image.new, answer.new)) ≡ written_bytes (save_call editions (table_in register.now) state (image_in image.old answer.old)) image.old answer.old }
 {
     let mut t = [0i64; places::TABLE_LENGTH];
@@ -312,13 +246,7 @@ pub extern "C" fn petlumas_save(
     numbers::integer(buffers::reply(answer, &numbers))
 }
 
-#[unsafe(no_mangle)]
-pub extern "C" fn petlumas_restore(
-    register: &mut [u8],
-    answer: &mut [u8],
-    image: &[u8],
-    state: i64,
-) -> i64
+pub fn petlumas_restore(register: &mut [u8], answer: &mut [u8], image: &[u8], state: i64) -> i64
     ensures { (result, (register.new, answer.new)) ≡ written (restore_call editions (table_in register.old) state (image_in image.now answer.old)) register.old answer.old }
 {
     let mut t = [0i64; places::TABLE_LENGTH];
@@ -330,8 +258,7 @@ pub extern "C" fn petlumas_restore(
 }
 
 // The register in the other edition, in a second buffer.
-#[unsafe(no_mangle)]
-pub extern "C" fn petlumas_convert(register: &[u8], answer: &mut [u8], other: &mut [u8]) -> i64
+pub fn petlumas_convert(register: &[u8], answer: &mut [u8], other: &mut [u8]) -> i64
     ensures { (result, (other.new, answer.new)) ≡ written (convert_call editions (table_in register.now) (table_in other.old)) other.old answer.old }
 {
     let mut t = [0i64; places::TABLE_LENGTH];
@@ -343,8 +270,7 @@ pub extern "C" fn petlumas_convert(register: &[u8], answer: &mut [u8], other: &m
     buffers::finish(other, answer, second, &numbers)
 }
 
-#[unsafe(no_mangle)]
-pub extern "C" fn petlumas_date(answer: &mut [u8], year: i64, month: i64, day: i64) -> i64
+pub fn petlumas_date(answer: &mut [u8], year: i64, month: i64, day: i64) -> i64
     ensures { (result, answer.new) ≡ replied (date_call year month day) answer.old }
 {
     let a = calendar::date(YearMonthDay { year, month, day });

@@ -5,7 +5,6 @@ use mathlib.Core.Bool.{and-false, false≢true}
 use lib.ListN.{length-replicate, replicate-append-replicate, get_or-append}
 use Rattle.numbers.specs.Naturals.{nat_of}
 use Rattle.numbers.proofs.Bools.{both}
-use Rattle.numbers.proofs.Padding.{repeated_at}
 use Rattle.lists.proofs.Bounds.{within_bounds}
 use Rattle.numbers.proofs.Rows.{all_of, all_fails}
 use Rattle.words.specs.Words.{number_at}
@@ -114,10 +113,15 @@ module _ (E : Editions) (fit : BothFit E) (t t' : List ℤ) (n : ℤ) (before im
 
 -- ---- zero bytes
 
+zeros_at : (m k : ℕ) → get_or {A = ℕ} (replicate m 0) k 0 ≡ 0
+zeros_at zero k = refl
+zeros_at (suc m) zero = refl
+zeros_at (suc m) (suc k) = zeros_at m k
+
 zeros_number : (m at w : ℕ) → number_at (replicate m 0) at w ≡ 0
 unfolding number_at
 zeros_number m at zero = refl
-zeros_number m at (suc w) = rw (repeated_at {A = ℕ} 0 m at, zeros_number m (at + 1) w)
+zeros_number m at (suc w) = rw (zeros_at m at, zeros_number m (at + 1) w)
 
 pub zero_image : (E : Editions) (t : List ℤ) (n : ℤ) (image : List ℕ) → table_length ≤ length t → is_state n ≡ true → image_length ≤ length image
     → take image_length image ≡ replicate image_length 0 → restore_call E t n image ≡ (pos 17 ∷ [], t)

@@ -52,14 +52,13 @@ notice_or w other =
     (notice w (102 ∷ 114 ∷ 101 ∷ 115 ∷ 104 ∷ []) Notice·.Fresh
     other))))
 
--- check, date, allocate, account
+-- date, allocate, account
 unfoldable pub query_or : List ℕ → Command → Command
 query_or w other =
-    (query w (99 ∷ 104 ∷ 101 ∷ 99 ∷ 107 ∷ []) Query·.Check
     (query w (100 ∷ 97 ∷ 116 ∷ 101 ∷ []) Query·.Date
     (query w (97 ∷ 108 ∷ 108 ∷ 111 ∷ 99 ∷ 97 ∷ 116 ∷ 101 ∷ []) Query·.Allocate
     (query w (97 ∷ 99 ∷ 99 ∷ 111 ∷ 117 ∷ 110 ∷ 116 ∷ []) Query·.Account
-    other))))
+    other)))
 
 -- image, imgpoke, restore, save
 unfoldable pub image_or : List ℕ → Command → Command

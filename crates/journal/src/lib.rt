@@ -30,7 +30,6 @@ pub enum QueryWord {
     Account,
     Allocate,
     Date,
-    Check,
 }
 
 #[derive(Clone, Copy)]
@@ -241,8 +240,7 @@ fn query_or(w: &[u8], other: Command) -> Command
 {
     let c = pick_query(w, b"account", QueryWord::Account, other);
     let c = pick_query(w, b"allocate", QueryWord::Allocate, c);
-    let c = pick_query(w, b"date", QueryWord::Date, c);
-    pick_query(w, b"check", QueryWord::Check, c)
+    pick_query(w, b"date", QueryWord::Date, c)
 }
 
 fn image_or(w: &[u8], other: Command) -> Command

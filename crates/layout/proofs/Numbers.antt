@@ -3,14 +3,13 @@ use mathlib.Core.Path.{◌≡◌, refl, sym, ap, ◌∙◌}
 use mathlib.Core.Bool.{Bool, true, false}
 use mathlib.Core.Option.{Option}
 use mathlib.Core.List.{List, [], ◌∷◌, ◌++◌}
-use Prim.Native.Nat.{ℕ, ◌+◌, ◌-◌, ◌*◌, ◌≤◌, ◌<◌}
+use Prim.Native.Nat.{ℕ, zero, suc, ◌+◌, ◌-◌, ◌*◌, ◌≤◌, ◌<◌}
 use native.Mathlib.Omega.{arith}
 use lib.Dec.{ltb}
 use lib.IntN.{ℤ, pos}
-use lib.ListN.{length, get_or, take, drop, length-append, length-replicate, get_or-append, get_or-eq_default}
+use lib.ListN.{length, get_or, take, drop, replicate, length-append, length-replicate, get_or-append, get_or-eq_default}
 use lib.Seq.{take_at, drop_at, get_or-append-add, get_or-take, length-take-le, ext_get_or}
 use borrow.Author.Tests.{ltb-true, ltb-false}
-use Rattle.numbers.proofs.Padding.{padded_at}
 use Rattle.daybook.specs.Book.{Entry}
 use Rattle.lists.specs.Lists.{Lists}
 use Rattle.lists.specs.InnerWell.{Well}
@@ -28,9 +27,20 @@ take_pad n l t h = take_at (pad n l) t n (length_pad n l h)
 pub drop_pad : (n : ℕ) (l t : List ℤ) → length l ≤ n → drop n (pad n l ++ t) ≡ t
 drop_pad n l t h = drop_at (pad n l) t n (length_pad n l h)
 
+zero_each : (n i : ℕ) → get_or (replicate n (pos 0)) i (pos 0) ≡ pos 0
+zero_each zero i = refl
+zero_each (suc n) zero = refl
+zero_each (suc n) (suc i) = zero_each n i
+
+-- zeros behind a list change no place of it
+pub zeros_behind : (l : List ℤ) (n i : ℕ) → get_or (l ++ replicate n (pos 0)) i (pos 0) ≡ get_or l i (pos 0)
+zeros_behind [] n i = zero_each n i
+zeros_behind (x ∷ l) n zero = refl
+zeros_behind (x ∷ l) n (suc i) = zeros_behind l n i
+
 pub pad_at : (n : ℕ) (l : List ℤ) (i : ℕ) → get_or (pad n l) i (pos 0) ≡ get_or l i (pos 0)
 unfolding pad
-pad_at n l i = padded_at (pos 0) l (n - length l) i
+pad_at n l i = zeros_behind l (n - length l) i
 
 -- a place in the first block, and one past it
 pub pad_here : (n : ℕ) (l t : List ℤ) (i : ℕ) → length l ≤ n → i < n → get_or (pad n l ++ t) i (pos 0) ≡ get_or l i (pos 0)

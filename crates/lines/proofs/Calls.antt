@@ -17,7 +17,7 @@ use Rattle.printing.specs.Rows.{row_bytes, row_of, Printed}
 use Rattle.lending.specs.Lending.{bytes_of, answer_bytes}
 use Rattle.lending.proofs.Bytes.{take_replicate, in_zeros, filled_in_zeros}
 use Rattle.forms.specs.declared.Form.{Form}
-use Rattle.forms.specs.Forms.{form_of, own_numbers, list_numbers, counted}
+use Rattle.forms.specs.Forms.{form_of, own_numbers, size_of}
 use Rattle.calls.specs.Calls.{Left, called}
 use Rattle.lines.specs.Lines.{line_numbers, most_room, table_room, acted, call_line, lengths, size, most_bytes, buffer_bytes, buffer, lendable, shown, showed, hub_line, Played}
 use Rattle.lines.proofs.Outcomes.{on_lent_lem}
@@ -39,16 +39,13 @@ joined a b x p q =
 
 -- ---- a call on the bytes that are lent; f is its form as the code has it
 
-module _ (call : CallWord) (xs : List ℤ) (f : Form) (t : Bool) (is : f ≡ form_of call) (test : t ≡ counted f xs) where
+module _ (call : CallWord) (xs : List ℤ) (f : Form) (t : Bool) (is : f ≡ form_of call) (test : t ≡ eqb (length xs) (size_of f xs)) where
   pub not_counted : (b : List ℕ) (room : ℕ) → not t ≡ true → call_line call b room xs ≡ none
   unfolding call_line
   not_counted b room z = rw (← is, ← test, not-true t z)
 
   pub own_fits : (own : ℕ) → own ≡ own_numbers f → t ≡ true → own ≤ length xs
-  own_fits own e z =
-      let size = own_numbers f + list_numbers f xs in
-      let few = leb (list_numbers f xs) f.most in
-      omega (arith, eqb-true (length xs) size (both (eqb (length xs) size) few (rw test at z)).0)
+  own_fits own e z = omega (arith, eqb-true (length xs) (size_of f xs) (rw test at z))
 
   -- its buffers are made in zeros, and its answer table of numbers -7
   pub call_made : {out out' b' : List ℕ} {at r : ℕ} (b list answer table : List ℕ) (own room n gives : ℕ)

@@ -1,17 +1,15 @@
 -- Lines that are no call, a row that is printed, and a call on the first bytes of a buffer. Assumes nothing.
 use mathlib.Core.Path.{◌≡◌, refl, sym, ap, ◌∙◌}
-use mathlib.Core.List.{List, [], ◌∷◌, ◌++◌, append-nil}
+use mathlib.Core.List.{List, ◌++◌, append-nil}
 use mathlib.Core.Option.{none, some}
 use Prim.Native.Nat.{ℕ, ◌+◌, ◌≤◌}
 use native.Mathlib.Omega.{arith}
 use borrow.Author.Tests.{eq-eqb}
 use lib.IntN.{ℤ}
 use lib.ListN.{length, take, drop, take-append-drop}
-use types.Run.{OneOf, miss}
-use denote.Enum.Declared.{tag_of}
 use Rattle.journal.specs.declared.Command.{Command}
 use Rattle.journal.specs.declared.Command.TheVariants.{Call, Look, Table, Poke, Lend, Room, Hub, Unknown, Image, Convert, Trial}
-use Rattle.journal.specs.contracts.Command.{the_type}
+use Rattle.journal.specs.declared.CallWord.{CallWord}
 use Rattle.printing.specs.Rows.{row_bytes, row_of, Printed}
 use Rattle.lines.specs.Lines.{LineResult, taking, on_lent, line_of, Played}
 
@@ -24,22 +22,19 @@ nothing b out at e =
 pub something : {b b' b'' out out' : List ℕ} {at r : ℕ} (n : ℕ) (xs : List ℤ) {ys zs : List ℤ} → length xs ≡ n → b' ≡ b'' → zs ≡ ys → r ≤ at + row_bytes → Printed out at (row_of zs) out' r → Played (taking n xs (ys, b'')) b out at b' out' r
 something n xs l e x h w = rw (eq-eqb (length xs) n l) (record { room = h; left = e; text = rw (← x) w })
 
--- the numbers of the commands that are no such line
-abbrev others : List ℕ
-others = 4 ∷ 5 ∷ 6 ∷ 7 ∷ 8 ∷ 10 ∷ []
-
-pub no_line : (c : Command) (b : List ℕ) (lent room : ℕ) (xs : List ℤ) → OneOf others (tag_of the_type c) → line_of c b lent room xs ≡ none
-no_line (Call call) b lent room xs k = absurd (miss others 0 tt k)
-no_line Look b lent room xs k = absurd (miss others 1 tt k)
-no_line Table b lent room xs k = absurd (miss others 2 tt k)
-no_line Poke b lent room xs k = absurd (miss others 3 tt k)
-no_line Lend b lent room xs k = refl
-no_line Room b lent room xs k = refl
-no_line Hub b lent room xs k = refl
-no_line Unknown b lent room xs k = refl
-no_line (Image w) b lent room xs k = refl
-no_line Convert b lent room xs k = absurd (miss others 9 tt k)
-no_line Trial b lent room xs k = refl
+-- the commands that are no such line
+pub no_line : (c : Command) (b : List ℕ) (lent room : ℕ) (xs : List ℤ) → ((call : CallWord) → c ≡ Call call → ⊥) → (c ≡ Look → ⊥) → (c ≡ Table → ⊥) → (c ≡ Poke → ⊥) → (c ≡ Convert → ⊥) → line_of c b lent room xs ≡ none
+no_line (Call call) b lent room xs f g h i j = absurd (f call refl)
+no_line Look b lent room xs f g h i j = absurd (g refl)
+no_line Table b lent room xs f g h i j = absurd (h refl)
+no_line Poke b lent room xs f g h i j = absurd (i refl)
+no_line Lend b lent room xs f g h i j = refl
+no_line Room b lent room xs f g h i j = refl
+no_line Hub b lent room xs f g h i j = refl
+no_line Unknown b lent room xs f g h i j = refl
+no_line (Image w) b lent room xs f g h i j = refl
+no_line Convert b lent room xs f g h i j = absurd (j refl)
+no_line Trial b lent room xs f g h i j = refl
 
 -- an outcome on the first bytes of a buffer is one on the buffer
 pub on_lent_lem : {out out' : List ℕ} {at r : ℕ} (b u : List ℕ) (n : ℕ) (o : LineResult) → Played o (take n b) out at u out' r → Played (on_lent b n o) b out at (u ++ drop n b) out' r

@@ -19,7 +19,7 @@ use Rattle.journal.specs.declared.Command.TheVariants as Command·
 use Rattle.printing.specs.Rows.{row_bytes, row_of, text_of, hex_of, Printed}
 use Rattle.lending.specs.Lending.{bytes_of}
 use Rattle.forms.specs.declared.Form.{Form}
-use Rattle.forms.specs.Forms.{form_of, own_numbers, counted}
+use Rattle.forms.specs.Forms.{form_of, own_numbers, size_of}
 use Rattle.calls.specs.Calls.{Left, called}
 
 -- The register's buffer has the register's numbers and sixteen past them, 7,704 in all.
@@ -59,7 +59,7 @@ call_line call lent room xs =
     let answer : List ℕ = replicate (8 * f.gives) 0 in
     let table : List ℕ = bytes_of (replicate (table_room f room) (negsuc 6)) in
     let l : Left = called call xs list lent answer table in
-    cond (counted f xs) (some (acted l)) none
+    cond (eqb (length xs) (size_of f xs)) (some (acted l)) none
 
 -- ---- lines of the journal's own
 

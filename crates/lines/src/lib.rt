@@ -62,10 +62,10 @@ fn call(
     let mut list = [0u8; LIST_BYTES];
     let mut answer = [0u8; ANSWER_BYTES];
     let mut table = [0u8; TABLE_BYTES];
-    let listed = lending::bytes_of(&nums[own..], &mut list);
+    let days = lending::bytes_of(&nums[own..], &mut list);
     let given = lending::filled(shares, -7, &mut table);
     let numbers = &mut answer[0..gives];
-    calls::invoke(call, nums, listed, register, numbers, given);
+    calls::invoke(call, nums, days, register, numbers, given);
     lending::print_row(out, at, numbers, given)
 }
 

@@ -1,11 +1,10 @@
 -- Numbers that row 2 lets through: the bounds of their naturals. Assumes nothing.
-use mathlib.Core.Path.{◌≡◌, refl, sym, ap}
+use mathlib.Core.Path.{◌≡◌, refl}
 use mathlib.Core.Bool.{Bool, true, false, not, ◌&&◌, false≢true}
-use Prim.Native.Nat.{ℕ, ◌≤◌, ◌<◌, ◌^◌}
-use native.Mathlib.Omega.{arith}
+use Prim.Native.Nat.{ℕ, ◌≤◌}
 use lib.Dec.{leb}
 use lib.IntN.{ℤ, pos, negsuc}
-use borrow.Author.Tests.{leb-true, le-leb, lt-leb, not-false}
+use borrow.Author.Tests.{leb-true, not-false}
 use Rattle.numbers.specs.Naturals.{nat_of}
 use Rattle.numbers.proofs.Bools.{both}
 use Rattle.calendar.specs.Calendar.{within}
@@ -20,11 +19,6 @@ within_bounds lo hi (negsuc n) e = absurd (false≢true e)
 pub within_pos : (lo hi : ℕ) (z : ℤ) → within (pos lo) (pos hi) z ≡ true → z ≡ pos (nat_of z)
 within_pos lo hi (pos n) e = refl
 within_pos lo hi (negsuc n) e = absurd (false≢true e)
-
--- A negative number is read as one above every bound.
-pub within_natural : (hi : ℕ) → hi < 2 ^ 63 → (z : ℤ) → within (pos 0) (pos hi) z ≡ leb (nat_of z) hi
-within_natural hi h (pos n) = ap (λ b. b && leb n hi) (le-leb 0 n (omega arith))
-within_natural hi h (negsuc n) = sym (lt-leb (2 ^ 63) hi h)
 
 -- A row that refuses where two tests don't both hold: where it doesn't apply, both hold.
 pub both_hold : (a b : Bool) → not (a && b) ≡ false → (a ≡ true) × (b ≡ true)

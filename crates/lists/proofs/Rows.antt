@@ -82,15 +82,6 @@ pub least_first : (n : ℕ) (b : Bool) (rs : List Row) → above n rs ≡ true �
 unfolding least
 least_first n b rs h e = rw e (smaller_first n rs h)
 
--- So is one with no lower number behind it.
-pub least_lowest : (n : ℕ) (b : Bool) (rs : List Row) → above n rs ≡ true → b ≡ true → least ((suc n, b) ∷ rs) ≡ suc n
-unfolding least
-least_lowest n b rs h e = rw e (go (least rs) refl)
-  where
-    go : (l : ℕ) → least rs ≡ l → smaller (suc n) l ≡ suc n
-    go zero q = refl
-    go (suc l) q = let g : n < suc l = above_least n rs h l q in omega arith
-
 -- A row that doesn't apply is passed over.
 pub least_skip : (n : ℕ) (b : Bool) (rs : List Row) → b ≡ false → least ((n, b) ∷ rs) ≡ least rs
 unfolding least

@@ -102,20 +102,6 @@ sub_bounds a b = go (ltb a b) refl
     go true e = let h : a < b = ltb-true a b e in rw e (omega arith, omega arith)
     go false e = let h : b ≤ a = ltb-false a b e in rw e (omega arith, omega arith)
 
--- a sum is no further below 0 than its parts together, and a difference no further above
-pub add_low : (x y : ℤ) → dn (x +ℤ y) ≤ dn x + dn y
-add_low (pos a) (pos b) = omega arith
-add_low (pos a) (negsuc b) = omega (arith, (sub_bounds a (suc b)).1)
-add_low (negsuc a) (pos b) = omega (arith, (sub_bounds b (suc a)).1)
-add_low (negsuc a) (negsuc b) = omega arith
-
-pub minus_high : (x y : ℤ) → up (x -ℤ y) ≤ up x + dn y
-minus_high x y = go (x -ℤ y) refl
-  where
-    go : (z : ℤ) → x -ℤ y ≡ z → up z ≤ up x + dn y
-    go (pos n) e = omega (arith, minus_fact x y, ap up e, ap dn e)
-    go (negsuc n) e = omega arith
-
 pub sub_sfits : (a b : ℕ) → a < 2 ^ 63 → b < 2 ^ 63 → SFits w64 (sub_ℕ a b)
 sub_sfits a b h k =
     sfits_of_bounds (sub_ℕ a b) (omega (arith, (sub_bounds a b).0)) (omega (arith, (sub_bounds a b).1))

@@ -2,7 +2,6 @@
 pub mod Bools
 pub mod Integers
 pub mod Naturals
-pub mod Padding
 pub mod Rows
 pub mod Search
 pub mod Sums

@@ -6,7 +6,7 @@ use native.Mathlib.Omega.{arith}
 use native.Mathlib.Nat.{add-zero}
 use lib.IntN.{ℤ, pos, sub_ℕ, ◌+ℤ◌, ◌-ℤ◌, +ℤ_idl, +ℤ_idr, +ℤ_assoc}
 use Rattle.numbers.specs.Sums.{sum_from, sum_over}
-use Rattle.numbers.proofs.Integers.{dn, eq_z, add_fact, minus_fact, sub_fact, add_swap, add_low}
+use Rattle.numbers.proofs.Integers.{eq_z, add_fact, minus_fact, sub_fact, add_swap}
 
 pub sum_none : (f : ℕ → ℤ) (a : ℕ) → sum_from f a 0 ≡ pos 0
 unfolding sum_from
@@ -112,10 +112,3 @@ module _ (f : ℕ → ℤ) (m k acc : ℕ) where
 -- naturals
 pub count_turn : (f : ℕ → ℤ) (k acc u : ℕ) → sum_from f 0 k ≡ pos acc → pos u ≡ f k → sum_from f 0 (k + 1) ≡ pos (acc + u)
 count_turn f k acc u h e = let z : k ≡ 0 + k = omega arith in sum_more f 0 k ∙ ap₂ ◌+ℤ◌ h (sym (e ∙ ap f z))
-
--- terms that are at most m below 0
-pub sum_low : (f : ℕ → ℤ) (m a n : ℕ) → ((d : ℕ) → a ≤ d → d < a + n → dn (f d) ≤ m) → dn (sum_from f a n) ≤ m * n
-unfolding sum_from
-sum_low f m a zero h = omega arith
-sum_low f m a (suc n) h =
-    omega (arith, add_low (f a) (sum_from f (suc a) n), h a (omega arith) (omega arith), sum_low f m (suc a) n (λ d i j. h d (omega arith) (omega arith)))

@@ -7,11 +7,15 @@ ghost use Rattle.imagelines.specs.ImageLines.{images_bytes};
 ghost use Rattle.player.specs.InnerReady.{line_bytes, out_bytes, Ready, Answered, Sized};
 
 use journal::{Command, Taken};
+use std::io::{Print, Read, Stdin, Stdout};
 
 // The buffers of a line and of the output.
 const LINE_BYTES: usize = 8192;
 
 const OUT_BYTES: usize = 32768;
+
+// What is read at once.
+const CHUNK_BYTES: usize = 65536;
 
 // Where a player stands: the numbers of the buffer that calls are lent, those of the answer table, the lines that have
 // ended, the bytes of the present line (one more than LINE_BYTES if it is longer), the bytes of output that wait, and
@@ -206,12 +210,12 @@ fn unknown(out: &mut [u8], s: Standing) -> Standing
 }
 
 // Writes what waits.
-fn flush(out: &[u8], s: Standing) -> Standing
+fn flush(output: Stdout, out: &[u8], s: Standing) -> Standing
     requires { s.at ≤ length out.now }
     ensures { (result.lent ≡ s.lent) × (result.room ≡ s.room) × (result.filled ≡ s.filled) × (result.at ≡ 0) }
 {
     let at = s.at;
-    let written = io::write_all(1, &out[0..at]);
+    let written = output.write_all(&out[0..at]).is_ok();
     let mut r = s;
     r.at = 0;
     r.more = written & s.more;
@@ -239,6 +243,7 @@ fn play_filled(
 
 // The line has ended.
 fn end_line(
+    output: Stdout,
     register: &mut [u8],
     images: &mut [u8],
     line: &[u8],
@@ -253,7 +258,7 @@ fn end_line(
     r.lines = std::num::wrapping_add_u64(s.lines, 1);
     r.filled = 0;
     if OUT_BYTES - printing::ROW_BYTES < r.at {
-        return flush(out, r);
+        return flush(output, out, r);
     }
     r
 }
@@ -275,6 +280,7 @@ fn keep(line: &mut [u8], s: Standing, b: u8) -> Standing
 }
 
 fn byte(
+    output: Stdout,
     register: &mut [u8],
     images: &mut [u8],
     line: &mut [u8],
@@ -287,12 +293,13 @@ fn byte(
     ensures { Ready result }
 {
     if b == b'\n' {
-        return end_line(register, images, line, nums, out, s);
+        return end_line(output, register, images, line, nums, out, s);
     }
     keep(line, s, b)
 }
 
 fn walk(
+    output: Stdout,
     register: &mut [u8],
     images: &mut [u8],
     line: &mut [u8],
@@ -307,7 +314,7 @@ fn walk(
     let mut r = s;
     let mut i = 0;
     while i < chunk.len() {
-        r = byte(register, images, line, nums, out, r, chunk[i]);
+        r = byte(output, register, images, line, nums, out, r, chunk[i]);
         i += 1;
     }
     r
@@ -315,6 +322,8 @@ fn walk(
 
 // Reads once, plays the lines that end, and writes their rows: who types a line sees its row.
 fn turn(
+    input: Stdin,
+    output: Stdout,
     register: &mut [u8],
     images: &mut [u8],
     line: &mut [u8],
@@ -325,21 +334,23 @@ fn turn(
     requires { Ready s × Sized register.old images.old line.old nums.old out.old }
     ensures { Ready result }
 {
-    let mut chunk = io::large_buffer();
-    let got = libc::read(0, &mut chunk);
-    if got <= 0 {
+    let mut input = input;
+    let mut chunk = [0u8; CHUNK_BYTES];
+    let n = input.read(&mut chunk).unwrap_or(0);
+    if n == 0 {
         let mut r = s;
         r.more = false;
         return r;
     }
-    let n = io::count(got, &chunk);
-    let r = walk(register, images, line, nums, out, s, &chunk[..n]);
-    flush(out, r)
+    let r = walk(output, register, images, line, nums, out, s, &chunk[..n]);
+    flush(output, out, r)
 }
 
 // A proved loop has to end, and nothing says that the input does. So the loop counts its turns down, from a number that
 // no run uses up.
 fn follow(
+    input: Stdin,
+    output: Stdout,
     register: &mut [u8],
     images: &mut [u8],
     line: &mut [u8],
@@ -353,7 +364,7 @@ fn follow(
     let mut r = s;
     let mut turns = u64::MAX;
     while turns > 0 {
-        r = turn(register, images, line, nums, out, r);
+        r = turn(input, output, register, images, line, nums, out, r);
         if !r.more {
             return r;
         }
@@ -373,7 +384,8 @@ fn mark(register: &mut [u8])
     }
 }
 
-pub fn run() {
+pub fn run(rt: HostRuntime) {
+    let output = rt.stdout();
     let mut register = [0u8; lines::BUFFER_BYTES];
     let mut images = [0u8; imagelines::IMAGES_BYTES];
     let mut line = [0u8; LINE_BYTES];
@@ -389,6 +401,8 @@ pub fn run() {
         more: true,
     };
     let s = follow(
+        rt.stdin(),
+        output,
         &mut register,
         &mut images,
         &mut line,
@@ -397,7 +411,15 @@ pub fn run() {
         start,
     );
     if 0 < s.filled {
-        let last = end_line(&mut register, &mut images, &line, &mut nums, &mut out, s);
-        flush(&out, last);
+        let last = end_line(
+            output,
+            &mut register,
+            &mut images,
+            &line,
+            &mut nums,
+            &mut out,
+            s,
+        );
+        flush(output, &out, last);
     }
 }

@@ -1,5 +1,5 @@
 -- Numbers, rows of numbers and buffers as text, lists of bytes.
-use Rattle.std.specs.Prelude.{cond, List, [], ◌∷◌, ◌++◌, ◌≡◌, ℕ, zero, suc, ◌+◌, ◌/◌, ◌%◌, ◌≤◌, ltb, ℤ, pos, negsuc, take}
+use Rattle.std.specs.Prelude.{cond, List, [], ◌∷◌, ◌++◌, ◌≡◌, ℕ, zero, suc, ◌/◌, ◌%◌, ◌≤◌, ltb, ℤ, pos, negsuc, take}
 use Rattle.io.specs.Digits.{hex_digit_ascii}
 
 -- The room that is kept for a row.

@@ -1,12 +1,10 @@
 -- The share of one day is an energy: it lies from -1,000,000 to 1,000,000. Assumes nothing.
 use mathlib.Core.Path.{◌≡◌, sym, ap, ◌∙◌}
-use mathlib.Core.Bool.{Bool, true, false, ◌&&◌, cond}
 use mathlib.Core.Option.{Option}
 use mathlib.Core.List.{List}
 use Prim.Native.Nat.{ℕ, suc, ◌+◌, ◌-◌, ◌≤◌, ◌<◌}
 use native.Mathlib.Omega.{arith}
-use lib.Dec.{leb, eqb}
-use lib.IntN.{ℤ, pos, sub_ℕ, ◌-ℤ◌}
+use lib.IntN.{ℤ, sub_ℕ, ◌-ℤ◌}
 use Rattle.numbers.specs.InnerEnergies.{bias_of, energy_of}
 use Rattle.numbers.specs.Shares.{partial_energy}
 use Rattle.numbers.specs.Sums.{sum_from}
@@ -14,8 +12,7 @@ use Rattle.numbers.proofs.Integers.{up, dn, sub_fact, sub_minus, raise, sub_near
 use Rattle.numbers.proofs.Naturals.{bias_is}
 use Rattle.numbers.proofs.Sums.{sum_one}
 use Rattle.numbers.proofs.Shares.{raised_part, raised_partial, raised_near}
-use Rattle.daybook.specs.Book.{Entry, Point, fill, filled, day_share}
-use Rattle.daybook.specs.Queries.{active, all_filled, daily_gas, metered_of}
+use Rattle.daybook.specs.Book.{Entry, fill, day_share}
 use Rattle.lists.specs.Lists.{entry_on, point_of}
 use Rattle.lists.specs.InnerWell.{Recs, norec, rec}
 use Rattle.lists.proofs.Apart.{Place, inside, under, over, place}
@@ -63,45 +60,18 @@ day_small (rec {x = x} {l = l} a b c e t g r) d = go (place x d) (day_small r d)
     go (under h i) ih = rw i ih
     go (over h i) ih = rw i ih
 
-share_small : {p : List ℤ} → SoundPart p → (d : ℕ) → Small (day_share (point_at p) d)
-unfolding point_at point_of day_share
-share_small {p} ok d = rw (share_day (entry_on (point_from p).recs d) d) (day_small (part_well ok).recs_ok d)
-
--- ---- the gas of a daily point
-
--- at most an energy below 0
-record Low (z : ℤ) : Type 0 where
-  low : dn z ≤ 1000000
-
-either : (b : Bool) {x y : ℤ} → Low x → Low y → Low (cond b x y)
-either true h k = h
-either false h k = k
-
-pub metered_low : {p : List ℤ} → SoundPart p → (g : ℕ) → dn (metered_of g (point_at p)) ≤ 1000000
-unfolding metered_of daily_gas
-metered_low {p} ok g =
-    (either (active g P && eqb P.facts.kind 1)
-    (either (filled P g) (day g) (either (leb 7 g && all_filled P (g - 7) 7) (day (g - 7)) (either (filled P (g - 1)) (day (g - 1)) none)))
-    none
-    ).low
-  where
-    P : Point
-    P = point_at p
-
-    day : (d : ℕ) → Low (day_share P d)
-    day d = record { low = (share_small ok d).1 }
-
-    none : Low (pos 0)
-    none = record { low = omega arith }
-
 -- ---- the code's energy of one day, raised by 2,000,000,000
 
 module _ {p : List ℤ} (ok : SoundPart p) (d r : ℕ) where
+  share_small : Small (day_share (point_at p) d)
+  unfolding point_at point_of day_share
+  share_small = rw (share_day (entry_on (point_from p).recs d) d) (day_small (part_well ok).recs_ok d)
+
   pub one_share : sub_ℕ r 2000000000 ≡ sum_from (day_share (point_at p)) d (d + 1 - d)
       → (1999000000 ≤ r) × ((sub_ℕ (r - 1999000000) 1000000 ≡ day_share (point_at p) d) × (r - 1999000000 ≤ 2000000))
   one_share e =
       let q : sub_ℕ r 2000000000 ≡ day_share (point_at p) d = e ∙ sum_one (day_share (point_at p)) d in
-      let low : 1999000000 ≤ r = omega (arith, share_small ok d, sub_fact r 2000000000, ap up q, ap dn q) in
-      let high : r ≤ 2001000000 = omega (arith, share_small ok d, sub_fact r 2000000000, ap up q, ap dn q) in
+      let low : 1999000000 ≤ r = omega (arith, share_small, sub_fact r 2000000000, ap up q, ap dn q) in
+      let high : r ≤ 2001000000 = omega (arith, share_small, sub_fact r 2000000000, ap up q, ap dn q) in
       let m : r - 1999000000 ≡ r + 1000000 - 2000000000 = omega arith in
       (low, (rw m (raise r 2000000000 1000000 (omega arith) ∙ q), omega arith))

@@ -1,5 +1,5 @@
 #![tactic(auto)]
 
-fn main() {
-    player::run();
+fn main(rt: HostRuntime) {
+    player::run(rt);
 }

@@ -5,7 +5,7 @@ use mathlib.Core.List.{List, [], ◌∷◌, flatten}
 use Prim.Native.Nat.{ℕ, ◌*◌, ◌≤◌, ◌<◌}
 use native.Mathlib.Omega.{arith}
 use lib.Dec.{leb}
-use lib.IntN.{ℤ, pos}
+use lib.IntN.{ℤ, pos, negsuc}
 use lib.ListN.{length, replicate}
 use borrow.Author.Tests.{leb-true, le-leb, lt-leb}
 use Rattle.numbers.specs.Naturals.{nat_of}
@@ -18,7 +18,6 @@ use Rattle.daybook.specs.Notices.{least, Numbers, decide}
 use Rattle.daybook.specs.Queries.{sum_of}
 use Rattle.daybook.specs.Editions.{Editions}
 use Rattle.daybook.specs.Trials.{notices_in, answers_to, books_on_the_way, most_in, removed_in, batch_fits, trial_rows, trial}
-use Rattle.lists.proofs.Bounds.{within_natural}
 use Rattle.lists.proofs.Rows.{above, least_first, least_skip, decide_taken, decide_refused}
 use Rattle.layout.specs.Layout.{edition_in, table_book}
 use Rattle.layout.specs.Sound.{sound}
@@ -29,21 +28,23 @@ use Rattle.trial.specs.Trial.{trial_call}
 
 -- ---- what fits
 
-module _ (count : ℤ) (given room : ℕ) where
-  count_within : within (pos 0) (pos 100) count ≡ leb (nat_of count) 100
-  count_within = within_natural 100 (omega arith) count
+-- a negative count is read as a number far above 100
+count_within : (z : ℤ) → within (pos 0) (pos 100) z ≡ leb (nat_of z) 100
+count_within (pos n) = ap (λ b. b && leb n 100) (le-leb 0 n (omega arith))
+count_within (negsuc n) = refl
 
+module _ (count : ℤ) (given room : ℕ) where
   pub too_many_lem : 100 < nat_of count → batch_fits count given room ≡ false
-  too_many_lem h = rw (count_within, lt-leb (nat_of count) 100 h) refl
+  too_many_lem h = rw (count_within count, lt-leb (nat_of count) 100 h) refl
 
   pub fits_is : nat_of count ≤ 100 → (leb (6 * nat_of count) given && leb (5 * nat_of count) room) ≡ batch_fits count given room
-  fits_is h = rw (count_within, le-leb (nat_of count) 100 h) refl
+  fits_is h = rw (count_within count, le-leb (nat_of count) 100 h) refl
 
   pub fits_few : batch_fits count given room ≡ true → (nat_of count ≤ 100) × (6 * nat_of count ≤ given) × (5 * nat_of count ≤ room)
   fits_few e =
       let (l, h) = both (within (pos 0) (pos 100) count && leb (6 * nat_of count) given) (leb (5 * nat_of count) room) e in
       let (c, g) = both (within (pos 0) (pos 100) count) (leb (6 * nat_of count) given) l in
-      (leb-true _ _ (sym count_within ∙ c), leb-true _ _ g, leb-true _ _ h)
+      (leb-true _ _ (sym (count_within count) ∙ c), leb-true _ _ g, leb-true _ _ h)
 
 -- ---- the rows
 

@@ -6,7 +6,6 @@ use lib.IntN.{pos}
 use mir.Syntax.{w64}
 use mir.ValLaws.{to_z-of_z}
 use borrow.Author.Rules.{sfits_of, rules}
-use borrow.Author.Tests.{not-true, not-false}
 use Rattle.numbers.specs.Naturals.{nat_of}
 use Rattle.numbers.proofs.Naturals.{natural_read}
 use Rattle.daybook.specs.declared.AccountQuery.{AccountQuery}

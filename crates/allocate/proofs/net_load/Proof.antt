@@ -40,10 +40,10 @@ load_is c =
     (c.raised_load-2.ensures.0 ∙ to_z-of_z w64 s.args.q.clp (sfits_of fits.1.1.1.1.1.0.1))
 
 returns : tie.Need-returns-then-gained-taken
-returns c = omega (arith, c.if-gained-taken.true) ∙ load_is c.before
+returns c = (omega (arith, c.if-gained-taken.true) ∙ load_is c.before, omega arith)
 
 returns_2 : tie.Need-returns
-returns_2 c = load_is c.before
+returns_2 c = (load_is c.before, omega (arith, (tdq_is c.before.before.before).1))
 
 pub net_load_spec : {M : Type 1} → statement M
 net_load_spec =

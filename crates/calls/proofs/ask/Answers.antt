@@ -12,7 +12,6 @@ pub returns-in-Allocate : goal.returns-in-Allocate
 returns-in-Allocate c =
     let told = c.before in
     let a = told.args.a in
-    let fits = c.struct_told-in-Allocate-6-1.given in
     rw (told.in-Allocate.is, back c.petlumas_allocate.result (search rules)) (rw (back a.n0 (search rules), back a.n1 (search rules), back a.n2 (search rules), back a.n3 (search rules), back a.n4 (search rules), back a.n5 (search rules)) at c.petlumas_allocate.ensures)
 
 pub returns-in-Date : goal.returns-in-Date
@@ -20,10 +19,3 @@ returns-in-Date c =
     let told = c.before in
     let a = told.args.a in
     rw (told.in-Date.is, back c.petlumas_date.result (search rules)) (table_kept _ _ _ _ _ (rw (back a.n0 (search rules), back a.n1 (search rules), back a.n2 (search rules)) at c.petlumas_date.ensures))
-
-pub returns-in-Check : goal.returns-in-Check
-returns-in-Check c =
-    let told = c.before in
-    let a = told.args.a in
-    let fits = c.struct_told-in-Check-6-1.given in
-    rw (told.in-Check.is, back c.petlumas_check.result (search rules)) (table_kept _ _ _ _ _ (rw (back a.n0 (search rules), back a.n1 (search rules), back a.n2 (search rules), back a.n3 (search rules), back a.n4 (search rules), back a.n5 (search rules)) at c.petlumas_check.ensures))

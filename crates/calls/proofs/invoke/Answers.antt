@@ -7,11 +7,11 @@ returns-in-Notice c =
     let told = c.before in
     let given = told.first_seven-a in
     let a = told.args in
-    rw (back c.notify.result (search rules)) (notice_left a.nums.now _ a.list.now a.register-1.now a.answer-1.now a.table-1.now given.ensures told.in-Notice.is c.notify.ensures)
+    rw (back c.notify.result (search rules)) (notice_left a.nums.now _ a.list.now a.register.now a.answer.now a.table.now given.ensures told.in-Notice.is c.notify.ensures)
 
 pub returns-in-Query : goal.returns-in-Query
 returns-in-Query c =
     let told = c.before in
     let given = told.first_seven-a in
     let a = told.args in
-    rw (back c.ask.result (search rules)) (query_left a.nums.now _ a.list.now a.register-1.now a.answer-1.now a.table-1.now given.ensures told.in-Query.is c.ask.ensures)
+    rw (back c.ask.result (search rules)) (query_left a.nums.now _ a.list.now a.register.now a.answer.now a.table.now given.ensures told.in-Query.is c.ask.ensures)

@@ -12,14 +12,12 @@ pub returns-in-Open : goal.returns-in-Open
 returns-in-Open c =
     let told = c.before in
     let a = told.args.a in
-    let fits = c.struct_told-in-Open-7-1.given in
     rw (told.in-Open.is, back c.petlumas_open.result (search rules)) (rw (back a.n0 (search rules), back a.n1 (search rules), back a.n2 (search rules), back a.n3 (search rules), back a.n4 (search rules), back a.n5 (search rules), back a.n6 (search rules)) at c.petlumas_open.ensures)
 
 pub returns-in-Energy : goal.returns-in-Energy
 returns-in-Energy c =
     let told = c.before in
     let a = told.args.a in
-    let fits = c.struct_told-in-Energy-6-1.given in
     rw (told.in-Energy.is, back c.petlumas_energy.result (search rules)) (rw (back a.n0 (search rules), back a.n1 (search rules), back a.n2 (search rules), back a.n3 (search rules), back a.n4 (search rules), back a.n5 (search rules)) at c.petlumas_energy.ensures)
 
 pub returns-in-Status : goal.returns-in-Status

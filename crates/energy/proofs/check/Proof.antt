@@ -1,7 +1,7 @@
 use Rattle.energy.proofs.Refusals.{row6, row7, row8, row9, sent_6, sent_7, sent_8, sent_9, sent_16, sent_not, row6_is, row7_is, row8_is, row9_is, row16_is}
 use native.Mathlib.Omega.{arith}
-use mathlib.Core.Bool.{false}
-use mathlib.Core.Path.{◌≡◌, sym, ◌∙◌}
+use mathlib.Core.Bool.{false, not}
+use mathlib.Core.Path.{◌≡◌, sym, ◌∙◌, ap}
 use borrow.Author.Rules.{rules}
 use Rattle.energy.proofs.check.Statement.{statement}
 use Rattle.energy.proofs.check.Tie as tie
@@ -22,7 +22,7 @@ else3 c = c.before.before.before
 past_6 : (c : tie.Else-not-fits_kind) → let s = start c in row6 s.args.x s.args.p.now ≡ false
 past_6 c =
     let s = start c in
-    sym (row6_is s.requires.0 s.args.x _ c.before.before.kind-kind.ensures.0 c.before.fits_kind.ensures) ∙ c.if-not-fits_kind.false
+    sym (row6_is s.requires.0 s.args.x _ c.before.before.kind-kind.ensures.0 c.before.fits_kind.ensures) ∙ ap not c.if-not-fits_kind.false
 
 past_7 : (c : tie.Else-append-append_day) → let s = start (else1 c) in row7 s.args.x s.args.p.now ≡ false
 past_7 c =
@@ -33,7 +33,7 @@ past_8 : (c : tie.Else-not-no_off) → let s = start (else1 (else2 c)) in row8 s
 past_8 c =
     let e = else1 (else2 c) in
     let s = start e in
-    sym (row8_is s.requires.0 s.args.x _ (past_6 e) (omega arith) c.before.before.spans-spans.ensures.0 c.before.no_off.ensures) ∙ c.if-not-no_off.false
+    sym (row8_is s.requires.0 s.args.x _ (past_6 e) (omega arith) c.before.before.spans-spans.ensures.0 c.before.no_off.ensures) ∙ ap not c.if-not-no_off.false
 
 past_9 : (c : tie.Else-unusual-x)
     → let s = start (else1 (else2 (else3 c))) in
@@ -47,7 +47,7 @@ returns : tie.Need-returns-then-not-fits_kind
 returns c =
     let s = c.before.before.before in
     sent_6 s.args.x s.args.nondaily s.args.daily s.args.p.now
-    (sym (row6_is s.requires.0 s.args.x _ c.before.before.kind-kind.ensures.0 c.before.fits_kind.ensures) ∙ c.if-not-fits_kind.true)
+    (sym (row6_is s.requires.0 s.args.x _ c.before.before.kind-kind.ensures.0 c.before.fits_kind.ensures) ∙ ap not c.if-not-fits_kind.true)
 
 returns_2 : tie.Need-returns-then-append-append_day
 returns_2 c =
@@ -62,7 +62,7 @@ returns_3 c =
     let e = else1 f in
     let s = start e in
     sent_8 s.args.x s.args.nondaily s.args.daily s.args.p.now (past_6 e) (past_7 f)
-    (sym (row8_is s.requires.0 s.args.x _ (past_6 e) (omega arith) c.before.before.spans-spans.ensures.0 c.before.no_off.ensures) ∙ c.if-not-no_off.true)
+    (sym (row8_is s.requires.0 s.args.x _ (past_6 e) (omega arith) c.before.before.spans-spans.ensures.0 c.before.no_off.ensures) ∙ ap not c.if-not-no_off.true)
 
 returns_4 : tie.Need-returns-then-unusual-x
 returns_4 c =

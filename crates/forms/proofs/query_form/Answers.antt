@@ -8,6 +8,3 @@ returns-in-Allocate c = rw c.in-Allocate.is c.shape-in-Allocate.ensures
 
 pub returns-in-Date : goal.returns-in-Date
 returns-in-Date c = rw c.in-Date.is c.shape-in-Date.ensures
-
-pub returns-in-Check : goal.returns-in-Check
-returns-in-Check c = rw c.in-Check.is c.shape-in-Check.ensures

@@ -1,6 +1,5 @@
 -- The measure is what is left of the word; what is read so far has the rest written behind it.
 use mathlib.Core.Path.{sym, ◌∙◌}
-use Prim.Native.Nat.{◌-◌}
 use native.Mathlib.Omega.{arith}
 use borrow.Author.Rules.{rules}
 use Rattle.journal.proofs.Text.{digit_bounds, digits_start, digits_more, digits_other, digits_large, digits_end, digits_missing}

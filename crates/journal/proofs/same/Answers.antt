@@ -1,5 +1,4 @@
 use mathlib.Core.Path.{sym, ◌∙◌}
-use Prim.Native.Nat.{◌-◌}
 use Rattle.journal.proofs.Names.{lengths_differ, bytes_more, bytes_differ, bytes_end}
 use borrow.Author.Rules.{rules}
 use Rattle.journal.proofs.same.Goals as goal

@@ -10,10 +10,10 @@ slice_bounds-r-end c = sym (length-take-le _ _ c.requires)
 
 pub encode-requires : goal.encode-requires
 encode-requires c =
-    (omega (arith, length-take-le _ c.args.b-1.now c.requires), search rules)
+    (omega (arith, length-take-le _ c.args.b.now c.requires), search rules)
 
 pub returns : goal.returns
 unfolding with_numbers
 returns c =
     let e = c.encode in
-    (e.ensures, omega (arith, e.auto, length-take-le _ c.args.b-1.now c.requires))
+    (e.ensures, omega (arith, e.auto, length-take-le _ c.args.b.now c.requires))

@@ -1,15 +1,12 @@
 use Prim.Native.Nat.{◌*◌, ◌-◌, ◌≤◌}
 use mathlib.Core.Path.{◌≡◌}
 use lib.ListN.{length, replicate}
-use mir.Syntax.{w64}
-use mir.Val.{to_z}
 use Rattle.words.specs.Tables.{encoded_into}
 use Rattle.lending.proofs.filled.Given as goal
 
--- x is a number's bits here
 abbrev pub invariant-loop-k : goal.invariant-loop-k
 invariant-loop-k l =
-    (l.k ≤ l.n) × (length l.r ≡ 8 * l.n) × (l.r ≡ encoded_into l.initial.r 0 (replicate l.n (to_z w64 l.x)) 0 l.k)
+    (l.k ≤ l.n) × (length l.r ≡ 8 * l.n) × (l.r ≡ encoded_into l.initial.r 0 (replicate l.n l.x) 0 l.k)
 
 abbrev pub decreases-loop-k : goal.decreases-loop-k
 decreases-loop-k l = l.n - l.k

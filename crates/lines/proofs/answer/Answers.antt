@@ -7,13 +7,13 @@ pub returns-in-Call : goal.returns-in-Call
 returns-in-Call c =
     let told = c.before in
     let a = told.args in
-    rw (told.in-Call.is, sub-zero (8 * a.lent)) (on_lent_lem a.register-1.now _ (8 * a.lent) _ (rw (sub-zero (8 * a.lent)) at c.call.ensures))
+    rw (told.in-Call.is, sub-zero (8 * a.lent)) (on_lent_lem a.register.now _ (8 * a.lent) _ (rw (sub-zero (8 * a.lent)) at c.call.ensures))
 
 pub returns-in-Look : goal.returns-in-Look
 returns-in-Look c =
     let told = c.before in
     let a = told.args in
-    rw told.in-Look.is (on_lent_kept a.register-1.now (8 * a.lent) _ (rw (sub-zero (8 * a.lent)) at c.look.ensures))
+    rw told.in-Look.is (on_lent_kept a.register.now (8 * a.lent) _ (rw (sub-zero (8 * a.lent)) at c.look.ensures))
 
 pub returns-in-Table : goal.returns-in-Table
 returns-in-Table c =
@@ -30,4 +30,5 @@ returns-in-Convert c =
 pub returns-in_default : goal.returns-in_default
 returns-in_default c =
     let a = c.args in
-    nothing _ _ _ (no_line a.command-1 a.register-1.now a.lent a.room a.nums.now c.in-Call.keys6)
+    let d = c.in_default in
+    nothing _ _ _ (no_line a.command a.register.now a.lent a.room a.nums.now d.not-Call d.not-Look d.not-Table d.not-Poke d.not-Convert)

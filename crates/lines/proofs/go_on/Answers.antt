@@ -15,4 +15,4 @@ returns c =
     let read = c.before in
     let else1 = read.before in
     let s = else1.before in
-    rw (same_zero s.args.res (search rules) else1.if-res-ne0.false) (c.encode.ensures ∙ ap (λ (xs : List ℤ). with_numbers xs s.args.register-1.now) read.table_in-numbers.ensures.0)
+    rw (same_zero s.args.res (search rules) else1.if-res-ne0.false) (c.encode.ensures ∙ ap (λ (xs : List ℤ). with_numbers xs s.args.register.now) read.table_in-numbers.ensures.0)

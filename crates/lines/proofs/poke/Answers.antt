@@ -21,4 +21,4 @@ returns c =
     let else1 = place.before in
     let a = else1.args in
     let p = c.row in
-    poked a.register-1.now a.nums.now place.get-place.result place.get-place.ensures.0 else1.if-nums-ne2.false else2.if-place.false (rw (to_z-of_z {w = w64} {z = num a.nums.now 1} (search rules)) at put.put_word.ensures) (omega (arith, p.ensures.0)) p.ensures.1
+    poked a.register.now a.nums.now place.get-place.result place.get-place.ensures.0 else1.if-nums-ne2.false else2.if-place.false (rw (to_z-of_z {w = w64} {z = num a.nums.now 1} (search rules)) at put.put_word.ensures) (omega (arith, p.ensures.0)) p.ensures.1

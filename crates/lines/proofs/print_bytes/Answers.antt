@@ -19,7 +19,7 @@ returns-then-f c =
     let q = c.put_bytes-next in
     let u = c.put_bytes in
     let ends = hex_of a.table.now ++ (10 ∷ []) in
-    (omega (arith, p.ensures.0, q.ensures.0, u.ensures.0, s.requires.0, s.requires.1), rw then1.if-f.true (joined (text_of a.result) (hex_of a.answer.now ++ (32 ∷ ends)) 32 (rw (to_z-of_z {w = w64} {z = a.result} (search rules)) at p.ensures.1) (joined (hex_of a.answer.now) ends 32 q.ensures.1 u.ensures.1)))
+    (omega (arith, p.ensures.0, q.ensures.0, u.ensures.0, s.requires.0, s.requires.1), rw then1.if-f.true (joined (text_of a.res) (hex_of a.answer.now ++ (32 ∷ ends)) 32 (rw (to_z-of_z {w = w64} {z = a.res} (search rules)) at p.ensures.1) (joined (hex_of a.answer.now) ends 32 q.ensures.1 u.ensures.1)))
 
 pub returns : goal.returns
 unfolding shown
@@ -29,4 +29,4 @@ returns c =
     let a = s.args in
     let p = after.put_signed-end in
     let q = c.put_bytes-2 in
-    (omega (arith, p.ensures.0, q.ensures.0, s.requires.0), rw c.if-f.false (joined (text_of a.result) (hex_of a.answer.now ++ (10 ∷ [])) 32 (rw (to_z-of_z {w = w64} {z = a.result} (search rules)) at p.ensures.1) q.ensures.1))
+    (omega (arith, p.ensures.0, q.ensures.0, s.requires.0), rw c.if-f.false (joined (text_of a.res) (hex_of a.answer.now ++ (10 ∷ [])) 32 (rw (to_z-of_z {w = w64} {z = a.res} (search rules)) at p.ensures.1) q.ensures.1))

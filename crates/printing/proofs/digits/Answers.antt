@@ -1,15 +1,11 @@
 use mathlib.Core.Path.{sym, ◌∙◌}
 use mathlib.Core.List.{◌++◌}
-use Prim.Native.Nat.{◌+◌, ◌-◌}
 use native.Mathlib.Omega.{arith}
 use lib.ListN.{take, length-set}
 use Rattle.printing.specs.Rows.{hex_digits}
 use Rattle.printing.proofs.Rows.{digits_more, digits_end}
 use borrow.Author.Rules.{rules}
 use Rattle.printing.proofs.digits.Goals as goal
-
-pub digit-requires : goal.digit-requires
-digit-requires c = omega (arith, c.shared_slice_known-in-loop-i-1.given c.loop-i.i)
 
 pub loop-i-preserved : goal.loop-i-preserved
 loop-i-preserved c =

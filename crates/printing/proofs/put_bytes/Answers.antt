@@ -10,13 +10,13 @@ use Rattle.printing.proofs.put_bytes.Goals as goal
 pub returns-then-bytes-eq0 : goal.returns-then-bytes-eq0
 returns-then-bytes-eq0 c =
     let a = c.args in
-    (search rules, record { from = omega arith; written = rw (none_is a.bytes.now c.if-bytes-eq0.true) (two_more a.out-1.now (take a.at a.out-1.now) a.at 45 a.after (omega arith) refl) })
+    (search rules, record { from = omega arith; written = rw (none_is a.bytes.now c.if-bytes-eq0.true) (two_more a.out.now (take a.at a.out.now) a.at 45 a.after (omega arith) refl) })
 
 pub returns : goal.returns
 returns c =
     let a = c.args in
     let d = c.digits-end in
-    (search rules, record { from = omega arith; written = rw (some_are a.bytes.now c.if-bytes-eq0.false) (one_more d.new.0 (take a.at a.out-1.now ++ hex_digits a.bytes.now) d.result a.after (omega arith) d.ensures.1 ∙ append_assoc (take a.at a.out-1.now) (hex_digits a.bytes.now) (a.after ∷ [])) })
+    (search rules, record { from = omega arith; written = rw (some_are a.bytes.now c.if-bytes-eq0.false) (one_more d.new.out (take a.at a.out.now ++ hex_digits a.bytes.now) d.result a.after (omega arith) d.ensures.1 ∙ append_assoc (take a.at a.out.now) (hex_digits a.bytes.now) (a.after ∷ [])) })
 
 pub bounds-out-at-then-bytes-eq0 : goal.bounds-out-at-then-bytes-eq0
 bounds-out-at-then-bytes-eq0 c = simp length-set (omega arith)

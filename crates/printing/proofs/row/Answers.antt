@@ -1,6 +1,5 @@
 use mathlib.Core.Path.{sym, ◌∙◌}
 use mathlib.Core.List.{map}
-use Prim.Native.Nat.{◌-◌}
 use native.Mathlib.Omega.{arith}
 use lib.IntN.{pos}
 use lib.ListN.{take, length-map}
@@ -14,9 +13,9 @@ loop-i-preserved c =
     let s = after-separator.before in
     let l = after-separator.loop-i in
     let p = c.put-end in
-    (search rules, omega (arith, p.ensures.1.from), search rules, search rules, natural_more s.args.xs.now l.i (take l.end l.out-1) _ after-separator.separator-after.result (omega arith) after-separator.separator-after.ensures p.ensures.1.written ∙ l.invariant.4)
+    (search rules, omega (arith, p.ensures.1.from), search rules, search rules, natural_more s.args.xs.now l.i (take l.end l.out) _ after-separator.separator-after.result (omega arith) after-separator.separator-after.ensures p.ensures.1.written ∙ l.invariant.4)
 
 pub returns : goal.returns
 returns c =
     let l = c.loop-i in
-    (search rules, record { from = search rules; written = sym (row_end (map pos c.args.xs.now) l.i (take l.end l.out-1) (rw length-map c.loop-i-test.false)) ∙ l.invariant.4 })
+    (search rules, record { from = search rules; written = sym (row_end (map pos c.args.xs.now) l.i (take l.end l.out) (rw length-map c.loop-i-test.false)) ∙ l.invariant.4 })

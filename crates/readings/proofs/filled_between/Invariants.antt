@@ -8,7 +8,7 @@ use Rattle.readings.proofs.filled_between.Given as goal
 
 abbrev pub invariant-loop-k : goal.invariant-loop-k
 invariant-loop-k l =
-    (l.k ≤ l.n) × (l.sum ≤ 40000 * l.k) × (sum_from (λ l.k. part_between day_count l.x l.y (rec_row l.p l.k)) 0 l.k ≡ pos l.sum)
+    (l.k ≤ l.n) × (l.sum ≤ 40000 * l.k) × (sum_from (λ k. part_between day_count l.x l.y (rec_row l.p k)) 0 l.k ≡ pos l.sum)
 
 abbrev pub decreases-loop-k : goal.decreases-loop-k
 decreases-loop-k l = l.n - l.k

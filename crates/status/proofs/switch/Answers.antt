@@ -11,14 +11,14 @@ pub open_span-requires : goal.open_span-requires
 open_span-requires c =
     let l = lays c.requires.0 in
     let e = place_offs l.0 l.1 in
-    let h = room_to_open _ _ (point_from c.args.p-1.now) c.requires.3 c.if-on-eq0.true in
+    let h = room_to_open _ _ (point_from c.args.p.now) c.requires.3 c.if-on-eq0.true in
     search rules
 
 pub overflow_sub-n : goal.overflow_sub-n
 overflow_sub-n c =
     let l = lays c.requires.0 in
     let e = place_offs l.0 l.1 in
-    let h = span_to_close _ _ (point_from c.args.p-1.now) c.requires.3 (omega arith) in
+    let h = span_to_close _ _ (point_from c.args.p.now) c.requires.3 (omega arith) in
     search rules
 
 pub returns-then-on-eq0 : goal.returns-then-on-eq0
@@ -27,7 +27,7 @@ returns-then-on-eq0 c =
     let l = lays s.requires.0 in
     let g = c.spans-n.ensures.0 in
     let e = place_offs l.0 l.1 in
-    let h = room_to_open _ _ (point_from s.args.p-1.now) s.requires.3 c.if-on-eq0.true in
+    let h = room_to_open _ _ (point_from s.args.p.now) s.requires.3 c.if-on-eq0.true in
     c.open_span.ensures ∙ open_is l.0 l.1 s.args.day _ s.args.on g (omega arith) c.if-on-eq0.true
 
 pub returns-else-on-eq0 : goal.returns-else-on-eq0
@@ -36,5 +36,5 @@ returns-else-on-eq0 c =
     let l = lays s.requires.0 in
     let g = c.spans-n.ensures.0 in
     let e = place_offs l.0 l.1 in
-    let h = span_to_close _ _ (point_from s.args.p-1.now) s.requires.3 (omega arith) in
+    let h = span_to_close _ _ (point_from s.args.p.now) s.requires.3 (omega arith) in
     c.close_span.ensures ∙ close_is l.0 l.1 s.args.day _ s.args.on g (omega arith) (omega arith)

@@ -1,7 +1,6 @@
 use mathlib.Core.Bool.{◌&&◌}
 use mathlib.Core.Path.{◌≡◌, sym, ◌∙◌}
 use borrow.Author.Rules.{sfits_of, rules}
-use borrow.Author.Tests.{not-true, not-false}
 use Rattle.numbers.proofs.Naturals.{test_read}
 use Rattle.calendar.specs.Calendar.{is_day}
 use Rattle.daybook.specs.Notices.{is_mirn, is_user, is_flag}

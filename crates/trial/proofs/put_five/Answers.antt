@@ -15,4 +15,4 @@ returns c =
     c.put-5.ensures ∙ ap (λ l. set l 4 (pos n.e))
     (p4.put-4.ensures ∙ ap (λ l. set l 3 (pos n.d))
     (p3.put-3.ensures ∙ ap (λ l. set l 2 (pos n.c)) (p2.put-2.ensures ∙ ap (λ l. set l 1 (pos n.b)) p1.put.ensures)))
-    ∙ five_written n.answer-1.now s.requires.0 (pos n.a) (pos n.b) (pos n.c) (pos n.d) (pos n.e)
+    ∙ five_written n.answer.now s.requires.0 (pos n.a) (pos n.b) (pos n.c) (pos n.d) (pos n.e)
