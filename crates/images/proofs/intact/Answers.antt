@@ -1,4 +1,4 @@
-use Rattle.std.proofs.Common.{◌-◌, true, sym, ◌∙◌, rules}
+use Rattle.std.proofs.Common.{sym, ◌∙◌, rules}
 use Rattle.numbers.proofs.Rows.{all_none, all_more, all_fails, all_done}
 use Rattle.images.specs.Blocks.{block_count, intact}
 use Rattle.images.proofs.intact.Goals as goal

@@ -1,4 +1,4 @@
-use Rattle.std.proofs.Common.{◌-◌, true, eqb, sym, ap, ◌∙◌, rules, eq-eqb, ne_eqb}
+use Rattle.std.proofs.Common.{eqb, sym, ap, ◌∙◌, rules, eq-eqb, ne_eqb}
 use Rattle.numbers.proofs.Rows.{all_none, all_more, all_fails, all_done}
 use Rattle.images.specs.Blocks.{block_count, of_state}
 use Rattle.images.proofs.of_state.Goals as goal

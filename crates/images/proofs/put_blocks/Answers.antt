@@ -1,4 +1,4 @@
-use Rattle.std.proofs.Common.{◌≡◌, ◌-◌, length, refl, ap, ◌∙◌, arith, rules}
+use Rattle.std.proofs.Common.{◌≡◌, length, refl, ap, ◌∙◌, arith, rules}
 use Rattle.images.specs.Blocks.{block_count, with_blocks, with_image}
 use Rattle.images.proofs.Blocks.{length_block, blocks_more}
 use Rattle.images.proofs.put_blocks.Goals as goal

@@ -1,4 +1,4 @@
-use Rattle.std.proofs.Common.{◌≡◌, ◌-◌, length, refl, ap, ◌∙◌, arith, rules}
+use Rattle.std.proofs.Common.{◌≡◌, length, refl, ap, ◌∙◌, arith, rules}
 use Rattle.words.proofs.Tables.{length_decoded}
 use Rattle.images.specs.Blocks.{block_count, blocks_into}
 use Rattle.images.proofs.Saved.{blocks_taken, blocks_whole}
@@ -18,4 +18,4 @@ returns c =
     let l = c.loop-k in
     let e : l.k ≡ block_count = omega arith in
     let a = c.args in
-    l.invariant.2 ∙ ap (blocks_into a.t-1.now a.image.now) e ∙ blocks_whole a.t-1.now a.image.now c.requires.1
+    l.invariant.2 ∙ ap (blocks_into a.t.now a.image.now) e ∙ blocks_whole a.t.now a.image.now c.requires.1
