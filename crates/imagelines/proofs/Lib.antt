@@ -1,3 +1,2 @@
 -- Laws of the lines on images.
-pub mod Tests
 pub mod Outcomes

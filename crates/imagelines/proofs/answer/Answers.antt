@@ -8,13 +8,13 @@ pub returns-in-Save : goal.returns-in-Save
 returns-in-Save c =
     let told = c.before in
     let a = told.args in
-    rw told.in-Save.is (on_images_lem a.register-1.now _ (rw (sub-zero (8 * a.lent)) at c.save.ensures))
+    rw told.in-Save.is (on_images_lem a.register.now _ (rw (sub-zero (8 * a.lent)) at c.save.ensures))
 
 pub returns-in-Restore : goal.returns-in-Restore
 returns-in-Restore c =
     let told = c.before in
     let a = told.args in
-    rw (told.in-Restore.is, sub-zero (8 * a.lent)) (on_register_lem a.images-1.now _ (on_lent_lem a.register-1.now _ (8 * a.lent) _ (rw (sub-zero (8 * a.lent)) at c.restore.ensures)))
+    rw (told.in-Restore.is, sub-zero (8 * a.lent)) (on_register_lem a.images.now _ (on_lent_lem a.register.now _ (8 * a.lent) _ (rw (sub-zero (8 * a.lent)) at c.restore.ensures)))
 
 pub returns-in-Poke : goal.returns-in-Poke
 returns-in-Poke c =
