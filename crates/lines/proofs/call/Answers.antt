@@ -19,4 +19,4 @@ returns c =
     let shares = c.table_room-shares in
     let row = c.print_row.ensures in
     let fits = own_fits a.call a.nums.now f.result c.counted.result f.ensures.is c.counted.ensures own.result own.ensures.0 counted in
-    call_made a.call a.nums.now f.result c.counted.result f.ensures.is c.counted.ensures a.register.now _ _ _ own.result a.room shares.result _ counted own.ensures.0 fits c.requires.1 c.bytes_of-listed.ensures.0 shares.ensures.0 (omega (arith, shares.ensures.1, c.requires.0)) c.filled-given.ensures.0 refl (omega (arith, f.ensures.short)) refl (acted_is c.invoke.ensures row.0 row.1)
+    call_made a.call a.nums.now f.result c.counted.result f.ensures.is c.counted.ensures a.register.now _ _ _ own.result a.room shares.result _ counted own.ensures.0 fits c.requires.1 c.bytes_of-days.ensures.0 shares.ensures.0 (omega (arith, shares.ensures.1, c.requires.0)) c.filled-given.ensures.0 refl (omega (arith, f.ensures.short)) refl (acted_is c.invoke.ensures row.0 row.1)
