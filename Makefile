@@ -4,16 +4,16 @@ DESTDIR ?=
 VERSION := 0.1.0
 LIB := target/lib/libpetlumas.a
 PC := target/lib/petlumas.pc
-SOURCES := crates.txt $(shell find crates -name '*.rt' -o -name '*.antt')
+SOURCES := crates.txt $(shell find crates -path '*/out' -prune -o -name '*.rt' -print -o -name '*.antt' -print)
 
 .PHONY: lib install test-c test-c-plain test-c-example test-c-sanitized test-c-valgrind bench
 
 lib: $(LIB)
 
 $(LIB): $(SOURCES)
-	rt staticlib hub
+	cd crates/hub_c && rt lib
 	mkdir -p $(@D)
-	cp target/staticlib/libhub.a $@
+	cp crates/hub_c/out/libhub_c.a $@
 
 install: lib
 	printf '%s\n' 'prefix=$(PREFIX)' 'includedir=$${prefix}/include' 'libdir=$${prefix}/lib' '' \
