@@ -1,2 +1,3 @@
 -- Laws of the lines on images.
+pub mod Tests
 pub mod Outcomes
