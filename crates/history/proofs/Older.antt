@@ -215,10 +215,10 @@ find_each test m p (x ∷ ps) e h = go (eqb m x.facts.mirn) e (both (test x) (ea
 step_same : (n : EnergyNotice) (B : Book) (o : Option Point) (row : ℕ) → ((p : Point) → o ≡ some p → p.facts.section ≡ 0)
     → step_by n B (enter (entry_of n)) o row ≡ step_by n B (enter_by no_section (entry_of n)) o row
 unfolding enter enter_by
-step_same n B none row h = refl
-step_same n B (some p) row h =
+step_same n B none r h = refl
+step_same n B (some p) r h =
     let x : Entry = entry_of n in
-    ap (λ c. step_by n B (λ p. entered x (which p x) (outcome_of (which p x) c x (latest p).0 p.pending) p) (some p) row) (h p refl)
+    ap (λ c. step_by n B (λ p. entered x (which p x) (outcome_of (which p x) c x (latest p).0 p.pending) p) (some p) r) (h p refl)
 
 module _ (E : Editions) (fit : BothFit E) (t : List ℤ) (old : section0 E t ≡ true) where
   abbrev ed : Edition

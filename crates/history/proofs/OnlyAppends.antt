@@ -94,7 +94,7 @@ module _ (n : EnergyNotice) (B : Book) where
   book_same : (o : Option Point) (row : ℕ) → ((p : Point) → o ≡ some p → (regs : List (ℕ × ℕ)) × PendingOk regs p.pending)
       → named (earlier o row).0 ≡ false → now o row ≡ earlier o row
   unfolding decide enter enter_by entered
-  book_same none row ok e = refl
+  book_same none r ok e = refl
   book_same (some p) (suc r) ok e = refl
   book_same (some p) zero ok e = ap (settling p) (outcome_same (ok p refl).1 (which p x) (cut p) p.facts.section x (latest p).0 e)
 

@@ -21,7 +21,7 @@ use Rattle.lists.specs.InnerSteps.{find_lists}
 use Rattle.lists.specs.InnerWell.{Well, Points, nopoint, point, WellFormed}
 use Rattle.layout.specs.Layout.{table_length, stride, place_of, Fits, part_of, pad, points_numbers, layout, num_at, points_from, register_of, table_book}
 use Rattle.layout.specs.Sound.{each, zeros, part_sound, mirns_differ, sound}
-use Rattle.layout.proofs.Numbers.{pad_take, few}
+use Rattle.layout.proofs.Numbers.{pad_take}
 use Rattle.layout.proofs.RowsLaid.{clean}
 use Rattle.layout.proofs.PartSound.{zeros_at}
 use Rattle.layout.proofs.PartLays.{part_lays}

@@ -14,7 +14,7 @@ use Rattle.numbers.proofs.Bools.{both}
 use Rattle.calendar.specs.Calendar.{is_day}
 use Rattle.daybook.specs.declared.Correction.{Correction}
 use Rattle.daybook.specs.declared.Edition.{Edition}
-use Rattle.daybook.specs.Book.{Pending, Point, days, registrations, with_fro, with_pending}
+use Rattle.daybook.specs.Book.{Pending, Point, registrations, with_fro, with_pending}
 use Rattle.daybook.specs.Notices.{Row, least, Numbers, is_mirn}
 use Rattle.daybook.specs.Corrections.{others_request, corrected, permitted, full, correct_early, correct_rows, correct_rows_at, correct_at, correct}
 use Rattle.lists.specs.Lists.{Lists, Register, book_facts, off_on, entry_on, point_of, book_of}

@@ -16,8 +16,8 @@ use Rattle.numbers.proofs.Bools.{both}
 use Rattle.calendar.specs.Calendar.{within, is_day}
 use Rattle.daybook.specs.declared.EnergyNotice.{EnergyNotice}
 use Rattle.daybook.specs.declared.Edition.{Edition}
-use Rattle.daybook.specs.Book.{Entry, Pending, days, fill, with_entries, with_fro, with_pending, records, latest, append_day}
-use Rattle.daybook.specs.Notices.{least, is_mirn, is_flag, Which, append, replacement, recut, which_number, which, entry_of, energy_early, energy_rows, energy_rows_at, fits_kind, kept, removed, Outcome, registers, lapses, stays, type_registers, append_registers, outcome_of, outcome_numbers, settled, entered, enter, energy}
+use Rattle.daybook.specs.Book.{Entry, Pending, days, fill, with_entries, with_fro, with_pending, latest, append_day}
+use Rattle.daybook.specs.Notices.{least, is_mirn, is_flag, Which, append, replacement, recut, which_number, entry_of, energy_early, energy_rows, energy_rows_at, fits_kind, kept, removed, Outcome, registers, lapses, stays, type_registers, append_registers, outcome_of, outcome_numbers, settled, entered, enter, energy}
 use Rattle.lists.specs.Lists.{Lists, Register, off_on, entry_on, user_on, book_facts, point_of, book_of}
 use Rattle.lists.specs.InnerSteps.{latest_of, which_in, append_day_of, recs_after, user_from, regs_after, pending_after, entered_lists, enter_lists, energy_lists_rows, energy_lists}
 use Rattle.lists.specs.InnerWell.{Regs, StartsOn, PendingOk, nopending, pending, Well, WellFormed, MayEnter}

@@ -3,14 +3,15 @@
 use mathlib.Core.Path.{◌≡◌, refl, sym, ap, ◌∙◌}
 use mathlib.Core.Bool.{Bool, true, false, ◌&&◌, cond}
 use mathlib.Core.Option.{Option, none, some}
-use Prim.Native.Nat.{ℕ, zero, suc, ◌+◌, ◌-◌, ◌<◌}
+use Prim.Native.Nat.{ℕ, zero, suc, ◌+◌, ◌-◌, ◌≤◌, ◌<◌}
 use native.Mathlib.Omega.{arith}
-use borrow.Author.Tests.{ltb-true, eq-eqb, ne_eqb}
+use borrow.Author.Tests.{leb-true, ltb-true, eq-eqb, ne_eqb}
 use lib.Dec.{leb, ltb, eqb}
 use lib.IntN.{ℤ, pos, sub_ℕ, ◌+ℤ◌}
 use Rattle.numbers.specs.Search.{maybe, is_some}
 use Rattle.numbers.specs.Shares.{share}
 use Rattle.numbers.specs.Sums.{sum_from, sum_over}
+use Rattle.numbers.proofs.Bools.{both}
 use Rattle.daybook.specs.Book.{Entry, Point, day_share, filled}
 use Rattle.daybook.specs.Queries.{active, all_filled, daily_gas, metered_of, at_least0, base_over, weight}
 use Rattle.readings.specs.InnerReadings.{filled_days}
@@ -86,6 +87,9 @@ module _ (p : Point) (g : ℕ) where
       pub gas_none : filled p (g - 1) ≡ false → pos 0 ≡ daily_gas g p
       unfolding daily_gas
       gas_none e = rw (no, nor, e)
+
+  pub week_long : Week p g true → 7 ≤ g
+  week_long e = leb-true 7 g (both _ _ e).0
 
   pub metered_gas : (active g p && eqb p.facts.kind 1) ≡ true → daily_gas g p ≡ metered_of g p
   unfolding metered_of
