@@ -69,7 +69,7 @@ pub record Marked : Type 0 where
   pub february : date_call (pos 2000) (pos 2) (pos 29) ≡ pos 0 ∷ pos 11016 ∷ []
   -- ● No holidays, proposed 25 (Monday): 11 to 39;
   pub monday : allowable_period [] 25 0 ≡ some (11, 39)
-  -- ● with no_change 19 to 39;
+  -- ● with no-change 19 to 39;
   pub no_change : allowable_period [] 25 1 ≡ some (19, 39)
   -- ● the same with day 19 a holiday: 18 to 39.
   pub holiday : allowable_period (pos 19 ∷ []) 25 1 ≡ some (18, 39)
