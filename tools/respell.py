@@ -1,7 +1,7 @@
 #!/usr/bin/env python3
 """Spells the names that specs/ and proofs/ declare in snake case, as the library does: energyOf is energy_of.
 
-usage: tools/respell.py            at the top of the repository, once, after /opt/rattle/port/port.py
+usage: tools/respell.py            at the top of the repository, once, after the port.py of the kit
 
 A name that begins with a capital, a type or a module, keeps its spelling; so do the names of src/, those that a file
 imports from a library, and those of strings. It turns whole words: in .antt files everywhere, in .rt files in clauses

@@ -3,7 +3,7 @@
 #![tactic(auto)]
 
 ghost use Rattle.std.specs.Prelude.{◌≡◌, true, ◌&&◌, ◌-◌, ◌<◌, ◌≤◌};
-ghost use Rattle.std.proofs.Math.IntN.{sub_ℕ};
+ghost use lib.IntN.{sub_ℕ};
 ghost use Rattle.std.specs.Int.Signed.{le_z};
 ghost use Rattle.numbers.specs.Sums.{sum_from};
 ghost use Rattle.numbers.specs.Answers.{refused};

@@ -1,6 +1,6 @@
 -- What the functions behind allocate say: of arrays of 32, a place for each point and 0 past the last one.
 use Rattle.std.specs.Prelude.{◌≡◌, true, cond, List, ◌∷◌, ◌++◌, map, ℕ, zero, suc, ◌+◌, ◌-◌, ◌*◌, ◌≤◌, ◌<◌, eqb, ℤ, pos, ◌-ℤ◌, length, get_or, replicate}
-use Rattle.std.proofs.Math.IntN.{sub_ℕ}
+use lib.IntN.{sub_ℕ}
 use Rattle.numbers.specs.Naturals.{nat_of}
 use Rattle.daybook.specs.declared.AllocationQuery.{AllocationQuery}
 use Rattle.daybook.specs.declared.Edition.{Edition}

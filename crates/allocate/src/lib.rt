@@ -3,7 +3,7 @@
 #![tactic(auto)]
 
 ghost use Rattle.std.specs.Prelude.{◌≡◌, true, cond, ◌∷◌, map, ◌+◌, ◌*◌, ◌<◌, ◌≤◌, eqb, length, replicate, pos, negsuc};
-ghost use Rattle.std.proofs.Math.IntN.{sub_ℕ};
+ghost use lib.IntN.{sub_ℕ};
 ghost use Rattle.calendar.specs.Calendar.{within};
 ghost use Rattle.daybook.specs.Notices.{users};
 ghost use Rattle.daybook.specs.Queries.{allocation_in_range, at_least0, tdm_of, weight, total as total_weight, split};

@@ -1,7 +1,7 @@
 -- Days, dates and business days (document 01, "Days and units"). A day is counted from 1 January 1970 = 0; calls take 0
 -- to 39,999, which is 7 July 2079.
 use Rattle.std.specs.Prelude.{Bool, true, false, not, ◌&&◌, ◌||◌, cond, List, [], ◌∷◌, ℕ, zero, suc, ◌+◌, ◌-◌, ◌%◌, leb, ltb, eqb, ℤ, pos, length, get_or}
-use Rattle.std.proofs.Math.Option.{Option, none, some}
+use mathlib.Core.Option.{Option, none, some}
 use Rattle.std.specs.Int.Signed.{le_z, lt_z}
 use Rattle.numbers.specs.Naturals.{nat_of, same_z}
 use Rattle.numbers.specs.Rows.{all}

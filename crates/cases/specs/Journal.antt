@@ -1,5 +1,5 @@
 -- Calls as a journal writes them, numbers in document 01's order, and what the day book answers to a list of them.
-use Rattle.std.proofs.Math.Option.{none}
+use mathlib.Core.Option.{none}
 use mathlib.Core.List.{List, [], ◌∷◌, map, flatten}
 use Rattle.std.specs.Prelude.{ℕ, ℤ, pos, negsuc, replicate}
 use Rattle.numbers.specs.Rows.{all}

@@ -1,7 +1,7 @@
 -- The marked cases of document 01: one list, in its order and under its words, a field each. The shares of an entry and
 -- User 1's account over 1–5 are document 02's (f).
 use Rattle.std.specs.Prelude.{◌≡◌, List, [], ◌∷◌, map, pos, negsuc, take, drop}
-use Rattle.std.proofs.Math.Option.{some}
+use mathlib.Core.Option.{some}
 use Rattle.numbers.specs.Shares.{share}
 use Rattle.calendar.specs.Calendar.{date_call, allowable_period}
 use Rattle.daybook.specs.Notices.{Numbers}

@@ -1,7 +1,7 @@
 -- The state of the day book, how its days change, and what is read off them.
 use Rattle.std.specs.Prelude.{Bool, false, not, ◌&&◌, cond, List, [], ◌∷◌, ℕ, zero, suc, ◌-◌, leb, eqb, ℤ, pos}
 use Rattle.std.specs.Bool.{beq}
-use Rattle.std.proofs.Math.Option.{Option, none, some}
+use mathlib.Core.Option.{Option, none, some}
 use Rattle.numbers.specs.Search.{maybe, is_some, first_from, last_below}
 use Rattle.numbers.specs.Shares.{share}
 use Rattle.daybook.specs.declared.Facts.{Facts}

@@ -1,6 +1,6 @@
 -- Document 01's numbers for each answer of the code, and lists of calls, from state to state.
 use Rattle.std.specs.Prelude.{Bool, true, false, not, List, [], ◌∷◌, map, ℕ, ℤ, pos, length, replicate}
-use Rattle.std.proofs.Math.Option.{Option, some}
+use mathlib.Core.Option.{Option, some}
 use Rattle.numbers.specs.Naturals.{nat_of}
 use Rattle.numbers.specs.Search.{maybe, is_some}
 use Rattle.daybook.specs.declared.NewRegister.{NewRegister}

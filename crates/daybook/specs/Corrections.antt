@@ -1,7 +1,7 @@
 -- The correction of a transfer error (document 02, j), a call that changes the book, with its rows of "Notices sent
 -- back".
 use Rattle.std.specs.Prelude.{Bool, true, not, ◌&&◌, cond, List, [], ◌∷◌, map, ℕ, ◌-◌, leb, ltb, eqb, length, pos}
-use Rattle.std.proofs.Math.Option.{Option, none, some}
+use mathlib.Core.Option.{Option, none, some}
 use Rattle.numbers.specs.Naturals.{nat_of}
 use Rattle.numbers.specs.Search.{is_some, first_from}
 use Rattle.calendar.specs.Calendar.{is_day}

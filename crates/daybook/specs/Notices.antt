@@ -1,6 +1,6 @@
 -- Six calls that change the book, each with its rows of "Notices sent back". Row 1 is the table's, not the book's.
 use Rattle.std.specs.Prelude.{Bool, true, false, not, ◌&&◌, ◌||◌, cond, List, [], ◌∷◌, ◌++◌, map, ℕ, zero, suc, ◌+◌, ◌-◌, min, leb, ltb, eqb, length, replicate, ℤ, pos, negsuc, nat_abs}
-use Rattle.std.proofs.Math.Option.{Option, none, some}
+use mathlib.Core.Option.{Option, none, some}
 use Rattle.std.specs.Int.Signed.{le_z}
 use Rattle.numbers.specs.Naturals.{nat_of}
 use Rattle.numbers.specs.Search.{maybe, is_some, first_from}

@@ -1,6 +1,6 @@
 -- What is claimed of what a list of calls left and of the state that the day book is in after the same calls (demand 3).
 use Rattle.std.specs.Prelude.{◌≡◌, true, false, List, [], ◌∷◌, ℕ, zero, suc, ◌≤◌, ◌<◌, eqb, ℤ, pos, ◌+ℤ◌, length, get_or, take, drop, replicate}
-use Rattle.std.proofs.Math.Option.{Option, none, some}
+use mathlib.Core.Option.{Option, none, some}
 use Rattle.numbers.specs.Naturals.{nat_of}
 use Rattle.numbers.specs.Sums.{sum_from, sum_over}
 use Rattle.numbers.specs.Answers.{refused}

@@ -1,6 +1,6 @@
 -- Calls by another rule of what a pending request comes to. A request of document 02 that changed the rule has a
 -- theorem which compares calls by the rule as it was with calls as they are.
-use Rattle.std.proofs.Math.Option.{Option}
+use mathlib.Core.Option.{Option}
 use Rattle.std.specs.Prelude.{List, [], ℕ, ℤ}
 use Rattle.daybook.specs.declared.Edition.{Edition}
 use Rattle.daybook.specs.declared.EnergyNotice.{EnergyNotice}

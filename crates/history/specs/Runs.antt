@@ -1,6 +1,6 @@
 -- Lists of calls on what a hub lends, each on what the one before left.
 use Rattle.std.specs.Prelude.{cond, List, [], ◌∷◌, ◌++◌, ℕ, ◌+◌, ℤ, take, drop, replicate}
-use Rattle.std.proofs.Math.Option.{none}
+use mathlib.Core.Option.{none}
 use Rattle.numbers.specs.Naturals.{nat_of}
 use Rattle.numbers.specs.Answers.{refused}
 use Rattle.daybook.specs.declared.NewRegister.{NewRegister}

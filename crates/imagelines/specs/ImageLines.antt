@@ -2,7 +2,7 @@
 -- prints and the buffers after it. A line with another count of numbers, or with a number out of bounds, is no call,
 -- and does nothing.
 use Rattle.std.specs.Prelude.{Bool, cond, ◌&&◌, List, [], ◌∷◌, ◌++◌, ◌≡◌, ℕ, ◌+◌, ◌*◌, ◌≤◌, eqb, leb, ltb, ℤ, pos, length, take, drop, replicate, set}
-use Rattle.std.proofs.Math.Option.{Option, none, some}
+use mathlib.Core.Option.{Option, none, some}
 use Rattle.numbers.specs.Search.{maybe}
 use Rattle.words.specs.Words.{word_at}
 use Rattle.words.specs.Sums.{sums_of}

@@ -1,6 +1,6 @@
 -- What the functions that cut a line into words say.
 use Rattle.std.specs.Prelude.{cond, List, ◌≡◌, ℕ, ◌+◌, ◌^◌, ◌≤◌, ◌<◌, leb, length, drop, get_or}
-use Rattle.std.proofs.Math.Option.{Option, none, some}
+use mathlib.Core.Option.{Option, none, some}
 use Rattle.journal.specs.Text.{words_of}
 
 -- A magnitude as the code holds it: 2^63 + 1 for none and for all above 2^63.

@@ -1,7 +1,7 @@
 -- The numbers and the words of a line, as lists of bytes.
 use Rattle.std.specs.Prelude.{Bool, cond, ◌&&◌, List, [], ◌∷◌, ℕ, ◌+◌, ◌*◌, ◌-◌, ◌^◌, eqb, leb, ltb, ℤ, pos, take}
-use Rattle.std.proofs.Math.Option.{Option, none, some}
-use Rattle.std.proofs.Math.IntN.{sub_ℕ}
+use mathlib.Core.Option.{Option, none, some}
+use lib.IntN.{sub_ℕ}
 use Rattle.numbers.specs.Search.{maybe}
 use Rattle.journal.specs.declared.Parsed.{Parsed}
 use Rattle.journal.specs.declared.Parsed.TheVariants as Parsed·

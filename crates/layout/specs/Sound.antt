@@ -1,6 +1,6 @@
 -- When a table is a sound register: document 01's sentence, clause by clause.
 use Rattle.std.specs.Prelude.{Bool, true, false, not, ◌&&◌, cond, List, [], ◌∷◌, ◌++◌, ℕ, ◌+◌, ◌-◌, ◌/◌, leb, ltb, eqb, ℤ, pos, negsuc, length, get_or, drop}
-use Rattle.std.proofs.Math.Option.{Option}
+use mathlib.Core.Option.{Option}
 use Rattle.numbers.specs.Rows.{all}
 use Rattle.numbers.specs.Search.{maybe}
 use Rattle.calendar.specs.Calendar.{within}

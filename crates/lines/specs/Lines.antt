@@ -1,7 +1,7 @@
 -- What each line of a journal does on the register's buffer, as bytes: the text that it prints and the buffer after it.
 -- A line with another count of numbers, or with a number out of bounds, is no call, and does nothing.
 use Rattle.std.specs.Prelude.{Bool, cond, ◌&&◌, List, [], ◌∷◌, ◌++◌, ◌≡◌, ℕ, ◌+◌, ◌*◌, ◌≤◌, eqb, leb, ltb, ℤ, pos, negsuc, length, take, drop, replicate}
-use Rattle.std.proofs.Math.Option.{Option, none, some}
+use mathlib.Core.Option.{Option, none, some}
 use Rattle.numbers.specs.Naturals.{nat_of, same_z}
 use Rattle.numbers.specs.Search.{maybe}
 use Rattle.words.specs.Words.{with_word, bits_of}

@@ -1,7 +1,7 @@
 -- The lists' own steps: what each notice is on a point's lists. The code follows these, and the laws of this folder say
 -- that they are the book's steps. The refusal rows are the book's own.
 use Rattle.std.specs.Prelude.{Bool, true, false, ◌&&◌, ◌||◌, cond, List, [], ◌∷◌, ◌++◌, map, ℕ, suc, leb, ltb, eqb, length, ℤ, pos}
-use Rattle.std.proofs.Math.Option.{Option, none, some}
+use mathlib.Core.Option.{Option, none, some}
 use Rattle.numbers.specs.Naturals.{nat_of}
 use Rattle.numbers.specs.Search.{maybe, is_some}
 use Rattle.calendar.specs.Calendar.{allowable_period}

@@ -1,6 +1,6 @@
 -- A point as three lists (registrations, off spans, records), and the point and book of days that they stand for.
 use Rattle.std.specs.Prelude.{Bool, true, false, ◌&&◌, ◌||◌, cond, List, [], ◌∷◌, map, ℕ, zero, suc, leb, ltb, eqb, ℤ}
-use Rattle.std.proofs.Math.Option.{Option, none, some}
+use mathlib.Core.Option.{Option, none, some}
 use Rattle.daybook.specs.declared.Facts.{Facts}
 use Rattle.daybook.specs.Book.{Entry, Pending, Point, Book, fill}
 

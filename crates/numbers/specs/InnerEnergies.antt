@@ -1,6 +1,6 @@
 -- Energies raised by 1,000,000, so that the code inside is unsigned.
 use Rattle.std.specs.Prelude.{cond, ℕ, ◌+◌, ◌-◌, ◌^◌, leb, ltb, ℤ, pos, negsuc}
-use Rattle.std.proofs.Math.IntN.{sub_ℕ}
+use lib.IntN.{sub_ℕ}
 
 -- An energy from -1,000,000 to 1,000,000, raised by 1,000,000. Any other number is the marker.
 abbrev pub bias_of : ℤ → ℕ

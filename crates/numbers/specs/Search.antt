@@ -1,6 +1,6 @@
 -- What may be missing, and searches among days or indices.
 use Rattle.std.specs.Prelude.{Bool, true, false, cond, ℕ, zero, suc}
-use Rattle.std.proofs.Math.Option.{Option, none, some}
+use mathlib.Core.Option.{Option, none, some}
 
 -- f of what is there, b if nothing is.
 abbrev pub maybe : {A B : Type 0} → B → (A → B) → Option A → B

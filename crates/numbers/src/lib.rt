@@ -4,7 +4,7 @@
 #![tactic(auto)]
 
 ghost use Rattle.std.specs.Prelude.{◌≡◌, ◌+◌, ◌-◌, ◌<◌, ◌≤◌, ◌^◌, length, get_or, set, pos};
-ghost use Rattle.std.proofs.Math.IntN.{sub_ℕ};
+ghost use lib.IntN.{sub_ℕ};
 ghost use Rattle.numbers.specs.Naturals.{nat_of};
 ghost use Rattle.numbers.specs.InnerEnergies.{bias_of, energy_of};
 ghost use Rattle.numbers.specs.Shares.{floor_part, partial_energy};

@@ -1,6 +1,6 @@
 -- What the code reads and tests of one point's part, place by place: its counts, registrations, off spans and records.
 use Rattle.std.specs.Prelude.{◌≡◌, Bool, true, not, ◌&&◌, ◌||◌, cond, List, ℕ, zero, suc, ◌+◌, ◌≤◌, ◌<◌, ◌^◌, leb, ltb, eqb, length, get_or, ℤ, pos, negsuc}
-use Rattle.std.proofs.Math.Option.{Option, none, some}
+use mathlib.Core.Option.{Option, none, some}
 use Rattle.numbers.specs.InnerEnergies.{bias_of}
 use Rattle.numbers.specs.Rows.{all}
 use Rattle.daybook.specs.Book.{Entry}

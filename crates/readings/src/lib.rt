@@ -4,7 +4,7 @@
 #![tactic(auto)]
 
 ghost use Rattle.std.specs.Prelude.{◌≡◌, ◌&&◌, cond, suc, ◌+◌, ◌-◌, ◌*◌, ◌<◌, ◌≤◌, leb, length, pos};
-ghost use Rattle.std.proofs.Math.IntN.{sub_ℕ};
+ghost use lib.IntN.{sub_ℕ};
 ghost use Rattle.numbers.specs.Sums.{sum_from, sum_over};
 ghost use Rattle.daybook.specs.Book.{day_share, filled};
 ghost use Rattle.daybook.specs.Queries.{active as is_active, all_filled, at_least0, base_over, daily_gas, metered_of, weight as weight_of};

@@ -1,6 +1,6 @@
 -- Where the point of a MIRN stands in a table, and the numbers that a look-up hands back.
 use Rattle.std.specs.Prelude.{cond, List, [], ℕ, eqb, ℤ}
-use Rattle.std.proofs.Math.Option.{Option}
+use mathlib.Core.Option.{Option}
 use Rattle.numbers.specs.Naturals.{nat_of}
 use Rattle.numbers.specs.Search.{maybe, first_from}
 use Rattle.daybook.specs.declared.Edition.{Edition}

@@ -1,5 +1,5 @@
 -- What the two calls do to the part of their point, once the rows of their numbers have passed.
-use Rattle.std.proofs.Math.Option.{Option, none}
+use mathlib.Core.Option.{Option, none}
 use Rattle.std.specs.Prelude.{List, [], ℕ, ℤ}
 use Rattle.daybook.specs.Notices.{Row, Numbers, request_rows, period_numbers, pending_of, withdraw_rows}
 use Rattle.lists.specs.Lists.{Lists}

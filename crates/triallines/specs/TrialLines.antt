@@ -1,7 +1,7 @@
 -- What the line `trial` of a journal does on the register's buffer, as bytes: the text that it prints. The buffer stays
 -- as it is. A line with too few numbers or too many, or with too long answers, is no call, and does nothing.
 use Rattle.std.specs.Prelude.{Bool, cond, ◌&&◌, List, ◌++◌, ℕ, ◌*◌, ◌/◌, leb, ℤ, negsuc, length, take, drop, replicate}
-use Rattle.std.proofs.Math.Option.{none, some}
+use mathlib.Core.Option.{none, some}
 use Rattle.daybook.specs.Notices.{Numbers}
 use Rattle.daybook.specs.FromNumbers.{num}
 use Rattle.daybook.specs.Editions.{editions}

@@ -1,7 +1,7 @@
 -- Numbers as bytes, little-endian. Assumes nothing.
 use Rattle.std.specs.Prelude.{ℕ, zero, suc, ◌+◌, ◌*◌, ◌/◌, ◌%◌, List, map, ℤ, slice_index, slice_set}
 use Rattle.std.specs.Int.{w64}
-use Rattle.std.proofs.Common.{to_z, of_z}
+use mir.Val.{to_z, of_z}
 
 -- the number that w bytes of b from `at` on spell, lowest first
 unfoldable pub number_at : List ℕ → ℕ → ℕ → ℕ

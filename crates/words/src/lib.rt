@@ -4,7 +4,7 @@
 
 ghost use Rattle.std.specs.Prelude.{◌≡◌, ◌+◌, ◌*◌, ◌%◌, ◌^◌, ◌<◌, ◌≤◌, length};
 ghost use Rattle.std.specs.Int.{w64};
-ghost use Rattle.std.proofs.Common.{to_z, of_z};
+ghost use mir.Val.{to_z, of_z};
 ghost use Rattle.words.specs.Words.{number_at, word_at, with_number, with_word, bits_of};
 ghost use Rattle.words.specs.Tables.{decoded_into, encoded_into};
 ghost use Rattle.words.specs.Sums.{sums_of};
