@@ -14,15 +14,15 @@ use Rattle.numbers.proofs.Bools.{both}
 use Rattle.calendar.specs.Calendar.{within, is_day}
 use Rattle.calendar.proofs.Dates.{days_order}
 use Rattle.daybook.specs.declared.AllocationQuery.{AllocationQuery}
-use Rattle.daybook.specs.declared.Edition.{Edition}
 use Rattle.daybook.specs.Book.{Point, Book}
 use Rattle.daybook.specs.Notices.{users}
 use Rattle.daybook.specs.Queries.{allocation_in_range, at_least0, tdm_of, nsl_of, weight, weights, total, split, point_shares, total_of}
 use Rattle.lists.proofs.Bounds.{within_bounds}
 use Rattle.lists.proofs.Splits.{split_length}
-use Rattle.layout.specs.Layout.{num_at, table_book}
 use Rattle.layout.specs.Calls.{placed}
-use Rattle.allocate.specs.InnerParts.{points_of, padded, SharesBelow, total_to, load_of, MaySplit, given_of}
+use Rattle.table.specs.declared.register.Register.{Register}
+use Rattle.table.specs.Registers.{book, number_of_points}
+use Rattle.allocate.specs.InnerParts.{padded, SharesBelow, total_to, load_of, MaySplit, given_of}
 use Rattle.allocate.proofs.Loads.{is_load, next_order}
 use Rattle.allocate.proofs.Arrays.{points_few_lem}
 use Rattle.allocate.proofs.Given.{total_padded, split_padded, split_small, user_total}
@@ -77,32 +77,32 @@ placed_long xs out e = simp length-append (omega arith)
 
 -- ---- what is given
 
-module _ {ed : Edition} {t : List ℤ} {q : AllocationQuery} {ws : List ℕ} {s room : ℕ} (given : MaySplit ed t q ws s room) where
+module _ {r : Register} {q : AllocationQuery} {ws : List ℕ} {s room : ℕ} (given : MaySplit r q ws s room) where
   abbrev B : Book
-  B = table_book ed t
+  B = book r
 
   abbrev G : ℕ
   G = nat_of q.gasday
 
-  few_points : length (points_of ed t) ≤ 32
-  few_points = points_few_lem ed given.fits t given.is_sound
+  few_points : length B.points ≤ 32
+  few_points = points_few_lem r.edition r.fits r.table.now r.is_sound
 
   pub in_range_lem : InRange q
   in_range_lem = (in_range_tells q room given.in_range).0
 
-  pub load_is : {load : ℕ} (tdm : ℕ) → load ≡ at_least0 (load_of q tdm (1000000 * num_at t 0)) → sub_ℕ tdm (1000000 * num_at t 0) ≡ tdm_of G B → load ≡ nsl_of q B
+  pub load_is : {load : ℕ} (tdm : ℕ) → load ≡ at_least0 (load_of q tdm (1000000 * number_of_points r)) → sub_ℕ tdm (1000000 * number_of_points r) ≡ tdm_of G B → load ≡ nsl_of q B
   unfolding nsl_of
   load_is tdm e f = e ∙ ap (λ z. at_least0 (q.tdq -ℤ z -ℤ q.uag -ℤ q.clp)) f
 
   sum_is : s ≡ total (weights q B)
   sum_is = given.sum ∙ ap total given.weigh ∙ total_padded (weights q B)
 
-  pub fros_32 : length (padded (map (λ p. p.fro G) (points_of ed t))) ≡ 32
-  fros_32 = padded_32 (map (λ p. p.fro G) (points_of ed t)) (omega (arith, length-map (points_of ed t) (λ p. p.fro G), few_points))
+  pub fros_32 : length (padded (map (λ p. p.fro G) B.points)) ≡ 32
+  fros_32 = padded_32 (map (λ p. p.fro G) B.points) (omega (arith, length-map B.points (λ p. p.fro G), few_points))
 
   pub weigh_32 : length ws ≡ 32
   unfolding weights
-  weigh_32 = ap length given.weigh ∙ padded_32 (weights q B) (omega (arith, length-map (points_of ed t) (weight G (nat_of q.from) (nat_of q.to)), few_points))
+  weigh_32 = ap length given.weigh ∙ padded_32 (weights q B) (omega (arith, length-map B.points (weight G (nat_of q.from) (nat_of q.to)), few_points))
 
   pub split_32 : (load : ℕ) → length (split load s 0 ws) ≡ 32
   split_32 load = split_length load s 0 ws ∙ weigh_32
@@ -111,20 +111,20 @@ module _ {ed : Edition} {t : List ℤ} {q : AllocationQuery} {ws : List ℕ} {s 
     abbrev w : Point → ℕ
     w = weight G (nat_of q.from) (nat_of q.to)
 
-    split_is : split load s 0 ws ≡ split load s 0 (map w (points_of ed t)) ++ replicate (32 - length (points_of ed t)) (pos 0)
+    split_is : split load s 0 ws ≡ split load s 0 (map w B.points) ++ replicate (32 - length B.points) (pos 0)
     unfolding weights
     split_is =
-        ap (split load s 0) given.weigh ∙ split_padded load s (map w (points_of ed t))
-        ∙ ap (λ n. split load s 0 (map w (points_of ed t)) ++ replicate (32 - n) (pos 0)) (length-map (points_of ed t) w)
+        ap (split load s 0) given.weigh ∙ split_padded load s (map w B.points)
+        ∙ ap (λ n. split load s 0 (map w B.points) ++ replicate (32 - n) (pos 0)) (length-map B.points w)
 
-    own_is : split load s 0 (map w (points_of ed t)) ≡ point_shares q B
+    own_is : split load s 0 (map w B.points) ≡ point_shares q B
     unfolding point_shares weights
-    own_is = ap₂ (λ l z. split l z 0 (map w (points_of ed t))) is sum_is
+    own_is = ap₂ (λ l z. split l z 0 (map w B.points)) is sum_is
 
     -- the 32 numbers
     pub shares_are : split load s 0 ws ≡ (given_of q B).1
     unfolding given_of
-    shares_are = split_is ∙ ap (λ l. l ++ replicate (32 - length (points_of ed t)) (pos 0)) own_is
+    shares_are = split_is ∙ ap (λ l. l ++ replicate (32 - length B.points) (pos 0)) own_is
 
     pub shares_small : load ≤ 3032000000 → (out : List ℤ) → SharesBelow 3032000000 (placed (split load s 0 ws) out)
     unfolding placed
@@ -134,12 +134,12 @@ module _ {ed : Edition} {t : List ℤ} {q : AllocationQuery} {ws : List ℕ} {s 
         (omega (arith, split_small load s given.some 0 ws z k))
 
     -- the sixteen totals
-    pub totals_are : (out : List ℤ) → map (λ u. pos (total_to (padded (map (λ p. p.fro G) (points_of ed t))) (placed (split load s 0 ws) out) u 32)) users ≡ map (λ u. total_of G u (points_of ed t) (point_shares q B)) users
+    pub totals_are : (out : List ℤ) → map (λ u. pos (total_to (padded (map (λ p. p.fro G) B.points)) (placed (split load s 0 ws) out) u 32)) users ≡ map (λ u. total_of G u B.points (point_shares q B)) users
     unfolding placed
     totals_are out i = map (λ u. own u i) users
       where
-        own : (u : ℕ) → pos (total_to (padded (map (λ p. p.fro G) (points_of ed t))) (placed (split load s 0 ws) out) u 32) ≡ total_of G u (points_of ed t) (point_shares q B)
+        own : (u : ℕ) → pos (total_to (padded (map (λ p. p.fro G) B.points)) (placed (split load s 0 ws) out) u 32) ≡ total_of G u B.points (point_shares q B)
         own u =
-            ap (λ l. pos (total_to (padded (map (λ p. p.fro G) (points_of ed t))) (l ++ drop (length (split load s 0 ws)) out) u 32)) split_is
-            ∙ user_total load s given.some G w (points_of ed t) (few_points) (drop (length (split load s 0 ws)) out) u
-            ∙ ap (total_of G u (points_of ed t)) own_is
+            ap (λ l. pos (total_to (padded (map (λ p. p.fro G) B.points)) (l ++ drop (length (split load s 0 ws)) out) u 32)) split_is
+            ∙ user_total load s given.some G w B.points few_points (drop (length (split load s 0 ws)) out) u
+            ∙ ap (total_of G u B.points) own_is

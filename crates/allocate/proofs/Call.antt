@@ -26,12 +26,12 @@ abbrev pub refusal : ℕ → Numbers × List ℤ
 refusal row = (pos row ∷ replicate 17 (pos 0), [])
 
 -- the two equations of the contract, where the call is sent back and where it is given
-pub sent_back_lem : (row : ℕ) (out : List ℤ) {a : Numbers} {w : Numbers × List ℤ} → a ≡ pos row ∷ replicate 17 (pos 0) → w ≡ refusal row → (a ≡ w.0) × (out ≡ placed w.1 out)
+pub sent_back_lem : (row : ℕ) (out : List ℤ) {w : Numbers × List ℤ} → w ≡ refusal row → (pos row ∷ replicate 17 (pos 0) ≡ w.0) × (out ≡ placed w.1 out)
 unfolding placed
-sent_back_lem row out e f = (e ∙ ap (λ w. w.0) (sym f), ap (λ w. placed w.1 out) (sym f))
+sent_back_lem row out f = (ap (λ w. w.0) (sym f), ap (λ w. placed w.1 out) (sym f))
 
-pub handed_out : (out : List ℤ) {a : Numbers} {l : List ℤ} {w v : Numbers × List ℤ} → (a ≡ pos 0 ∷ v.0) × (l ≡ placed v.1 out) → w ≡ (pos 0 ∷ v.0, v.1) → (a ≡ w.0) × (l ≡ placed w.1 out)
-handed_out out e f = (e.0 ∙ ap (λ w. w.0) (sym f), e.1 ∙ ap (λ w. placed w.1 out) (sym f))
+pub handed_out : (out : List ℤ) {a : Numbers} {l : List ℤ} {w v : Numbers × List ℤ} → (a ≡ v.0) × (l ≡ placed v.1 out) → w ≡ (pos 0 ∷ v.0, v.1) → (pos 0 ∷ a ≡ w.0) × (l ≡ placed w.1 out)
+handed_out out e f = (ap (λ a. pos 0 ∷ a) e.0 ∙ ap (λ w. w.0) (sym f), e.1 ∙ ap (λ w. placed w.1 out) (sym f))
 
 module _ (ed : Edition) (t : List ℤ) (own : ed ≡ edition_of t) (q : AllocationQuery) (room : ℕ) where
   abbrev B : Book

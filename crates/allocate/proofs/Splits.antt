@@ -8,6 +8,8 @@ use native.Mathlib.Numerals.{add-one}
 use lib.ListN.{length, get_or, take, drop, set}
 use lib.Seq.{take-suc, drop-cons, set_at, take_all, length-take-le}
 use lib.IntN.{ℤ, pos, ◌-ℤ◌}
+use Rattle.std.specs.List.{sum}
+use Rattle.std.proofs.lemmas.List.Recursion.{is_sum_by}
 use Rattle.numbers.specs.Shares.{floor_part}
 use Rattle.numbers.proofs.Integers.{eq_z, minus_fact}
 use Rattle.daybook.specs.Queries.{total, split}
@@ -15,6 +17,11 @@ use Rattle.lists.proofs.Splits.{total_append, split_append, split_length}
 use Rattle.allocate.specs.InnerParts.{most_total}
 
 -- ---- the sum of the first k weights
+
+-- it is std's sum
+pub total_sum : (l : List ℕ) → total l ≡ sum l
+unfolding total
+total_sum l = is_sum_by total (λ x. x) refl (λ x xs. refl) l
 
 sum_snoc : (l : List ℕ) (x : ℕ) → total (l ++ (x ∷ [])) ≡ total l + x
 unfolding total

@@ -3,15 +3,12 @@ use Rattle.std.specs.Prelude.{◌≡◌, true, cond, List, ◌∷◌, ◌++◌, 
 use lib.IntN.{sub_ℕ}
 use Rattle.numbers.specs.Naturals.{nat_of}
 use Rattle.daybook.specs.declared.AllocationQuery.{AllocationQuery}
-use Rattle.daybook.specs.declared.Edition.{Edition}
-use Rattle.daybook.specs.Book.{Point, Book}
+use Rattle.daybook.specs.Book.{Book}
 use Rattle.daybook.specs.Notices.{Numbers, users}
 use Rattle.daybook.specs.Queries.{share_count, allocation_in_range, nsl_of, weights, total, point_shares, total_of}
-use Rattle.layout.specs.Layout.{Fits, num_at, table_book}
-use Rattle.layout.specs.Sound.{sound}
-
-abbrev pub points_of : Edition → List ℤ → List Point
-points_of ed t = (table_book ed t).points
+use Rattle.layout.specs.Layout.{num_at}
+use Rattle.table.specs.declared.register.Register.{Register}
+use Rattle.table.specs.Registers.{book}
 
 -- Numbers of points, in an array with a place for each share.
 unfoldable pub padded : List ℕ → List ℕ
@@ -42,12 +39,10 @@ given_of q B = (
   point_shares q B ++ replicate (share_count - length B.points) (pos 0),
 )
 
--- The edition fits, and the tests before the split were passed: ws are the weights, and s is their sum.
-pub record MaySplit (ed : Edition) (t : List ℤ) (q : AllocationQuery) (ws : List ℕ) (s room : ℕ) : Type 0 where
-  pub fits : Fits ed
-  pub is_sound : sound ed t ≡ true
+-- The tests before the split were passed: ws are the weights, and s is their sum.
+pub record MaySplit (r : Register) (q : AllocationQuery) (ws : List ℕ) (s room : ℕ) : Type 0 where
   pub in_range : allocation_in_range q room ≡ true
-  pub weigh : ws ≡ padded (weights q (table_book ed t))
+  pub weigh : ws ≡ padded (weights q (book r))
   pub sum : s ≡ total ws
   pub some : 0 < s
   pub few : s ≤ most_total

@@ -1,5 +1,6 @@
-// Byte buffers that a C caller lends: numbers are read from them, answers and tables are written to them. What a function
-// requires is about lengths and a refusal's size; the exported functions show it of any buffers.
+// Byte buffers that a C caller lends: numbers are read from them, answers and tables are written to them. What a
+// function requires is about lengths and a refusal's size; the exported functions show it of any buffers. The results
+// 1 and 2 of `reply` are numbers, as the C interface has them.
 #![tactic(auto)]
 
 ghost use Rattle.std.specs.Prelude.{◌≡◌, map, ◌*◌, ◌/◌, ◌≤◌, min, pos, length, get_or};
@@ -19,23 +20,14 @@ pub fn numbers_in<'a, 'b>(bytes: &'a [u8], t: &'b mut [i64], n: usize) -> &'b mu
     &mut t[..n]
 }
 
-// Fills t with numbers that nobody reads. A table is then written whole whether its bytes are enough or not, and the back
-// end leaves out the clearing of the array that it stands in.
-fn fill(t: &mut [i64]) {
-    let mut k = 0;
-    while k < t.len() {
-        t[k] = -1;
-        k += 1;
-    }
-}
-
-// A register's table, in t.
+// A register's table, in t. Where its bytes are too few, t is filled with numbers that nobody reads: the table is then
+// written whole in both cases, and the back end leaves out the clearing of the array that it stands in.
 pub fn table_in<'a, 'b>(register: &'a [u8], t: &'b mut [i64]) -> &'b mut [i64]
     requires { length t.old ≡ table_length }
     ensures { (result.now ≡ table_in register.now) × (8 * length result.now ≤ length register.now) }
 {
     if register.len() < REGISTER_BYTES {
-        fill(t);
+        t.fill(-1);
         return numbers_in(register, t, 0);
     }
     numbers_in(register, t, places::TABLE_LENGTH)
@@ -45,11 +37,7 @@ pub fn table_in<'a, 'b>(register: &'a [u8], t: &'b mut [i64]) -> &'b mut [i64]
 pub fn list_in<'a, 'b>(list: &'a [u8], t: &'b mut [i64]) -> &'b mut [i64]
     ensures { result.now ≡ numbers_in list.now (min (length t.old) (length list.now / 8)) }
 {
-    let n = list.len() / 8;
-    let most = t.len();
-    if most < n {
-        return numbers_in(list, t, most);
-    }
+    let n = t.len().min(list.len() / 8);
     numbers_in(list, t, n)
 }
 
@@ -57,34 +45,27 @@ pub fn list_in<'a, 'b>(list: &'a [u8], t: &'b mut [i64]) -> &'b mut [i64]
 pub fn room_in<'a, 'b>(table: &'a [u8], t: &'b mut [i64]) -> &'b mut [i64]
     ensures { (length result.now ≡ min (length t.old) (length table.now / 8)) × (8 * length result.now ≤ length table.now) }
 {
-    let n = table.len() / 8;
-    let most = t.len();
-    if most < n {
-        return &mut t[..most];
-    }
+    let n = t.len().min(table.len() / 8);
     &mut t[..n]
 }
 
 // How many bytes of an image are lent on, by a call that answers with no field: all, or none where its answer's buffer
 // is too short.
+#[tactic(auto, unfolding(crate::specs::Buffers::image_in))]
 pub fn image_room(image: &[u8], answer: &[u8]) -> usize
     ensures { (result ≡ length (image_in image.now answer.now)) × (result ≤ length image.now) }
 {
-    if answer.len() < 8 {
-        return 0;
-    }
-    image.len()
+    if answer.len() < 8 { 0 } else { image.len() }
 }
 
 // Writes numbers, given as their bits, from the first byte on.
+#[tactic(auto, using(crate::proofs::Bytes::one_more), unfolding(words::specs::Tables::encoded_into, crate::specs::Buffers::with_numbers))]
 fn put_numbers(b: &mut [u8], numbers: &[u64])
     requires { 8 * length numbers.now ≤ length b.old }
     ensures { b.new ≡ with_numbers (map pos numbers.now) b.old }
 {
-    let mut k = 0;
-    while k < numbers.len() {
-        words::put_number8(b, 8 * k, numbers[k]);
-        k += 1;
+    for (k, number) in numbers.iter().enumerate() {
+        words::put_number::<8>(b, 8 * k, *number);
     }
 }
 
@@ -95,10 +76,7 @@ pub fn reply(answer: &mut [u8], numbers: &[u64]) -> u64
 {
     let refusal = numbers[0];
     if answer.len() < 8 * numbers.len() {
-        if refusal == 1 {
-            return 1;
-        }
-        return 2;
+        return if refusal == 1 { 1 } else { 2 };
     }
     put_numbers(answer, numbers);
     refusal

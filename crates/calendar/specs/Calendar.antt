@@ -1,17 +1,15 @@
 -- Days, dates and business days (document 01, "Days and units"). A day is counted from 1 January 1970 = 0; calls take 0
 -- to 39,999, which is 7 July 2079.
-use Rattle.std.specs.Prelude.{Bool, true, false, not, ◌&&◌, ◌||◌, cond, List, [], ◌∷◌, ℕ, zero, suc, ◌+◌, ◌-◌, ◌%◌, leb, ltb, eqb, ℤ, pos, length, get_or}
+use Rattle.std.specs.Prelude.{Bool, true, false, not, ◌&&◌, ◌||◌, cond, List, [], ◌∷◌, ℕ, zero, suc, ◌+◌, ◌-◌, ◌%◌, leb, ltb, eqb, ℤ, pos, length, get_or, Option as Maybe, Some, None, Result, Ok, Err}
 use mathlib.Core.Option.{Option, none, some}
 use Rattle.std.specs.Int.Signed.{le_z, lt_z}
 use Rattle.numbers.specs.Naturals.{nat_of, same_z}
 use Rattle.numbers.specs.Rows.{all}
 use Rattle.numbers.specs.Search.{maybe, first_from, last_below}
-use Rattle.calendar.specs.declared.DateAnswer.{DateAnswer}
-use Rattle.calendar.specs.declared.DateAnswer.TheVariants.{OnDay, Refused}
-use Rattle.calendar.specs.declared.Reached.{Reached}
-use Rattle.calendar.specs.declared.Reached.TheVariants.{On, Outside}
+use Rattle.refusals.specs.declared.Refusal.{Refusal}
+use Rattle.refusals.specs.Refusals.{number_of}
+use Rattle.calendar.specs.declared.Day.{Day}
 use Rattle.calendar.specs.declared.Period.{Period}
-use Rattle.calendar.specs.declared.Period.TheVariants.{Window, Outside as NoWindow}
 
 -- lo ≤ z ≤ hi.
 abbrev pub within : ℤ → ℤ → ℤ → Bool
@@ -55,14 +53,9 @@ is_date y m d =
     && leb (day_of (nat_of y) (nat_of m) (nat_of d)) 39999
 
 -- Document 01's numbers of an answer: the refusal, then the day.
-abbrev pub date_numbers : DateAnswer → List ℤ
-date_numbers (OnDay d) = pos 0 ∷ pos d.0 ∷ []
-date_numbers (Refused r) = pos r ∷ pos 0 ∷ []
-
--- Which case an answer is: its numbers alone do not tell Refused(0) from day 0, so that the contract says this too.
-abbrev pub date_refused : DateAnswer → Bool
-date_refused (OnDay d) = false
-date_refused (Refused r) = true
+abbrev pub date_numbers : Result Day Refusal → List ℤ
+date_numbers (Ok d) = pos 0 ∷ pos d.0 ∷ []
+date_numbers (Err r) = pos (number_of r) ∷ pos 0 ∷ []
 
 -- The date call: any other date gets 2.
 unfoldable pub date_call : ℤ → ℤ → ℤ → List ℤ
@@ -106,10 +99,10 @@ allowable_period hs proposed noChange =
     (business_day_before hs (cond (eqb noChange 1) 4 10) proposed)
 
 -- The answers of the code, as these definitions have them.
-abbrev pub reached_day : Reached → Option ℕ
-reached_day (On d) = some d.0
-reached_day Outside = none
+abbrev pub reached_day : Maybe Day → Option ℕ
+reached_day (Some d) = some d.0
+reached_day None = none
 
-abbrev pub period_days : Period → Option (ℕ × ℕ)
-period_days (Window first last) = some (first.0, last.0)
-period_days NoWindow = none
+abbrev pub period_days : Maybe Period → Option (ℕ × ℕ)
+period_days (Some p) = some (p.first.0, p.last.0)
+period_days None = none

@@ -19,11 +19,10 @@ use Rattle.journal.specs.declared.QueryWord.{QueryWord}
 use Rattle.journal.specs.declared.QueryWord.TheVariants.{Account, Allocate, Date}
 use Rattle.journal.specs.declared.CallWord.{CallWord}
 use Rattle.journal.specs.declared.CallWord.TheVariants as Call·
-use Rattle.calls.specs.declared.Seven.{Seven}
 use Rattle.calls.specs.Calls.{noticed, asked, Left, called}
-use Rattle.calls.specs.InnerCalls.{seven_of, listed}
+use Rattle.calls.specs.InnerCalls.{seven_of}
 
-pub seven_noticed : (n : NoticeWord) (t xs list : List ℤ) → noticed n t (listed (seven_of xs)) list ≡ noticed n t xs list
+pub seven_noticed : (n : NoticeWord) (t xs list : List ℤ) → noticed n t (seven_of xs) list ≡ noticed n t xs list
 seven_noticed Fresh t xs list = refl
 seven_noticed Open t xs list = refl
 seven_noticed Energy t xs list = refl
@@ -32,7 +31,7 @@ seven_noticed (Transfer Request) t xs list = refl
 seven_noticed (Transfer Withdraw) t xs list = refl
 seven_noticed (Transfer Correct) t xs list = refl
 
-pub seven_asked : (q : QueryWord) (t xs : List ℤ) (room : ℕ) → asked q t (listed (seven_of xs)) room ≡ asked q t xs room
+pub seven_asked : (q : QueryWord) (t xs : List ℤ) (room : ℕ) → asked q t (seven_of xs) room ≡ asked q t xs room
 seven_asked Account t xs room = refl
 seven_asked Allocate t xs room = refl
 seven_asked Date t xs room = refl
@@ -54,9 +53,9 @@ after_notice table w = record { result = w.0; register = w.1.0; answer = w.1.1; 
 abbrev after_query : List ℕ → ℤ × (List ℕ × List ℕ) → Left
 after_query register w = record { result = w.0; register = register; answer = w.1.1; table = w.1.0 }
 
-module _ (xs : List ℤ) (seven : Seven) (list register answer table : List ℕ) {w : ℤ × (List ℕ × List ℕ)} (e : seven ≡ seven_of xs) where
-  pub notice_left : {call : CallWord} {n : NoticeWord} → call ≡ Call·.Notice n → w ≡ written (noticed n (table_in register) (listed seven) (numbers_held list)) register answer → called call xs list register answer table ≡ after_notice table w
+module _ (xs : List ℤ) (seven : List ℤ) (list register answer table : List ℕ) {w : ℤ × (List ℕ × List ℕ)} (e : seven ≡ seven_of xs) where
+  pub notice_left : {call : CallWord} {n : NoticeWord} → call ≡ Call·.Notice n → w ≡ written (noticed n (table_in register) seven (numbers_held list)) register answer → called call xs list register answer table ≡ after_notice table w
   notice_left {n = n} t h = rw t (ap (after_notice table) (sym (rw (e, seven_noticed n (table_in register) xs (numbers_held list)) at h)))
 
-  pub query_left : {call : CallWord} {q : QueryWord} → call ≡ Call·.Query q → w ≡ written (asked q (table_in register) (listed seven) (length table / 8)) table answer → called call xs list register answer table ≡ after_query register w
+  pub query_left : {call : CallWord} {q : QueryWord} → call ≡ Call·.Query q → w ≡ written (asked q (table_in register) seven (length table / 8)) table answer → called call xs list register answer table ≡ after_query register w
   query_left {q = q} t h = rw t (ap (after_query register) (sym (rw (e, seven_asked q (table_in register) xs (length table / 8)) at h)))

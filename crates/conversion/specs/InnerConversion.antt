@@ -1,18 +1,17 @@
 -- The words of the inner contracts: when a register is copied into the second table, and what is.
-use Rattle.std.specs.Prelude.{◌≡◌, true, false, List, ℕ, zero, suc, ◌≤◌, ℤ, length}
+use Rattle.std.specs.Prelude.{◌≡◌, false, List, ℕ, zero, suc, ◌≤◌, ℤ, length}
 use Rattle.daybook.specs.declared.Edition.{Edition}
 use Rattle.daybook.specs.Editions.{no_room}
 use Rattle.lists.specs.Lists.{Lists, book_facts, with_facts}
-use Rattle.layout.specs.Layout.{table_length, Fits, part_of, point_numbers, point_from, table_book}
-use Rattle.layout.specs.Sound.{sound}
+use Rattle.layout.specs.Layout.{table_length, Fits, part_of, point_numbers, point_from}
 use Rattle.layout.specs.InnerWrites.{with_part}
+use Rattle.table.specs.declared.register.Register.{Register}
+use Rattle.table.specs.Registers.{book}
 
--- A sound table t of the edition ed, another edition that has room for its book, and a second table for a register.
-pub record Convertible (ed to : Edition) (t second : List ℤ) : Type 0 where
-  pub own : Fits ed
+-- A register, an edition that has room for its book, and a second table for it.
+pub record Convertible (r : Register) (to : Edition) (second : List ℤ) : Type 0 where
   pub other : Fits to
-  pub is_sound : sound ed t ≡ true
-  pub room : no_room to (table_book ed t) ≡ false
+  pub room : no_room to (book r) ≡ false
   pub long : table_length ≤ length second
 
 -- A point's part p with room for so many records, its operator named.

@@ -1,10 +1,13 @@
 -- The correct call: the row of its numbers, and what it does once it has been told where its point is. Assumes nothing.
-use mathlib.Core.Path.{◌≡◌, refl, sym, ap, ap₂}
+use mathlib.Core.Path.{◌≡◌, refl, sym, ap}
 use mathlib.Core.Bool.{Bool, true, false, not, ◌&&◌}
 use mathlib.Core.List.{List, [], ◌∷◌}
 use Prim.Native.Nat.{ℕ}
 use lib.IntN.{ℤ, pos}
 use lib.ListN.{replicate}
+use Rattle.std.specs.Prelude.{Err}
+use Rattle.refusals.specs.declared.Refusal.{Refusal}
+use Rattle.refusals.specs.Refusals.{number_of}
 use Rattle.numbers.specs.Naturals.{nat_of}
 use Rattle.calendar.specs.Calendar.{is_day}
 use Rattle.daybook.specs.declared.Edition.{Edition}
@@ -21,7 +24,9 @@ use Rattle.layout.specs.Calls.{on_edition}
 use Rattle.layout.proofs.Numbers.{few}
 use Rattle.layout.proofs.TableSound.{sound_lays}
 use Rattle.table.proofs.Laws.{lent, back_in}
-use Rattle.table.proofs.Locating.{PartFound, SentBack}
+use Rattle.table.specs.InnerTable.{sound_edition}
+use Rattle.table.proofs.Locating.{PartFound, SentBack, not_sound}
+use Rattle.table.proofs.Calls.{call_unsound, gives}
 use Rattle.table.proofs.OnPart.{CallOn, call_back, call_done}
 use Rattle.correction.specs.Correction.{correct_call}
 use Rattle.correction.specs.InnerParts.{correct_rows_of, correct_part}
@@ -31,11 +36,6 @@ use Rattle.correction.specs.InnerParts.{correct_rows_of, correct_part}
 module _ (n : Correction) where
   abbrev pub in_range : Bool
   in_range = is_mirn n.mirn && is_user n.user && is_day n.day && is_day n.notice
-
-  pub range_read : {a b c d : Bool} → a ≡ is_mirn n.mirn → b ≡ is_user n.user → c ≡ is_day n.day
-      → d ≡ is_day n.notice
-      → (a && b && c && d) ≡ in_range
-  range_read a b c d = ap₂ ◌&&◌ (ap₂ ◌&&◌ (ap₂ ◌&&◌ a b) c) d
 
   pub correction_passed : in_range ≡ true → 0 ≡ least (correct_early n)
   unfolding correct_early least
@@ -85,3 +85,10 @@ module _ (ed : Edition) (fits : Fits ed) (t : List ℤ) (g : ed ≡ edition_of t
   unfolding correct_part
   correct_done h x p d =
       let f = call_done ed fits t call (correct_call editions t n) whole e is h x p (d.0, d.1, refl) in (f.0, f.1)
+
+-- from an unsound table
+pub correct_unsound : (t : List ℤ) (n : Correction) (e : Refusal) → Err e ≡ sound_edition t
+    → (pos (number_of e) ∷ replicate 16 (pos 0) ≡ (correct_call editions t n).0) × (t ≡ (correct_call editions t n).1)
+unfolding correct_call
+correct_unsound t n e h =
+    let w = not_sound t h in rw w.0 (gives (call_unsound 16 (correct n) (edition_of t) t w.1))

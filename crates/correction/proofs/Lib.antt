@@ -1,3 +1,4 @@
 pub mod Walks
 pub mod Points
 pub mod Calls
+pub mod Made

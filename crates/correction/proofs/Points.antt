@@ -9,6 +9,9 @@ use lib.Dec.{leb, ltb, eqb}
 use lib.ListN.{length, get_or, drop, replicate, take-append-drop}
 use lib.IntN.{ℤ, pos}
 use borrow.Author.Tests.{leb-true, le-leb, eq-eqb, ne_eqb}
+use Rattle.refusals.specs.declared.Refusal.{Refusal}
+use Rattle.refusals.specs.Refusals.{number_of}
+use Rattle.refusals.proofs.Numbers.{number_within}
 use Rattle.numbers.specs.Search.{is_some}
 use Rattle.numbers.proofs.Bools.{both, iff}
 use Rattle.daybook.specs.Book.{Pending, with_fro, with_pending}
@@ -138,31 +141,38 @@ module _ {p : List ℤ} (s : SoundPart p) (user day : ℕ) (low : 1 ≤ user) (h
         go true e = rw (same_is e, many_is e)
         go false e = refl
 
-    -- by the places of the part
-    pub rows_read : {outside same many : Bool} → outside ≡ not (permitted (num_at p 2) notice day)
-        → same ≡ (leb (num_at p (16 + 2 * (num_at p 4 - 1))) day && eqb (num_at p (16 + 2 * (num_at p 4 - 1) + 1)) user)
-        → many ≡ too_many
-        → least (correct_rows outside same many) ≡ least (correct_rows_at user day notice (point_of q))
+    -- by the places of the part: install, and the start and the User of the last of n registrations
+    pub rows_read : {install n start own most left : ℕ} {in_period : Bool} → install ≡ num_at p 2 → n ≡ num_at p 4
+        → in_period ≡ permitted install notice day
+        → start ≡ num_at p (16 + 2 * (n - 1)) → own ≡ num_at p (16 + 2 * (n - 1) + 1)
+        → most ≡ cond (is_some (others_request user q.pending)) 7 8 → left ≡ length (user_from day user q.regs)
+        → cond (not in_period) 20 (cond (leb start day && eqb own user) 21 (cond (ltb most left) 16 0))
+        ≡ least (correct_rows_at user day notice (point_of q))
     unfolding point_from
-    rows_read a b c =
+    rows_read i k a b c d e =
         let some : 1 ≤ num_at p 4 = s.some_regs in
         let last : latest_of q.regs ≡ get_or q.regs (num_at p 4 - 1) (0, 0) =
         latest_at q.regs (num_at p 4 - 1) (omega (arith, count_is_lem s)) in
         let at : num_at p 4 - 1 < 8 = omega (arith, s.few_regs) in
         let start = start_at s (num_at p 4 - 1) at ∙ ap (λ (x : ℕ × ℕ). x.0) (sym last) in
         let own = user_at s (num_at p 4 - 1) at ∙ ap (λ (x : ℕ × ℕ). x.1) (sym last) in
-        rw (a, b ∙ ap₂ (λ x u. leb x day && eqb u user) start own, c) row_is
+        rw (a, b, c, d, e, i, k, start, own) (sym (in_order _ _ _) ∙ row_is)
 
   -- ---- where no row applies
 
   -- the flags, by days and by registrations
   pub flags_are : q.facts.install ≤ day
-      → map pos (map (λ w. cond (loses_day user day q.regs w) 1 0) users) ≡ (correct_at user day (point_of q)).0
+      → map (λ a. cond a (pos 1) (pos 0)) (map (loses_day user day q.regs) users) ≡ (correct_at user day (point_of q)).0
   unfolding correct_at flags corrected with_fro with_pending point_of
   flags_are h =
-      map-map pos (λ w. cond (loses_day user day q.regs w) 1 0) users
-      ∙ ap (λ f. map (λ w. pos (cond (f w) 1 0)) users)
-      (fun_ext (λ v. sym (affected_is w.regs_ok w.regs_start day user v h (omega arith))))
+      map-map (λ a. cond a (pos 1) (pos 0)) (loses_day user day q.regs) users
+      ∙ ap (λ f. map f users)
+      (fun_ext (λ v. marked (loses_day user day q.regs v)
+      ∙ ap (λ b. pos (cond b 1 0)) (sym (affected_is w.regs_ok w.regs_start day user v h (omega arith)))))
+    where
+      marked : (b : Bool) → cond b (pos 1) (pos 0) ≡ pos (cond b 1 0)
+      marked true = refl
+      marked false = refl
 
   module _ (notice : ℕ) (e : least (correct_rows_at user day notice (point_of q)) ≡ 0) where
     pub from_install : q.facts.install ≤ day
@@ -228,18 +238,26 @@ module _ {p : List ℤ} (s : SoundPart p) (user day : ℕ) (low : 1 ≤ user) (h
   -- ---- the call on the part
 
   module _ (notice : ℕ) where
-    pub part_back : (row : ℕ) → row ≡ least (correct_rows_at user day notice (point_of q)) → (row ≡ 0 → ⊥)
-        → (pos row ∷ replicate 16 (pos 0) ≡ (correct_part user day notice p).0) × (p ≡ (correct_part user day notice p).1)
+    pub part_back : (e : Refusal) → number_of e ≡ least (correct_rows_at user day notice (point_of q))
+        → (pos (number_of e) ∷ replicate 16 (pos 0) ≡ (correct_part user day notice p).0)
+        × (p ≡ (correct_part user day notice p).1)
     unfolding correct_part
-    part_back zero e n = absurd (n refl)
-    part_back (suc r) e n =
-        gives (part_refused 16 (correct_rows_of user day notice) (correct_lists_at user day) p r (sym e))
+    part_back e h = go (number_of e) refl
+      where
+        go : (r : ℕ) → number_of e ≡ r
+            → (pos r ∷ replicate 16 (pos 0) ≡ (correct_part user day notice p).0) × (p ≡ (correct_part user day notice p).1)
+        go zero z = absurd (omega (arith, z, number_within e))
+        go (suc r) z =
+            gives (part_refused 16 (correct_rows_of user day notice) (correct_lists_at user day) p r (sym h ∙ z))
 
     pub part_done : least (correct_rows_at user day notice (point_of q)) ≡ 0
-        → (marks : List ℕ) → marks ≡ map (λ w. cond (loses_day user day q.regs w) 1 0) users
+        → (marks : List Bool) → marks ≡ map (loses_day user day q.regs) users
         → (p' : List ℤ) → p' ≡ point_numbers (room_of p) (corrected_lists user day q)
-        → (pos 0 ∷ map pos marks ≡ (correct_part user day notice p).0) × (p' ≡ (correct_part user day notice p).1)
+        → (pos 0 ∷ map (λ a. cond a (pos 1) (pos 0)) marks ≡ (correct_part user day notice p).0)
+        × (p' ≡ (correct_part user day notice p).1)
     unfolding correct_part correct_lists_at
     part_done e marks f p' g =
-        let h = gives (part_entered 16 (correct_rows_of user day notice) (correct_lists_at user day) p e) in
-        (ap (λ l. pos 0 ∷ l) (ap (map pos) f ∙ flags_are (from_install notice e)) ∙ h.0, g ∙ h.1)
+        let h = gives (part_entered 16 (correct_rows_of user day notice) (correct_lists_at user day) p e) in (
+          ap (λ l. pos 0 ∷ l) (ap (map (λ a. cond a (pos 1) (pos 0))) f ∙ flags_are (from_install notice e)) ∙ h.0,
+          g ∙ h.1,
+        )

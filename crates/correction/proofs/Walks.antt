@@ -1,14 +1,20 @@
 -- A part's registrations by index, as the code walks them. Assumes nothing.
-use mathlib.Core.Path.{◌≡◌, refl, sym, ◌∙◌, ap}
-use mathlib.Core.Bool.{Bool, true, false, ◌&&◌, cond}
+use mathlib.Core.Path.{◌≡◌, refl, sym, ◌∙◌, ap, subst}
+use mathlib.Core.Bool.{Bool, true, false, ◌&&◌, ◌||◌, cond}
 use mathlib.Core.List.{List, [], ◌∷◌, ◌++◌}
-use Prim.Native.Nat.{ℕ, suc, ◌+◌, ◌-◌, ◌*◌, ◌≤◌, ◌<◌}
+use Prim.Native.Nat.{ℕ, zero, suc, ◌+◌, ◌-◌, ◌*◌, ◌≤◌, ◌<◌}
 use native.Mathlib.Omega.{arith}
 use native.Mathlib.Numerals.{add-one}
 use lib.Dec.{ltb, eqb}
 use lib.ListN.{length, get_or, take, drop, drop_of_length-le, length-append}
 use lib.Seq.{take-suc, drop-cons}
 use lib.IntN.{ℤ}
+use Rattle.std.specs.Prelude.{Option, Some, None, MatchOption}
+use Rattle.std.specs.Bool.{MatchBool}
+use Rattle.std.specs.Option.{unwrap_or}
+use Rattle.std.specs.List.{range_with_len, HoldsAt, AllWithin}
+use Rattle.std.proofs.Common.{zero-add}
+use Rattle.std.proofs.lemmas.List.FromFn.{length-range_with_len, get_or-range_with_len}
 use borrow.Author.Tests.{ne_eqb, lt-ltb, le-ltb}
 use Rattle.daybook.specs.Book.{last_of}
 use Rattle.lists.specs.Lists.{next_after}
@@ -36,19 +42,14 @@ module _ {p : List ℤ} (s : SoundPart p) where
 -- ---- the registrations that start before day d
 
 module _ (d : ℕ) where
-  pub started_here : (l : List (ℕ × ℕ)) (k : ℕ) → k < length l → d ≤ (get_or l k no_reg).0
-      → length (earlier start_of d (drop k l)) ≡ 0
+  started_is : (l : List (ℕ × ℕ)) (k : ℕ) → k ≤ length l → ((j : ℕ) → j < k → (get_or l j no_reg).0 < d)
+      → (k < length l → d ≤ (get_or l k no_reg).0) → k ≡ length (earlier start_of d l)
   unfolding earlier
-  started_here l k h e = rw (drop-cons l k no_reg h, le-ltb (get_or l k no_reg).0 d e)
-
-  pub started_more : (l : List (ℕ × ℕ)) (k : ℕ) → k < length l → (get_or l k no_reg).0 < d
-      → length (earlier start_of d (drop k l)) ≡ suc (length (earlier start_of d (drop (k + 1) l)))
-  unfolding earlier
-  started_more l k h e = rw (drop-cons l k no_reg h, lt-ltb (get_or l k no_reg).0 d e, add-one k)
-
-  pub started_all : (l : List (ℕ × ℕ)) (k : ℕ) → length l ≤ k → length (earlier start_of d (drop k l)) ≡ 0
-  unfolding earlier
-  started_all l k h = rw (drop_of_length-le l h)
+  started_is [] k h before at = omega arith
+  started_is (x ∷ l) zero h before at = rw (le-ltb x.0 d (at (omega arith)))
+  started_is (x ∷ l) (suc k) h before at =
+      rw (lt-ltb x.0 d (before 0 (omega arith)))
+      (ap suc (started_is l k (omega arith) (λ j e. before (suc j) (omega arith)) (λ e. at (omega arith))))
 
   -- they are the first of the list
   pub earlier_first : (l : List (ℕ × ℕ)) → take (length (earlier start_of d l)) l ≡ earlier start_of d l
@@ -95,23 +96,24 @@ module _ (d u : ℕ) (l : List (ℕ × ℕ)) where
 
 -- ---- a User who has a day from d on
 
-module _ (test : ℕ → Bool) (d : ℕ) (l : List (ℕ × ℕ)) (k : ℕ) where
-  cut : k < length l → drop k l ≡ get_or l k no_reg ∷ drop (k + 1) l
-  cut h = rw (add-one k) (drop-cons l k no_reg h)
+module _ (test : ℕ → Bool) (d : ℕ) where
+  abbrev Has : List (ℕ × ℕ) → Bool → ℕ → Type 0
+  Has l b k = (next_after d (drop (suc k) l) && test (get_or l k no_reg).1) ≡ b
 
-  pub some_here : k < length l → (next_after d (drop (k + 1) l) && test (get_or l k no_reg).1) ≡ true
-      → some_user test d (drop k l) ≡ true
+  some_one : (l : List (ℕ × ℕ)) (k : ℕ) → k < length l → Has l true k → some_user test d l ≡ true
   unfolding some_user
-  some_here h e = rw (cut h, e)
+  some_one [] k h e = absurd (omega arith)
+  some_one (x ∷ l) zero h e = rw e
+  some_one (x ∷ l) (suc k) h e = go (next_after d l && test x.1) (some_one l k (omega arith) e)
+    where
+      go : (b : Bool) → some_user test d l ≡ true → (b || some_user test d l) ≡ true
+      go true e = refl
+      go false e = e
 
-  pub some_later : k < length l → (next_after d (drop (k + 1) l) && test (get_or l k no_reg).1) ≡ false
-      → some_user test d (drop k l) ≡ some_user test d (drop (k + 1) l)
+  some_none : (l : List (ℕ × ℕ)) → ((k : ℕ) → k < length l → Has l false k) → some_user test d l ≡ false
   unfolding some_user
-  some_later h e = rw (cut h, e)
-
-  pub some_none : length l ≤ k → some_user test d (drop k l) ≡ false
-  unfolding some_user
-  some_none h = rw (drop_of_length-le l h)
+  some_none [] h = refl
+  some_none (x ∷ l) h = rw (h 0 (omega arith)) (some_none l (λ k e. h (suc k) (omega arith)))
 
 -- the next registration
 pub next_none : (d : ℕ) (l : List (ℕ × ℕ)) (k : ℕ) → length l ≤ k → next_after d (drop k l) ≡ true
@@ -119,3 +121,53 @@ next_none d l k h = rw (drop_of_length-le l h)
 
 pub next_at : (d : ℕ) (l : List (ℕ × ℕ)) (k : ℕ) → k < length l → next_after d (drop k l) ≡ ltb d (get_or l k no_reg).0
 next_at d l k h = rw (drop-cons l k no_reg h)
+
+-- ---- what the searches of all registrations find
+
+module _ {p : List ℤ} (s : SoundPart p) (d n : ℕ) (e : n ≡ num_at p 4) where
+  rows_are : n ≡ length (point_from p).regs
+  rows_are = e ∙ count_is_lem s
+
+  low : (k : ℕ) → k < n → k < 8
+  low k h = omega (arith, few (part_well s), rows_are)
+
+  abbrev pub StartsBy : ℕ → Type 0
+  StartsBy k = d ≤ num_at p (16 + 2 * k)
+
+  started : (k : ℕ) → k ≤ n → ((j : ℕ) → j < k → StartsBy j → ⊥) → (k < n → StartsBy k)
+      → k ≡ length (earlier start_of d (point_from p).regs)
+  started k h before at =
+      started_is d (point_from p).regs k (omega (arith, rows_are))
+      (λ j l. omega (arith, before j l, start_at s j (low j (omega arith))))
+      (λ l. omega (arith, at (omega (arith, rows_are)), start_at s k (low k (omega (arith, rows_are)))))
+
+  pub started_found : (r : Option ℕ)
+      → MatchOption r ((k : ℕ) → 0 ≤ k → k < n → StartsBy k → ⊥)
+      (λ k. (0 ≤ k) × (k < n) × StartsBy k × ((j : ℕ) → 0 ≤ j → j < k → StartsBy j → ⊥))
+      → (unwrap_or r n ≡ length (earlier start_of d (point_from p).regs)) × (unwrap_or r n ≤ num_at p 4)
+  started_found None before =
+      (started n (omega arith) (λ j h. before j (omega arith) h) (λ h. absurd (omega arith)), omega arith)
+  started_found (Some k) f =
+      (started k (omega (arith, f.1)) (λ j h. f.3 j (omega arith) h) (λ h. f.2), omega (arith, f.1))
+
+  abbrev pub HasDay : ℕ → Bool → ℕ → Type 0
+  HasDay user b k = (next_after d (drop (k + 1) (point_from p).regs) && eqb user (num_at p (16 + 2 * k + 1))) ≡ b
+
+  has : (user k : ℕ) (b : Bool) → k < n → HasDay user b (get_or (range_with_len 0 n) k 0)
+      → Has (eqb user) d (point_from p).regs b k
+  has user k b h f =
+      let at : get_or (range_with_len 0 n) k 0 ≡ k = get_or-range_with_len 0 n k 0 h ∙ zero-add k in
+      rw (← add-one k, ← user_at s k (low k h)) (subst (HasDay user b) at f)
+
+  pub has_found : (user : ℕ) (r : Bool)
+      → MatchBool r
+      ((k : ℕ) × (k < length (range_with_len 0 n)) × HoldsAt (HasDay user true) (range_with_len 0 n) k)
+      (AllWithin (HasDay user false) (range_with_len 0 n) 0 (length (range_with_len 0 n)))
+      → r ≡ some_user (eqb user) d (point_from p).regs
+  has_found user true (k, h, f) =
+      let low : k < n = omega (arith, length-range_with_len 0 n) in
+      sym (some_one (eqb user) d (point_from p).regs k (omega (arith, rows_are)) (has user k true low (f 0)))
+  has_found user false f =
+      sym (some_none (eqb user) d (point_from p).regs
+      (λ k h. let low : k < n = omega (arith, rows_are) in
+      has user k false low (f k 0 (omega arith) (omega (arith, length-range_with_len 0 n)))))

@@ -1,5 +1,6 @@
 -- The bits of an answer's numbers, filled in one a turn: those in front, then the rest. Assumes nothing.
 use mathlib.Core.Path.{◌≡◌, refl, sym, ap, ◌∙◌}
+use mathlib.Core.Bool.{Bool, true, false, cond}
 use mathlib.Core.Logic.{⊎_elim}
 use mathlib.Core.List.{List, [], ◌∷◌, ◌++◌, map}
 use Prim.Native.Nat.{ℕ, suc, ◌+◌, ◌<◌}
@@ -7,6 +8,7 @@ use native.Mathlib.Nat.{eq-or-lt_of_le}
 use native.Mathlib.Omega.{arith}
 use lib.ListN.{length, get_or, set, get_or-append}
 use lib.IntN.{pos}
+use mir.Val.{bool_byte}
 use Rattle.words.specs.Words.{bits_of}
 use lib.Seq.{ext_get_or, get_or-set_same, get_or-set_other}
 
@@ -21,9 +23,6 @@ module _ (front rest : List ℕ) where
   abbrev pub Filled : ℕ → List ℕ → Type 0
   Filled n l = (i : ℕ) → i < n → get_or l i 0 ≡ get_or (front ++ rest) i 0
 
-  pub filled_front : (l : List ℕ) → Filled (length front) (front ++ l)
-  filled_front l i m = get_or-append front l 0 i m ∙ sym (get_or-append front rest 0 i m)
-
   -- one more of the rest, at its index behind those in front
   pub filled_more : (l : List ℕ) (k n n' b : ℕ) → n ≡ length front + k → n' ≡ n + 1 → n < length l → Filled n l
       → b ≡ get_or rest k 0 → Filled n' (set l n b)
@@ -36,7 +35,8 @@ module _ (front rest : List ℕ) where
   pub filled_all : (l : List ℕ) → length l ≡ length (front ++ rest) → Filled (length l) l → l ≡ front ++ rest
   filled_all l e f = ext_get_or 0 l (front ++ rest) e f
 
--- Naturals have their own bits.
-pub naturals_back : (l : List ℕ) → bits_of (map pos l) ≡ l
-naturals_back [] = refl
-naturals_back (x ∷ l) = ap (λ m. x ∷ m) (naturals_back l)
+-- Flags have their own bits.
+pub flags_back : (l : List Bool) → map bool_byte l ≡ bits_of (map (λ (a : Bool). cond a (pos 1) (pos 0)) l)
+flags_back [] = refl
+flags_back (true ∷ l) = ap (λ m. 1 ∷ m) (flags_back l)
+flags_back (false ∷ l) = ap (λ m. 0 ∷ m) (flags_back l)

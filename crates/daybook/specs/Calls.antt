@@ -1,8 +1,11 @@
 -- Document 01's numbers for each answer of the code, and lists of calls, from state to state.
-use Rattle.std.specs.Prelude.{Bool, true, false, not, List, [], ◌∷◌, map, ℕ, ℤ, pos, length, replicate}
+use Rattle.std.specs.Prelude.{Bool, not, cond, Result, Ok, Err, ⊤, List, [], ◌∷◌, map, ℕ, ℤ, pos, length, replicate}
 use mathlib.Core.Option.{Option, some}
+use Rattle.refusals.specs.declared.Refusal.{Refusal}
+use Rattle.refusals.specs.Refusals.{number_of}
 use Rattle.numbers.specs.Naturals.{nat_of}
 use Rattle.numbers.specs.Search.{maybe, is_some}
+use Rattle.calendar.specs.declared.Period.{Period}
 use Rattle.daybook.specs.declared.NewRegister.{NewRegister}
 use Rattle.daybook.specs.declared.Opening.{Opening}
 use Rattle.daybook.specs.declared.EnergyNotice.{EnergyNotice}
@@ -12,18 +15,11 @@ use Rattle.daybook.specs.declared.Withdrawal.{Withdrawal}
 use Rattle.daybook.specs.declared.Correction.{Correction}
 use Rattle.daybook.specs.declared.AccountQuery.{AccountQuery}
 use Rattle.daybook.specs.declared.AllocationQuery.{AllocationQuery}
-use Rattle.daybook.specs.declared.NoticeAnswer.{NoticeAnswer}
-use Rattle.daybook.specs.declared.NoticeAnswer.TheVariants as Notice·
-use Rattle.daybook.specs.declared.EnergyAnswer.{EnergyAnswer}
-use Rattle.daybook.specs.declared.EnergyAnswer.TheVariants as Energy
-use Rattle.daybook.specs.declared.RequestAnswer.{RequestAnswer}
-use Rattle.daybook.specs.declared.RequestAnswer.TheVariants as Request
-use Rattle.daybook.specs.declared.CorrectionAnswer.{CorrectionAnswer}
-use Rattle.daybook.specs.declared.AccountAnswer.{AccountAnswer}
-use Rattle.daybook.specs.declared.AccountAnswer.TheVariants as Account
-use Rattle.daybook.specs.declared.AllocationAnswer.{AllocationAnswer}
-use Rattle.daybook.specs.declared.TrialAnswer.{TrialAnswer}
-use Rattle.daybook.specs.declared.TrialAnswer.TheVariants as Trial
+use Rattle.daybook.specs.declared.Settlement.TheVariants.{Registered, Lapsed, Unsettled}
+use Rattle.daybook.specs.declared.EnergyEntry.{EnergyEntry}
+use Rattle.daybook.specs.declared.EnergyEntry.TheVariants.{Append, Replacement, Recut}
+use Rattle.daybook.specs.declared.Allocation.{Allocation}
+use Rattle.daybook.specs.declared.TrialCounts.{TrialCounts}
 use Rattle.daybook.specs.declared.Edition.{Edition}
 use Rattle.daybook.specs.Book.{Book}
 use Rattle.daybook.specs.Notices.{least, Numbers, decide, fresh_rows, fresh_book, opening, energy, status, request, withdraw}
@@ -35,54 +31,42 @@ use Rattle.daybook.specs.Trials.{trial}
 
 -- ---- the numbers of an answer: the refusal first, then the fields, every one 0 on a refusal
 
-abbrev pub notice_numbers : NoticeAnswer → Numbers
-notice_numbers Notice·.Entered = pos 0 ∷ []
-notice_numbers (Notice·.Refused r) = pos r ∷ []
+abbrev pub notice_numbers : Result ⊤ Refusal → Numbers
+notice_numbers (Ok u) = pos 0 ∷ []
+notice_numbers (Err r) = pos (number_of r) ∷ []
 
-abbrev pub energy_numbers : EnergyAnswer → Numbers
-energy_numbers (Energy.Entered which removed user lapsed) = pos 0 ∷ pos which ∷ pos removed ∷ pos user ∷ pos lapsed ∷ []
-energy_numbers (Energy.Refused r) = pos r ∷ replicate 4 (pos 0)
+-- An append is 1, a replacement 2 and a recut 3; then how many records were removed, the User that was registered or 0,
+-- and whether a request lapsed.
+abbrev pub energy_fields : EnergyEntry → Numbers
+energy_fields (Append (Registered user)) = pos 1 ∷ pos 0 ∷ pos user ∷ pos 0 ∷ []
+energy_fields (Append Lapsed) = pos 1 ∷ pos 0 ∷ pos 0 ∷ pos 1 ∷ []
+energy_fields (Append Unsettled) = pos 1 ∷ pos 0 ∷ pos 0 ∷ pos 0 ∷ []
+energy_fields Replacement = pos 2 ∷ pos 0 ∷ pos 0 ∷ pos 0 ∷ []
+energy_fields (Recut removed) = pos 3 ∷ pos removed ∷ pos 0 ∷ pos 0 ∷ []
 
-abbrev pub request_numbers : RequestAnswer → Numbers
-request_numbers (Request.Entered first last) = pos 0 ∷ pos first.0 ∷ pos last.0 ∷ []
-request_numbers (Request.Refused r) = pos r ∷ replicate 2 (pos 0)
+abbrev pub energy_numbers : Result EnergyEntry Refusal → Numbers
+energy_numbers (Ok e) = pos 0 ∷ energy_fields e
+energy_numbers (Err r) = pos (number_of r) ∷ replicate 4 (pos 0)
 
-abbrev pub correction_numbers : CorrectionAnswer → Numbers
-correction_numbers a = pos a.refusal ∷ map pos a.flags
+abbrev pub request_numbers : Result Period Refusal → Numbers
+request_numbers (Ok p) = pos 0 ∷ pos p.first.0 ∷ pos p.last.0 ∷ []
+request_numbers (Err r) = pos (number_of r) ∷ replicate 2 (pos 0)
 
-abbrev pub account_numbers : AccountAnswer → Numbers
-account_numbers (Account.Given sum) = pos 0 ∷ sum ∷ []
-account_numbers (Account.Refused r) = pos r ∷ pos 0 ∷ []
+abbrev pub correction_numbers : Result (List Bool) Refusal → Numbers
+correction_numbers (Ok affected) = pos 0 ∷ map (λ a. cond a (pos 1) (pos 0)) affected
+correction_numbers (Err r) = pos (number_of r) ∷ replicate 16 (pos 0)
 
-abbrev pub allocation_numbers : AllocationAnswer → Numbers
-allocation_numbers a = pos a.refusal ∷ a.nsl ∷ a.totals
+abbrev pub account_numbers : Result ℤ Refusal → Numbers
+account_numbers (Ok sum) = pos 0 ∷ sum ∷ []
+account_numbers (Err r) = pos (number_of r) ∷ pos 0 ∷ []
 
-abbrev pub trial_numbers : TrialAnswer → Numbers
-trial_numbers (Trial.Given most removed) = pos 0 ∷ pos most ∷ pos removed ∷ []
-trial_numbers (Trial.Refused r) = pos r ∷ replicate 2 (pos 0)
+abbrev pub allocation_numbers : Result Allocation Refusal → Numbers
+allocation_numbers (Ok a) = pos 0 ∷ a.nsl ∷ a.totals
+allocation_numbers (Err r) = pos (number_of r) ∷ replicate 17 (pos 0)
 
--- ---- which case an answer is: its numbers alone do not tell Refused(0) from an answer without a refusal, so that a
--- contract says this too
-
-abbrev pub notice_refused : NoticeAnswer → Bool
-notice_refused Notice·.Entered = false
-notice_refused (Notice·.Refused r) = true
-
-abbrev pub energy_refused : EnergyAnswer → Bool
-energy_refused (Energy.Entered which removed user lapsed) = false
-energy_refused (Energy.Refused r) = true
-
-abbrev pub request_refused : RequestAnswer → Bool
-request_refused (Request.Entered first last) = false
-request_refused (Request.Refused r) = true
-
-abbrev pub account_refused : AccountAnswer → Bool
-account_refused (Account.Given sum) = false
-account_refused (Account.Refused r) = true
-
-abbrev pub trial_refused : TrialAnswer → Bool
-trial_refused (Trial.Given most removed) = false
-trial_refused (Trial.Refused r) = true
+abbrev pub trial_numbers : Result TrialCounts Refusal → Numbers
+trial_numbers (Ok c) = pos 0 ∷ pos c.most ∷ pos c.removed ∷ []
+trial_numbers (Err r) = pos (number_of r) ∷ replicate 2 (pos 0)
 
 -- ---- calls
 

@@ -1,6 +1,6 @@
-// The numbers of each call, in document 01's order, and its answer. Numbers come in by value, as any i64; an answer is
-// an enum, so that a refusal carries no field. Those of allocate and correct hold an array and so are structs.
-// And the tests of these numbers (that of a day is calendar's), and each answer as document 01's numbers.
+// The numbers of each call, in document 01's order, and what it answers where it is not refused. Numbers come in by
+// value, as any i64. And the tests of these numbers (that of a day is calendar's), and each answer as document 01's
+// numbers.
 #![tactic(auto)]
 
 ghost use Rattle.std.specs.Prelude.{◌≡◌};
@@ -10,7 +10,8 @@ ghost use Rattle.daybook.specs.Notices.{is_mirn, is_user, is_flag, is_range, is_
 ghost use Rattle.daybook.specs.States.{is_state};
 ghost use Rattle.daybook.specs.Calls.{notice_numbers, energy_numbers, request_numbers, correction_numbers, account_numbers, allocation_numbers, trial_numbers};
 
-use calendar::{DateAnswer, Day};
+use calendar::{Day, Period};
+use refusals::Refusal;
 
 // Beside the book stands the edition of the table: its number, how many points it holds, how many records of each, and
 // how many points it reserves for each operator (document 02, g and k).
@@ -44,6 +45,8 @@ pub struct Opening {
 }
 
 // What an opening says once and for all. The kind is 0 non-daily or 1 daily metered; the base load is MJ a day.
+// Kind, section and operator stay numbers: a part's facts are read before they are tested; facts_sound says which are
+// right.
 #[derive(Clone, Copy)]
 pub struct Facts {
     pub mirn: u64,
@@ -113,47 +116,25 @@ pub struct AllocationQuery {
     pub clp: i64,
 }
 
-// Of fresh, open, status, withdraw, save, restore and convert, which answer with no field.
-#[derive(Clone, Copy)]
-pub enum NoticeAnswer {
-    Entered,
-    Refused(u64),
+// What became of a pending request, once an append stands.
+#[derive(Clone, Copy, Debug, PartialEq, Eq)]
+pub enum Settlement {
+    Registered(u64),
+    Lapsed,
+    Unsettled,
 }
 
-#[derive(Clone, Copy)]
-pub enum EnergyAnswer {
-    Entered {
-        which: u64,
-        removed: u64,
-        user: u64,
-        lapsed: u64,
-    },
-    Refused(u64),
+// What an energy notice was: an append, which may settle a request, a replacement, or a recut, which removes records.
+#[derive(Clone, Copy, Debug, PartialEq, Eq)]
+pub enum EnergyEntry {
+    Append(Settlement),
+    Replacement,
+    Recut { removed: u64 },
 }
 
+// The net section load and the sixteen Users' totals.
 #[derive(Clone, Copy)]
-pub enum RequestAnswer {
-    Entered { first: Day, last: Day },
-    Refused(u64),
-}
-
-// With a refusal of 0 the flags of the sixteen Users, 1 for one who is affected; else zeros.
-#[derive(Clone, Copy)]
-pub struct CorrectionAnswer {
-    pub refusal: u64,
-    pub flags: [u64; 16],
-}
-
-#[derive(Clone, Copy)]
-pub enum AccountAnswer {
-    Given(i64),
-    Refused(u64),
-}
-
-// With a refusal of 0 the net section load and the sixteen Users' totals; else zeros.
-#[derive(Clone, Copy)]
-pub struct AllocationAnswer {
-    pub refusal: u64,
+pub struct Allocation {
     pub nsl: i64,
     pub totals: [i64; 16],
 }
@@ -161,136 +142,139 @@ pub struct AllocationAnswer {
 // Of a trial: the largest number of records that any point would hold on the way, and how many would be removed in all
 // (document 02, i).
 #[derive(Clone, Copy)]
-pub enum TrialAnswer {
-    Given { most: u64, removed: u64 },
-    Refused(u64),
+pub struct TrialCounts {
+    pub most: u64,
+    pub removed: u64,
 }
 
 pub fn is_mirn(x: i64) -> bool
     ensures { result ≡ is_mirn x }
 {
-    (1 <= x) & (x <= 9999999999)
+    (1..=9999999999).contains(&x)
 }
 
 pub fn is_user(x: i64) -> bool
     ensures { result ≡ is_user x }
 {
-    (1 <= x) & (x <= 16)
+    (1..=16).contains(&x)
 }
 
 pub fn is_flag(x: i64) -> bool
     ensures { result ≡ is_flag x }
 {
-    (0 <= x) & (x <= 1)
+    (0..=1).contains(&x)
 }
 
 // A validation range, -1 for none.
 pub fn is_range(x: i64) -> bool
     ensures { result ≡ is_range x }
 {
-    (-1 <= x) & (x <= 1000000)
+    (-1..=1000000).contains(&x)
 }
 
 // The number of an edition.
 pub fn is_edition(x: i64) -> bool
     ensures { result ≡ is_edition x }
 {
-    (0 <= x) & (x <= 1)
+    (0..=1).contains(&x)
 }
 
 // A state number.
 pub fn is_state(x: i64) -> bool
     ensures { result ≡ is_state x }
 {
-    (1 <= x) & (x <= 4)
+    (1..=4).contains(&x)
 }
 
-// The numbers of an answer, as their bits: the refusal, then the fields.
-pub fn notice_numbers(a: NoticeAnswer) -> [u64; 1]
+// The numbers of an answer, as their bits: the refusal, then the fields. Those of fresh, open, status, withdraw, save,
+// restore and convert, which answer with no field:
+pub fn notice_numbers(a: Result<(), Refusal>) -> [u64; 1]
     ensures { result ≡ bits_of (notice_numbers a) }
 {
     match a {
-        NoticeAnswer::Entered => [0],
-        NoticeAnswer::Refused(r) => [r],
+        Ok(()) => [0],
+        Err(r) => [u64::from(r)],
     }
 }
 
-pub fn energy_numbers(a: EnergyAnswer) -> [u64; 5]
+// An append is 1, a replacement 2 and a recut 3.
+pub fn energy_numbers(a: Result<EnergyEntry, Refusal>) -> [u64; 5]
     ensures { result ≡ bits_of (energy_numbers a) }
 {
     match a {
-        EnergyAnswer::Entered {
-            which,
-            removed,
-            user,
-            lapsed,
-        } => [0, which, removed, user, lapsed],
-        EnergyAnswer::Refused(r) => [r, 0, 0, 0, 0],
+        Ok(EnergyEntry::Append(Settlement::Registered(user))) => [0, 1, 0, user, 0],
+        Ok(EnergyEntry::Append(Settlement::Lapsed)) => [0, 1, 0, 0, 1],
+        Ok(EnergyEntry::Append(Settlement::Unsettled)) => [0, 1, 0, 0, 0],
+        Ok(EnergyEntry::Replacement) => [0, 2, 0, 0, 0],
+        Ok(EnergyEntry::Recut { removed }) => [0, 3, removed, 0, 0],
+        Err(r) => [u64::from(r), 0, 0, 0, 0],
     }
 }
 
-pub fn request_numbers(a: RequestAnswer) -> [u64; 3]
+pub fn request_numbers(a: Result<Period, Refusal>) -> [u64; 3]
     ensures { result ≡ bits_of (request_numbers a) }
 {
     match a {
-        RequestAnswer::Entered { first, last } => [0, first.0, last.0],
-        RequestAnswer::Refused(r) => [r, 0, 0],
+        Ok(Period { first, last }) => [0, first.0, last.0],
+        Err(r) => [u64::from(r), 0, 0],
     }
 }
 
-pub fn correction_numbers(a: CorrectionAnswer) -> [u64; 17]
+// 1 for a User who is affected.
+pub fn correction_numbers(a: Result<[bool; 16], Refusal>) -> [u64; 17]
     ensures { result ≡ bits_of (correction_numbers a) }
 {
-    let flags = a.flags;
     let mut numbers = [0u64; 17];
-    numbers[0] = a.refusal;
-    let mut k = 0;
-    while k < 16 {
-        numbers[1 + k] = flags[k];
-        k += 1;
+    match a {
+        Ok(affected) => {
+            for k in 0..16 {
+                numbers[1 + k] = u64::from(affected[k]);
+            }
+        }
+        Err(r) => numbers[0] = u64::from(r),
     }
     numbers
 }
 
-pub fn date_numbers(a: DateAnswer) -> [u64; 2]
+pub fn date_numbers(a: Result<Day, Refusal>) -> [u64; 2]
     ensures { result ≡ bits_of (date_numbers a) }
 {
     match a {
-        DateAnswer::OnDay(d) => [0, d.0],
-        DateAnswer::Refused(r) => [r, 0],
+        Ok(d) => [0, d.0],
+        Err(r) => [u64::from(r), 0],
     }
 }
 
-pub fn account_numbers(a: AccountAnswer) -> [u64; 2]
+pub fn account_numbers(a: Result<i64, Refusal>) -> [u64; 2]
     ensures { result ≡ bits_of (account_numbers a) }
 {
     match a {
-        AccountAnswer::Given(sum) => [0, words::bits(sum)],
-        AccountAnswer::Refused(r) => [r, 0],
+        Ok(sum) => [0, sum.cast_unsigned()],
+        Err(r) => [u64::from(r), 0],
     }
 }
 
-pub fn allocation_numbers(a: AllocationAnswer) -> [u64; 18]
+pub fn allocation_numbers(a: Result<Allocation, Refusal>) -> [u64; 18]
     ensures { result ≡ bits_of (allocation_numbers a) }
 {
-    let nsl = a.nsl;
-    let totals = a.totals;
     let mut numbers = [0u64; 18];
-    numbers[0] = a.refusal;
-    numbers[1] = words::bits(nsl);
-    let mut k = 0;
-    while k < 16 {
-        numbers[2 + k] = words::bits(totals[k]);
-        k += 1;
+    match a {
+        Ok(given) => {
+            numbers[1] = given.nsl.cast_unsigned();
+            for k in 0..16 {
+                numbers[2 + k] = given.totals[k].cast_unsigned();
+            }
+        }
+        Err(r) => numbers[0] = u64::from(r),
     }
     numbers
 }
 
-pub fn trial_numbers(a: TrialAnswer) -> [u64; 3]
+pub fn trial_numbers(a: Result<TrialCounts, Refusal>) -> [u64; 3]
     ensures { result ≡ bits_of (trial_numbers a) }
 {
     match a {
-        TrialAnswer::Given { most, removed } => [0, most, removed],
-        TrialAnswer::Refused(r) => [r, 0, 0],
+        Ok(TrialCounts { most, removed }) => [0, most, removed],
+        Err(r) => [u64::from(r), 0, 0],
     }
 }

@@ -1,20 +1,23 @@
 -- The energy call: the row of its numbers, and what it does once it has been told where its point is. Assumes nothing.
 use mathlib.Core.Path.{◌≡◌, refl, sym, ◌∙◌, ap}
 use mathlib.Core.Bool.{Bool, true, false, not, ◌&&◌}
-use mathlib.Core.List.{List, [], ◌∷◌}
+use mathlib.Core.List.{List, []}
 use Prim.Native.Nat.{ℕ, ◌≤◌}
 use native.Mathlib.Omega.{arith}
 use borrow.Author.Tests.{not-false}
 use lib.IntN.{ℤ, pos, negsuc}
-use lib.ListN.{get_or, replicate}
+use lib.ListN.{get_or}
+use Rattle.std.specs.Prelude.{Err}
+use Rattle.refusals.specs.declared.Refusal.{Refusal}
+use Rattle.refusals.specs.Refusals.{number_of}
 use Rattle.numbers.specs.Naturals.{nat_of}
 use Rattle.numbers.specs.InnerEnergies.{bias_of}
-use Rattle.numbers.specs.Answers.{refused}
 use Rattle.numbers.proofs.Naturals.{bias_is}
 use Rattle.calendar.specs.Calendar.{within, is_day}
 use Rattle.daybook.specs.declared.Edition.{Edition}
 use Rattle.daybook.specs.declared.EnergyNotice.{EnergyNotice}
 use Rattle.daybook.specs.Notices.{least, Numbers, is_mirn, is_flag, entry_of, energy_early, energy_rows, energy}
+use Rattle.daybook.specs.Calls.{energy_numbers}
 use Rattle.daybook.specs.Editions.{editions}
 use Rattle.lists.specs.Lists.{Register}
 use Rattle.lists.specs.InnerSteps.{entered_lists, enter_lists, energy_lists_rows, energy_lists}
@@ -26,9 +29,10 @@ use Rattle.layout.specs.Sound.{sound}
 use Rattle.layout.specs.InnerParts.{room_of}
 use Rattle.layout.proofs.Numbers.{few}
 use Rattle.layout.proofs.TableSound.{sound_lays}
-use Rattle.table.specs.InnerTable.{on_part}
+use Rattle.table.specs.InnerTable.{on_part, sound_edition}
+use Rattle.table.proofs.Calls.{call_unsound, gives}
 use Rattle.table.proofs.Laws.{lent, back_in, range_small}
-use Rattle.table.proofs.Locating.{PartFound, SentBack, at_part}
+use Rattle.table.proofs.Locating.{PartFound, SentBack, not_sound, at_part}
 use Rattle.table.proofs.OnPart.{CallOn, room_found, call_back, call_done}
 use Rattle.entering.specs.declared.RaisedNotice.{RaisedNotice}
 use Rattle.energy.specs.Energy.{energy_call}
@@ -39,10 +43,10 @@ use Rattle.energy.proofs.Raised.{in_range_tells}
 -- ---- row 2
 
 module _ (n : EnergyNotice) where
-  pub range_read : {a b c d : Bool} {energy type : ℤ}
-      → a ≡ is_mirn n.mirn → b ≡ is_day n.start → c ≡ is_day n.end → energy ≡ n.energy → type ≡ n.type_ → d ≡ is_flag n.confirmed
-      → (a && b && c && within (negsuc 999999) (pos 1000000) energy && within (pos 0) (pos 2) type && d) ≡ in_range n
-  range_read p q r s u v = rw (p, q, r, s, u, v)
+  pub range_read : (a b c d e f : Bool)
+      → a ≡ is_mirn n.mirn → b ≡ is_day n.start → c ≡ is_day n.end → d ≡ within (negsuc 999999) (pos 1000000) n.energy → e ≡ within (pos 0) (pos 2) n.type_ → f ≡ is_flag n.confirmed
+      → (a && b && c && d && e && f) ≡ in_range n
+  range_read a b c d e f p q r s u v = rw (p, q, r, s, u, v)
 
   pub energy_passed : in_range n ≡ true → 0 ≡ least (energy_early n)
   unfolding energy_early least
@@ -62,6 +66,12 @@ module _ (n : EnergyNotice) where
 pub own_edition : (ed : Edition) (t : List ℤ) → ed ≡ edition_of t → (n : EnergyNotice) → energy_in ed t n ≡ energy_call editions t n
 unfolding energy_call
 own_edition ed t g n = ap (λ ed. energy_in ed t n) g
+
+pub energy_unsound : (t : List ℤ) (n : EnergyNotice) (r : Refusal) → Err r ≡ sound_edition t
+    → (energy_numbers (Err r) ≡ (energy_call editions t n).0) × (t ≡ (energy_call editions t n).1)
+unfolding energy_call
+energy_unsound t n r h =
+    let w = not_sound t h in rw w.0 (gives (call_unsound 4 (energy (edition_of t) n) (edition_of t) t w.1))
 
 module _ (ed : Edition) (fits : Fits ed) (t : List ℤ) (n : EnergyNotice) (e : ℕ) (is : e ≡ least (energy_early n)) where
   abbrev R : Register
@@ -84,9 +94,8 @@ module _ (ed : Edition) (fits : Fits ed) (t : List ℤ) (n : EnergyNotice) (e : 
         room = λ q w e. few (enter_keeps w (entry_of n) (energy_clear ed n R q e));
       }
 
-  pub energy_back : (r : ℕ) → SentBack ed t n.mirn e r
-      → (pos r ∷ replicate 4 (pos 0) ≡ (energy_in ed t n).0) × (t ≡ (energy_in ed t n).1) × (true ≡ refused (pos r ∷ replicate 4 (pos 0)))
-  energy_back = call_back ed fits t call (energy_in ed t n) refl e is
+  pub energy_back : (r : Refusal) → SentBack ed t n.mirn e (number_of r) → (energy_numbers (Err r) ≡ (energy_in ed t n).0) × (t ≡ (energy_in ed t n).1)
+  energy_back r h = let w = call_back ed fits t call (energy_in ed t n) refl e is (number_of r) h in (w.0, w.1)
 
   module _ {a b : ℕ} (h : PartFound ed t n.mirn e a b) (nondaily daily : ℕ)
       (is-nondaily : nondaily ≡ bias_of (get_or t 1 (pos 0))) (is-daily : daily ≡ bias_of (get_or t 2 (pos 0))) where
@@ -114,8 +123,9 @@ module _ (ed : Edition) (fits : Fits ed) (t : List ℤ) (n : EnergyNotice) (e : 
       unfolding register_of
       given = rw (ex, is-nondaily, is-daily) (sym part_same)
 
-      pub energy_done : (r : Numbers) (p : List ℤ) {c : Bool}
-          → (r ≡ (energy_part x nondaily daily (lent t a b)).0) × (p ≡ (energy_part x nondaily daily (lent t a b)).1) × (c ≡ refused r)
-          → (r ≡ (energy_in ed t n).0) × (back_in t a b p ≡ (energy_in ed t n).1) × (c ≡ refused r)
+      pub energy_done : (r : Numbers) (p : List ℤ)
+          → (r ≡ (energy_part x nondaily daily (lent t a b)).0) × (p ≡ (energy_part x nondaily daily (lent t a b)).1)
+          → (r ≡ (energy_in ed t n).0) × (back_in t a b p ≡ (energy_in ed t n).1)
       energy_done r p g =
-          call_done ed fits t call (energy_in ed t n) refl e is h r p (g.0 ∙ ap (λ w. w.0) given, g.1 ∙ ap (λ w. w.1) given, g.2)
+          let w = call_done ed fits t call (energy_in ed t n) refl e is h r p (g.0 ∙ ap (λ w. w.0) given, g.1 ∙ ap (λ w. w.1) given, refl) in
+          (w.0, w.1)

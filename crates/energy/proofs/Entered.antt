@@ -1,14 +1,21 @@
 -- A notice that its point does not send back: the entry and, after an append, the request are the lists' one step.
 -- Assumes nothing.
 use mathlib.Core.Path.{◌≡◌, refl, sym, ◌∙◌, ap, subst}
-use mathlib.Core.Option.{Option, none}
+use mathlib.Core.Option.{none}
 use mathlib.Core.List.{List, [], ◌∷◌, map}
 use Prim.Native.Nat.{ℕ, zero, suc}
 use native.Mathlib.Omega.{arith}
-use lib.ListN.{replicate}
 use lib.IntN.{ℤ, pos}
-use Rattle.daybook.specs.Book.{Entry, Pending}
-use Rattle.daybook.specs.Notices.{Row, least, Which, append, replacement, recut, which_number, Outcome, stays, outcome_of, outcome_numbers, entry_of, energy_early}
+use Rattle.std.specs.Prelude.{Ok, Err}
+use Rattle.refusals.specs.declared.Refusal.{Refusal}
+use Rattle.refusals.specs.Refusals.{number_of}
+use Rattle.refusals.proofs.Numbers.{number_within}
+use Rattle.daybook.specs.declared.Settlement.{Settlement}
+use Rattle.daybook.specs.declared.EnergyEntry.TheVariants.{Append, Replacement}
+use Rattle.daybook.specs.declared.EnergyEntry.TheVariants as EnergyEntry·
+use Rattle.daybook.specs.Book.{Entry}
+use Rattle.daybook.specs.Notices.{Row, least, Which, append, replacement, recut, which_number, later_starts, removed, Outcome, registers, lapses, stays, outcome_of, outcome_numbers, entry_of, energy_early}
+use Rattle.daybook.specs.Calls.{energy_numbers}
 use Rattle.lists.specs.Lists.{Lists}
 use Rattle.lists.specs.InnerSteps.{latest_of, which_in, append_day_of, with_pending_lists, entered_lists, enter_lists, energy_lists_rows}
 use Rattle.lists.specs.InnerWell.{nopending, Well, MayEnter}
@@ -24,8 +31,8 @@ use Rattle.table.proofs.Calls.{gives}
 use Rattle.table.proofs.OnPart.{part_entered, part_refused}
 use Rattle.entering.specs.declared.RaisedNotice.{RaisedNotice}
 use Rattle.entering.specs.declared.Kept.{Kept}
-use Rattle.entering.specs.declared.Settled.{Settled}
-use Rattle.entering.specs.InnerEntering.{notice_of, entry_from, InRange, recorded, Recorded, outcome_at, settled_lists, SettledTo}
+use Rattle.entering.specs.declared.Kept.TheVariants.{Appended, Replaced, Recut}
+use Rattle.entering.specs.InnerEntering.{notice_of, entry_from, InRange, recorded, kept_of, Recorded, outcome_at, settled_lists, settlement_of, SettledTo}
 use Rattle.energy.specs.InnerParts.{register_with, edition_with, energy_rows_of, energy_part}
 use Rattle.energy.proofs.Raised.{in_range_clear}
 
@@ -72,16 +79,26 @@ record_keeps {room} {q} ok x may =
           more = may.more;
         })
 
--- only an append has its number, and nothing else settles a request
-is_append : (w : Which) → which_number w ≡ 1 → w ≡ append
-is_append append e = refl
-is_append replacement e = absurd (omega arith)
-is_append recut e = absurd (omega arith)
+-- what is said of an entry tells which of the three it was
+is_append : (w : Which) (s : ℕ) (l : List Entry) → Appended ≡ kept_of w s l → w ≡ append
+is_append append s l e = refl
+is_append replacement s l e = let z : ◌≡◌ {A = ℕ} 0 1 = cc in absurd (omega arith)
+is_append recut s l e = let z : ◌≡◌ {A = ℕ} 0 1 = cc in absurd (omega arith)
 
-stays_else : (w : Which) (section : ℕ) (x : Entry) (s : ℕ) (o : Option Pending) → (which_number w ≡ 1 → ⊥) → outcome_of w section x s o ≡ stays
-stays_else append section x s o n = absurd (n refl)
-stays_else replacement section x s o n = refl
-stays_else recut section x s o n = refl
+is_replacement : (w : Which) (s : ℕ) (l : List Entry) → Replaced ≡ kept_of w s l → w ≡ replacement
+is_replacement append s l e = let z : ◌≡◌ {A = ℕ} 0 1 = cc in absurd (omega arith)
+is_replacement replacement s l e = refl
+is_replacement recut s l e = let z : ◌≡◌ {A = ℕ} 0 1 = cc in absurd (omega arith)
+
+is_recut : (w : Which) (s : ℕ) (l : List Entry) {k : ℕ} → Recut k ≡ kept_of w s l → (w ≡ recut) × (k ≡ later_starts s l)
+is_recut append s l e = let z : ◌≡◌ {A = ℕ} 0 1 = cc in absurd (omega arith)
+is_recut replacement s l e = let z : ◌≡◌ {A = ℕ} 0 1 = cc in absurd (omega arith)
+is_recut recut s l e = (refl, cc)
+
+settled_numbers : (o : Outcome) → energy_numbers (Ok (Append (settlement_of o))) ≡ pos 0 ∷ map pos (1 ∷ 0 ∷ outcome_numbers o)
+settled_numbers (registers u) = refl
+settled_numbers lapses = refl
+settled_numbers stays = refl
 
 module _ {p : List ℤ} (ok : SoundPart p) (x : RaisedNotice) (inside : InRange x) (a b : ℕ) where
   abbrev q : Lists
@@ -93,15 +110,15 @@ module _ {p : List ℤ} (ok : SoundPart p) (x : RaisedNotice) (inside : InRange 
   abbrev rows : Lists → List Row
   rows = energy_rows_of x a b (room_of p)
 
-  pub refused : (row : ℕ) → row ≡ least (rows q) → (row ≡ 0 → ⊥) → (pos row ∷ replicate 4 (pos 0) ≡ (energy_part x a b p).0) × (p ≡ (energy_part x a b p).1)
+  pub refused : (r : Refusal) → number_of r ≡ least (rows q) → (energy_numbers (Err r) ≡ (energy_part x a b p).0) × (p ≡ (energy_part x a b p).1)
   unfolding energy_part
-  refused zero h n = absurd (n refl)
-  refused (suc r) h n = gives (part_refused 4 rows (enter_lists e) p r (sym h))
+  refused r h = go (number_of r) refl
+    where
+      go : (n : ℕ) → number_of r ≡ n → (energy_numbers (Err r) ≡ (energy_part x a b p).0) × (p ≡ (energy_part x a b p).1)
+      go zero z = absurd (omega (arith, z, number_within r))
+      go (suc n) z = rw z (gives (part_refused 4 rows (enter_lists e) p n (sym h ∙ z)))
 
-  module _ (row : ℕ) (h : row ≡ least (rows q)) (z : row ≡ 0) where
-    clear : least (rows q) ≡ 0
-    clear = sym h ∙ z
-
+  module _ (clear : least (rows q) ≡ 0) where
     pub may : MayEnter (room_of p) e q
     unfolding energy_rows_of entry_of energy_early above
     may =
@@ -124,29 +141,43 @@ module _ {p : List ℤ} (ok : SoundPart p) (x : RaisedNotice) (inside : InRange 
       abbrev o : Outcome
       o = outcome_of (which_in q e) q.facts.section e (latest_of q.regs).0 q.pending
 
-      pub corrected : (k.which ≡ 1 → ⊥)
-          → (pos 0 ∷ pos k.which ∷ pos k.removed ∷ pos 0 ∷ pos 0 ∷ [] ≡ (energy_part x a b p).0) × (p'' ≡ (energy_part x a b p).1)
+      -- a correction leaves the request
+      corrected : (w : Which) → which_in q e ≡ w → outcome_of w q.facts.section e (latest_of q.regs).0 q.pending ≡ stays
+          → (pos 0 ∷ map pos (which_number w ∷ removed w x.entry.start q.recs ∷ 0 ∷ 0 ∷ []) ≡ (energy_part x a b p).0) × (p'' ≡ (energy_part x a b p).1)
       unfolding energy_part enter_lists entered_lists with_recs
-      corrected n =
-          let w = gives (part_entered 4 rows (enter_lists e) p clear) in
-          let st : stays ≡ o = sym (stays_else (which_in q e) q.facts.section e (latest_of q.regs).0 q.pending (λ z. n (rec.which_is ∙ z))) in
-          let l : pos 0 ∷ map pos (k.which ∷ k.removed ∷ 0 ∷ 0 ∷ []) ≡ pos 0 ∷ (enter_lists e q).0 =
-          λ i. pos 0 ∷ map pos (rec.which_is i ∷ rec.removed_is i ∷ ap outcome_numbers st i) in
-          (l ∙ w.0, rec.part_is ∙ ap (λ o. point_numbers (room_of p) (settled_lists o x.end (recorded e q))) st ∙ w.1)
+      corrected w i z =
+          let g = gives (part_entered 4 rows (enter_lists e) p clear) in
+          let st : stays ≡ o = sym (ap (λ w. outcome_of w q.facts.section e (latest_of q.regs).0 q.pending) i ∙ z) in
+          let l : pos 0 ∷ map pos (which_number w ∷ removed w x.entry.start q.recs ∷ 0 ∷ 0 ∷ []) ≡ pos 0 ∷ (enter_lists e q).0 =
+          λ j. pos 0 ∷ map pos (which_number (sym i j) ∷ removed (sym i j) x.entry.start q.recs ∷ outcome_numbers (st j)) in
+          (l ∙ g.0, rec.part_is ∙ ap (λ o. point_numbers (room_of p) (settled_lists o x.entry.end (recorded e q))) st ∙ g.1)
 
-      module _ (appends : k.which ≡ 1) where
+      pub replaced : Replaced ≡ k → (energy_numbers (Ok Replacement) ≡ (energy_part x a b p).0) × (p'' ≡ (energy_part x a b p).1)
+      replaced h = corrected replacement (is_replacement (which_in q e) x.entry.start q.recs (h ∙ rec.kept_is)) refl
+
+      pub recut_lem : {n : ℕ} → Recut n ≡ k → (energy_numbers (Ok (EnergyEntry·.Recut n)) ≡ (energy_part x a b p).0) × (p'' ≡ (energy_part x a b p).1)
+      recut_lem h =
+          let (w, few) = is_recut (which_in q e) x.entry.start q.recs (h ∙ rec.kept_is) in
+          rw few (corrected recut w refl)
+
+      module _ (appends : Appended ≡ k) where
+        which_is : which_in q e ≡ append
+        which_is = is_append (which_in q e) x.entry.start q.recs (appends ∙ rec.kept_is)
+
         outcome_same : outcome_at x (point_from p'') ≡ o
         unfolding with_recs
         outcome_same =
             ap (outcome_at x) back
-            ∙ ap (λ w. outcome_of w q.facts.section e (latest_of q.regs).0 q.pending) (sym (is_append (which_in q e) (sym rec.which_is ∙ appends)))
+            ∙ ap (λ w. outcome_of w q.facts.section e (latest_of q.regs).0 q.pending) (sym which_is)
 
-        pub entered : (s : Settled) {p' : List ℤ} → SettledTo p'' x s p'
-            → (pos 0 ∷ pos k.which ∷ pos k.removed ∷ pos s.user ∷ pos s.lapsed ∷ [] ≡ (energy_part x a b p).0) × (p' ≡ (energy_part x a b p).1)
+        pub entered : (s : Settlement) {p' : List ℤ} → SettledTo p'' x s p'
+            → (energy_numbers (Ok (Append s)) ≡ (energy_part x a b p).0) × (p' ≡ (energy_part x a b p).1)
         unfolding energy_part enter_lists entered_lists with_recs
         entered s {p'} t =
             let w = gives (part_entered 4 rows (enter_lists e) p clear) in
-            let n : pos 0 ∷ map pos (k.which ∷ k.removed ∷ s.user ∷ s.lapsed ∷ []) ≡ pos 0 ∷ (enter_lists e q).0 =
-            λ i. pos 0 ∷ map pos (rec.which_is i ∷ rec.removed_is i ∷ (t.numbers_are ∙ ap outcome_numbers outcome_same) i) in
-            let l : p' ≡ point_numbers (room_of p) (enter_lists e q).1 = t.part_is ∙ (λ i. point_numbers (room i) (settled_lists (outcome_same i) x.end (back i))) in
+            let told : s ≡ settlement_of o = t.settlement_is ∙ ap settlement_of outcome_same in
+            let n : energy_numbers (Ok (Append s)) ≡ pos 0 ∷ (enter_lists e q).0 =
+            ap (λ s. energy_numbers (Ok (Append s))) told ∙ settled_numbers o
+            ∙ (λ i. pos 0 ∷ map pos (which_number (sym which_is i) ∷ removed (sym which_is i) x.entry.start q.recs ∷ outcome_numbers o)) in
+            let l : p' ≡ point_numbers (room_of p) (enter_lists e q).1 = t.part_is ∙ (λ i. point_numbers (room i) (settled_lists (outcome_same i) x.entry.end (back i))) in
             (n ∙ w.0, l ∙ w.1)

@@ -2,10 +2,9 @@
 use mathlib.Core.Path.{◌≡◌, sym, ◌∙◌, ap}
 use mathlib.Core.Bool.{true, not}
 use mathlib.Core.List.{[]}
-use Prim.Native.Nat.{ℕ, ◌≤◌}
+use Prim.Native.Nat.{◌≤◌}
 use lib.IntN.{pos, negsuc}
 use borrow.Author.Tests.{leb-true}
-use Rattle.numbers.specs.Naturals.{nat_of}
 use Rattle.numbers.specs.InnerEnergies.{bias_of}
 use Rattle.numbers.proofs.Bools.{both}
 use Rattle.numbers.proofs.Naturals.{bias_is}
@@ -17,11 +16,6 @@ use Rattle.lists.proofs.Rows.{least_skip}
 use Rattle.point.proofs.Records.{energy_same}
 use Rattle.entering.specs.declared.RaisedNotice.{RaisedNotice}
 use Rattle.entering.specs.InnerEntering.{raised_notice, notice_of, in_range, InRange}
-
-pub raised_same : (n : EnergyNotice) {m s e u q f : ℕ}
-    → m ≡ nat_of n.mirn → s ≡ nat_of n.start → e ≡ nat_of n.end → u ≡ bias_of n.energy → q ≡ nat_of n.type_ → f ≡ nat_of n.confirmed
-    → record { mirn = m; start = s; end = e; energy = u; type_ = q; confirmed = f } ≡ raised_notice n
-raised_same n a b c d g h = λ i. record { mirn = a i; start = b i; end = c i; energy = d i; type_ = g i; confirmed = h i }
 
 -- ---- row 2
 

@@ -1,14 +1,14 @@
 -- The rows that a point decides, tested in order. Assumes nothing.
 use mathlib.Core.Path.{◌≡◌, refl, sym, ◌∙◌, ap, ap₂}
-use mathlib.Core.Bool.{Bool, true, false, not, ◌&&◌, ◌||◌, cond, or-false, not-not}
+use mathlib.Core.Bool.{Bool, true, false, not, ◌&&◌, cond, not-not}
 use mathlib.Core.Option.{Option, none, some}
 use mathlib.Core.List.{List, [], ◌∷◌}
-use Prim.Native.Nat.{ℕ, suc, ◌+◌, ◌-◌, ◌≤◌, ◌<◌}
+use Prim.Native.Nat.{ℕ, ◌≤◌}
 use native.Mathlib.Omega.{arith}
 use lib.Dec.{leb, ltb, eqb}
 use lib.ListN.{length}
 use lib.IntN.{ℤ}
-use borrow.Author.Tests.{le-leb, lt-leb, ltb-true, ltb-false, lt-ltb, le-ltb, eqb-true, eqb-false, eq-eqb, ne_eqb, not-false}
+use borrow.Author.Tests.{le-leb, ltb-false, eqb-true, eqb-false, eq-eqb, ne_eqb, not-false}
 use Rattle.numbers.specs.InnerEnergies.{energy_of}
 use Rattle.numbers.specs.Search.{maybe, is_some}
 use Rattle.daybook.specs.Book.{Entry}
@@ -27,55 +27,24 @@ use Rattle.entering.specs.declared.RaisedNotice.{RaisedNotice}
 use Rattle.entering.specs.InnerEntering.{notice_of}
 use Rattle.energy.specs.InnerParts.{energy_rows_of}
 
--- ---- row 9, of raised numbers
-
-ltb_same : (a b c d : ℕ) → (a < b → c < d) → (b ≤ a → d ≤ c) → ltb a b ≡ ltb c d
-ltb_same a b c d f g = go (ltb a b) refl
-  where
-    go : (t : Bool) → ltb a b ≡ t → t ≡ ltb c d
-    go true e = sym (lt-ltb c d (f (ltb-true a b e)))
-    go false e = sym (le-ltb c d (g (ltb-false a b e)))
-
-pub beyond_raised : (r e : ℕ) → (leb 1000000 r && (ltb r e || ltb (e + r) 2000000)) ≡ beyond (energy_of r) (energy_of r) 0 (energy_of e)
-beyond_raised r e = go (ltb r 1000000) refl (ltb e 1000000) refl
-  where
-    go : (s : Bool) → ltb r 1000000 ≡ s → (t : Bool) → ltb e 1000000 ≡ t → (leb 1000000 r && (ltb r e || ltb (e + r) 2000000)) ≡ beyond (energy_of r) (energy_of r) 0 (energy_of e)
-    go true p t q = rw (p, lt-leb 1000000 r (ltb-true r 1000000 p))
-    go false p true q =
-        let h : 1000000 ≤ r = ltb-false r 1000000 p in
-        let k : e < 1000000 = ltb-true e 1000000 q in
-        rw (p, q, le-leb 1000000 r h, le-leb 0 (r - 1000000) (omega arith), le-ltb r e (omega arith))
-        (ltb_same (e + r) 2000000 (r - 1000000) (suc (1000000 - suc e)) (λ l. omega arith) (λ l. omega arith))
-    go false p false q =
-        let h : 1000000 ≤ r = ltb-false r 1000000 p in
-        let k : 1000000 ≤ e = ltb-false e 1000000 q in
-        rw (p, q, le-leb 1000000 r h, le-leb 0 (r - 1000000) (omega arith), le-ltb (e + r) 2000000 (omega arith))
-        (or-false (ltb r e) ∙ ltb_same r e (r - 1000000) (e - 1000000) (λ l. omega arith) (λ l. omega arith))
-
-pub beyond_first : (a b k : ℕ) (z : ℤ) → k ≡ 0 → beyond (energy_of a) (energy_of a) 0 z ≡ beyond (energy_of a) (energy_of b) k z
-beyond_first a b k z e = rw e
-
-pub beyond_second : (a b k : ℕ) (z : ℤ) → (k ≡ 0 → ⊥) → beyond (energy_of b) (energy_of b) 0 z ≡ beyond (energy_of a) (energy_of b) k z
-beyond_second a b k z e = rw (ne_eqb k 0 e)
-
 -- ---- the rows, one by one
 
 abbrev entry : RaisedNotice → Entry
 entry x = entry_of (notice_of x)
 
 abbrev pub row6 : RaisedNotice → List ℤ → Bool
-row6 x p = not (fits_kind (point_from p).facts.kind x.start x.end)
+row6 x p = not (fits_kind (point_from p).facts.kind x.entry.start x.entry.end)
 
 abbrev pub row7 : RaisedNotice → List ℤ → Bool
 row7 x p =
-    eqb (which_number (which_in (point_from p) (entry x))) 1 && not (maybe false (eqb x.start) (append_day_of (point_from p)))
+    eqb (which_number (which_in (point_from p) (entry x))) 1 && not (maybe false (eqb x.entry.start) (append_day_of (point_from p)))
 
 abbrev pub row8 : RaisedNotice → List ℤ → Bool
-row8 x p = leb x.start x.end && some_overlap x.start x.end (point_from p).offs
+row8 x p = leb x.entry.start x.entry.end && some_overlap x.entry.start x.entry.end (point_from p).offs
 
 abbrev pub row9 : RaisedNotice → ℕ → ℕ → List ℤ → Bool
 row9 x a b p =
-    beyond (energy_of a) (energy_of b) (point_from p).facts.kind (energy_of x.energy) && eqb x.confirmed 0
+    beyond (energy_of a) (energy_of b) (point_from p).facts.kind (energy_of x.entry.energy) && eqb x.confirmed 0
 
 abbrev row16 : RaisedNotice → List ℤ → Bool
 row16 x p = eqb (which_number (which_in (point_from p) (entry x))) 1 && leb (room_of p) (length (point_from p).recs)
@@ -149,27 +118,27 @@ module _ {p : List ℤ} (ok : SoundPart p) (x : RaisedNotice) where
   abbrev q : Lists
   q = point_from p
 
-  pub row6_is : {f : Bool} (k : ℕ) → k ≡ num_at p 1 → f ≡ fits_kind k x.start x.end → not f ≡ row6 x p
-  row6_is k ek ef = ap not (ef ∙ ap (λ k. fits_kind k x.start x.end) (ek ∙ place_kind (part_well ok) (part_laid ok)))
+  pub row6_is : {f : Bool} (k : ℕ) → k ≡ num_at p 1 → f ≡ fits_kind k x.entry.start x.entry.end → not f ≡ row6 x p
+  row6_is k ek ef = ap not (ef ∙ ap (λ k. fits_kind k x.entry.start x.entry.end) (ek ∙ place_kind (part_well ok) (part_laid ok)))
 
-  module _ {new : Bool} (is : new ≡ not (is_some (starting_on q.recs x.start))) where
+  module _ {new : Bool} (is : new ≡ not (is_some (starting_on q.recs x.entry.start))) where
     new_here : new ≡ eqb (which_number (which_in q (entry x))) 1
     unfolding entry_of
     new_here = is ∙ new_is q (entry x)
 
-    pub row7_is : (r : ℕ) → x.start ≤ 39999 → day_if r ≡ append_day_of q → (new && not (eqb r x.start)) ≡ row7 x p
-    row7_is r h e = ap₂ ◌&&◌ new_here (day_test x.start r h ∙ ap (λ o. not (maybe false (eqb x.start) o)) e)
+    pub row7_is : (r : ℕ) → x.entry.start ≤ 39999 → day_if r ≡ append_day_of q → (new && not (eqb r x.entry.start)) ≡ row7 x p
+    row7_is r h e = ap₂ ◌&&◌ new_here (day_test x.entry.start r h ∙ ap (λ o. not (maybe false (eqb x.entry.start) o)) e)
 
     pub row16_is : (n : ℕ) → n ≡ num_at p 6 → (new && leb (room_of p) n) ≡ row16 x p
     row16_is n e = ap₂ ◌&&◌ new_here (ap (leb (room_of p)) (e ∙ place_recs (part_well ok) (part_laid ok)))
 
   -- where row 6 doesn't apply, the start is no later than the end
-  pub row8_is : {c : Bool} (m : ℕ) → row6 x p ≡ false → x.start ≤ 39999 → m ≡ num_at p 5 → c ≡ no_off p m x.start x.end → not c ≡ row8 x p
+  pub row8_is : {c : Bool} (m : ℕ) → row6 x p ≡ false → x.entry.start ≤ 39999 → m ≡ num_at p 5 → c ≡ no_off p m x.entry.start x.entry.end → not c ≡ row8 x p
   row8_is {c} m e6 h em ec =
-      let l : x.start ≤ x.end = fits_le q.facts.kind x.start x.end (not-false _ e6) in
-      let clear : c ≡ not (some_overlap x.start x.end q.offs) =
-      ec ∙ ap₂ (λ t k. no_off t k x.start x.end) (sym (part_laid ok)) (em ∙ place_offs (part_well ok) (part_laid ok)) ∙ no_off_is (part_well ok) x.start x.end (omega arith) in
-      ap not clear ∙ not-not (some_overlap x.start x.end q.offs) ∙ ap (λ t. t && some_overlap x.start x.end q.offs) (sym (le-leb _ _ l))
+      let l : x.entry.start ≤ x.entry.end = fits_le q.facts.kind x.entry.start x.entry.end (not-false _ e6) in
+      let clear : c ≡ not (some_overlap x.entry.start x.entry.end q.offs) =
+      ec ∙ ap₂ (λ t k. no_off t k x.entry.start x.entry.end) (sym (part_laid ok)) (em ∙ place_offs (part_well ok) (part_laid ok)) ∙ no_off_is (part_well ok) x.entry.start x.entry.end (omega arith) in
+      ap not clear ∙ not-not (some_overlap x.entry.start x.entry.end q.offs) ∙ ap (λ t. t && some_overlap x.entry.start x.entry.end q.offs) (sym (le-leb _ _ l))
 
-  pub row9_is : (a b k : ℕ) {u : Bool} → k ≡ num_at p 1 → u ≡ beyond (energy_of a) (energy_of b) k (energy_of x.energy) → (u && eqb x.confirmed 0) ≡ row9 x a b p
-  row9_is a b k ek eu = ap (λ t. t && eqb x.confirmed 0) (eu ∙ ap (λ k. beyond (energy_of a) (energy_of b) k (energy_of x.energy)) (ek ∙ place_kind (part_well ok) (part_laid ok)))
+  pub row9_is : (a b k : ℕ) {u : Bool} → k ≡ num_at p 1 → u ≡ beyond (energy_of a) (energy_of b) k (energy_of x.entry.energy) → (u && eqb x.confirmed 0) ≡ row9 x a b p
+  row9_is a b k ek eu = ap (λ t. t && eqb x.confirmed 0) (eu ∙ ap (λ k. beyond (energy_of a) (energy_of b) k (energy_of x.entry.energy)) (ek ∙ place_kind (part_well ok) (part_laid ok)))

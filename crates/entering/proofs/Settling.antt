@@ -12,7 +12,7 @@ use lib.IntN.{ℤ}
 use borrow.Author.Tests.{ne_eqb, ltb-true, leb-true, leb-false, le-ltb, lt-ltb}
 use Rattle.numbers.proofs.Bools.{both}
 use Rattle.daybook.specs.Book.{Entry, Pending}
-use Rattle.daybook.specs.Notices.{append, Outcome, registers, lapses, stays, type_registers, append_registers, outcome_of, outcome_numbers}
+use Rattle.daybook.specs.Notices.{append, Outcome, registers, lapses, stays, type_registers, append_registers, outcome_of}
 use Rattle.lists.specs.Lists.{Lists}
 use Rattle.lists.specs.InnerSteps.{latest_of, user_from, with_regs, with_pending_lists}
 use Rattle.lists.specs.InnerWell.{PendingOk, nopending, pending}
@@ -27,7 +27,8 @@ use Rattle.layout.proofs.PartBlocks.{few_regs_lem, snoc_length}
 use Rattle.layout.proofs.RowWrites.{append_registration_lem, clear_pending_lem}
 use Rattle.layout.proofs.SoundParts.{part_well, part_laid}
 use Rattle.entering.specs.declared.RaisedNotice.{RaisedNotice}
-use Rattle.entering.specs.InnerEntering.{entry_from, outcome_at, settled_lists, SettledTo}
+use Rattle.daybook.specs.declared.Settlement.TheVariants.{Registered, Lapsed, Unsettled}
+use Rattle.entering.specs.InnerEntering.{entry_from, outcome_at, settled_lists, settlement_of, SettledTo}
 
 -- ---- what the code tests
 
@@ -83,6 +84,12 @@ pub record Reads (p : List ℤ) (n user first last latest section : ℕ) : Type 
   pub latest_is : latest ≡ num_at p (reg_place (n - 1))
   pub section_is : section ≡ num_at p section_place
 
+pub reads : {p : List ℤ} {n user first last latest section : ℕ} → n ≡ num_at p reg_count → user ≡ num_at p pending_user
+    → first ≡ num_at p pending_first → last ≡ num_at p pending_last → latest ≡ num_at p (reg_place (n - 1)) → section ≡ num_at p section_place
+    → Reads p n user first last latest section
+reads n user first last latest section =
+    record { count_is = n; user_is = user; first_is = first; last_is = last; latest_is = latest; section_is = section }
+
 module _ {p : List ℤ} (ok : SoundPart p) (x : RaisedNotice) {n user first last latest section : ℕ} (is : Reads p n user first last latest section) where
   abbrev q : Lists
   q = point_from p
@@ -112,10 +119,10 @@ module _ {p : List ℤ} (ok : SoundPart p) (x : RaisedNotice) {n user first last
   section_is_lem = is.section_is ∙ place_section (part_well ok) (part_laid ok)
 
   abbrev first? : Bool
-  first? = registers_if user first last latest x.end (type_registers section x.type_)
+  first? = registers_if user first last latest x.entry.end (type_registers section x.entry.type_)
 
   abbrev second? : Bool
-  second? = stays_if user last x.end
+  second? = stays_if user last x.entry.end
 
   outcome_is : outcome_at x q ≡ cond first? (registers user) (cond second? stays lapses)
   outcome_is =
@@ -124,47 +131,46 @@ module _ {p : List ℤ} (ok : SoundPart p) (x : RaisedNotice) {n user first last
       ∙ sym (rw (user_is_lem, first_is_lem, last_is_lem))
 
   -- by what it comes to
-  settled_as : (o : Outcome) (u l : ℕ) {p' : List ℤ} → outcome_at x q ≡ o → u ∷ l ∷ [] ≡ outcome_numbers o → p' ≡ point_numbers (room_of p) (settled_lists o x.end q)
-      → SettledTo p x (record { user = u; lapsed = l }) p'
-  settled_as o u l eo en ep =
-      record { numbers_are = en ∙ ap outcome_numbers (sym eo); part_is = ep ∙ ap (λ o. point_numbers (room_of p) (settled_lists o x.end q)) (sym eo) }
+  settled_as : (o : Outcome) {p' : List ℤ} → outcome_at x q ≡ o → p' ≡ point_numbers (room_of p) (settled_lists o x.entry.end q) → SettledTo p x (settlement_of o) p'
+  settled_as o eo ep =
+      record { settlement_is = ap settlement_of (sym eo); part_is = ep ∙ ap (λ o. point_numbers (room_of p) (settled_lists o x.entry.end q)) (sym eo) }
 
   -- whatever is asked of its type
-  may : (actual : Bool) → registers_if user first last latest x.end actual ≡ true → Registers q.regs user latest x.end
+  may : (actual : Bool) → registers_if user first last latest x.entry.end actual ≡ true → Registers q.regs user latest x.entry.end
   may actual t =
-      subst (λ u. Registers q.regs u latest x.end) (sym user_is_lem)
-      (registers_room (part_well ok).pending_ok latest x.end actual (rw (user_is_lem, first_is_lem, last_is_lem) at t))
+      subst (λ u. Registers q.regs u latest x.entry.end) (sym user_is_lem)
+      (registers_room (part_well ok).pending_ok latest x.entry.end actual (rw (user_is_lem, first_is_lem, last_is_lem) at t))
 
-  pub reg_room : (actual : Bool) → registers_if user first last latest x.end actual ≡ true → (n < 8) × (user ≤ 16)
+  pub reg_room : (actual : Bool) → registers_if user first last latest x.entry.end actual ≡ true → (n < 8) × (user ≤ 16)
   reg_room actual t = let room = may actual t in (omega (arith, room.room, many), room.small)
 
   module _ (t : first? ≡ true) where
-    room : Registers q.regs user latest x.end
-    room = may (type_registers section x.type_) t
+    room : Registers q.regs user latest x.entry.end
+    room = may (type_registers section x.entry.type_) t
 
-    regs_are : q.regs ++ ((x.end + 1, user) ∷ []) ≡ user_from (suc x.end) user q.regs
+    regs_are : q.regs ++ ((x.entry.end + 1, user) ∷ []) ≡ user_from (suc x.entry.end) user q.regs
     regs_are =
-        ap (λ d. q.regs ++ ((d, user) ∷ [])) (add-one x.end)
-        ∙ sym (user_from_append (part_well ok).regs_ok (suc x.end) user (omega (arith, room.after, latest_is_lem)) room.differs)
+        ap (λ d. q.regs ++ ((d, user) ∷ [])) (add-one x.entry.end)
+        ∙ sym (user_from_append (part_well ok).regs_ok (suc x.entry.end) user (omega (arith, room.after, latest_is_lem)) room.differs)
 
-    pub registered : {p'' p' : List ℤ} → p'' ≡ append_registration p n (x.end + 1) user → p' ≡ clear_pending p'' → SettledTo p x (record { user = user; lapsed = 0 }) p'
+    pub registered : {p'' p' : List ℤ} → p'' ≡ append_registration p n (x.entry.end + 1) user → p' ≡ clear_pending p'' → SettledTo p x (Registered user) p'
     unfolding with_regs with_pending_lists
     registered {p''} ea ec =
-        settled_as (registers user) user 0 (outcome_is ∙ rw t) refl
-        (ec ∙ ap clear_pending rows ∙ clear_pending_lem (room_of p) (with_regs (user_from (suc x.end) user q.regs) q) next)
+        settled_as (registers user) (outcome_is ∙ rw t)
+        (ec ∙ ap clear_pending rows ∙ clear_pending_lem (room_of p) (with_regs (user_from (suc x.entry.end) user q.regs) q) next)
       where
-        next : Few (room_of p) (with_regs (user_from (suc x.end) user q.regs) q)
-        next = few_regs_lem fits _ (omega (arith, ap length regs_are, snoc_length q.regs (x.end + 1, user), room.room))
+        next : Few (room_of p) (with_regs (user_from (suc x.entry.end) user q.regs) q)
+        next = few_regs_lem fits _ (omega (arith, ap length regs_are, snoc_length q.regs (x.entry.end + 1, user), room.room))
 
-        rows : p'' ≡ point_numbers (room_of p) (with_regs (user_from (suc x.end) user q.regs) q)
+        rows : p'' ≡ point_numbers (room_of p) (with_regs (user_from (suc x.entry.end) user q.regs) q)
         rows =
-            ea ∙ ap₂ (λ t k. append_registration t k (x.end + 1) user) (sym (part_laid ok)) many
-            ∙ append_registration_lem (room_of p) q fits (x.end + 1) user (omega (arith, room.room)) ∙ ap (λ l. point_numbers (room_of p) (with_regs l q)) regs_are
+            ea ∙ ap₂ (λ t k. append_registration t k (x.entry.end + 1) user) (sym (part_laid ok)) many
+            ∙ append_registration_lem (room_of p) q fits (x.entry.end + 1) user (omega (arith, room.room)) ∙ ap (λ l. point_numbers (room_of p) (with_regs l q)) regs_are
 
-  pub lapsed : first? ≡ false → second? ≡ false → {p' : List ℤ} → p' ≡ clear_pending p → SettledTo p x (record { user = 0; lapsed = 1 }) p'
+  pub lapsed : first? ≡ false → second? ≡ false → {p' : List ℤ} → p' ≡ clear_pending p → SettledTo p x Lapsed p'
   unfolding with_pending_lists
   lapsed f s ec =
-      settled_as lapses 0 1 (outcome_is ∙ rw (f, s)) refl (ec ∙ ap clear_pending (sym (part_laid ok)) ∙ clear_pending_lem (room_of p) q fits)
+      settled_as lapses (outcome_is ∙ rw (f, s)) (ec ∙ ap clear_pending (sym (part_laid ok)) ∙ clear_pending_lem (room_of p) q fits)
 
-  pub stayed : first? ≡ false → second? ≡ true → SettledTo p x (record { user = 0; lapsed = 0 }) p
-  stayed f s = settled_as stays 0 0 (outcome_is ∙ rw (f, s)) refl (sym (part_laid ok))
+  pub stayed : first? ≡ false → second? ≡ true → SettledTo p x Unsettled p
+  stayed f s = settled_as stays (outcome_is ∙ rw (f, s)) (sym (part_laid ok))

@@ -2,13 +2,13 @@
 use mathlib.Core.Path.{◌≡◌, refl, sym, ◌∙◌, ap}
 use mathlib.Core.Bool.{Bool, true, false, not, cond}
 use mathlib.Core.Option.{none, some}
+use Rattle.std.specs.Prelude.{Option, Some, None, MatchOption}
+use Rattle.std.specs.Option.{unwrap_or}
 use mathlib.Core.List.{List, [], ◌∷◌, ◌++◌}
-use Prim.Native.Nat.{ℕ, suc, ◌+◌, ◌*◌, ◌≤◌, ◌<◌}
+use Prim.Native.Nat.{ℕ, zero, suc, ◌+◌, ◌*◌, ◌≤◌, ◌<◌}
 use native.Mathlib.Omega.{arith}
-use native.Mathlib.Numerals.{add-one}
 use lib.Dec.{eqb, eqb-zero-suc, eqb-suc-suc}
-use lib.ListN.{length, drop, get_or, drop_of_length-le}
-use lib.Seq.{drop-cons}
+use lib.ListN.{length, get_or}
 use lib.IntN.{ℤ}
 use borrow.Author.Tests.{eqb-true, eqb-false, eq-eqb, ne_eqb, lt-ltb, le-ltb}
 use Rattle.numbers.specs.Search.{is_some}
@@ -116,33 +116,35 @@ appends_is (x ∷ l) d = go (eqb x.start d) (appends_is l d)
     go true ih = eqb-zero-suc (length l)
     go false ih = eqb-suc-suc (row_in l d) (length l) ∙ ih
 
--- ---- the search's loop, on a part
+-- ---- the search, on a part
 
-row_step : (l : List Entry) (d j : ℕ) → j < length l
-    → row_in (drop j l) d ≡ cond (eqb (get_or l j no_rec).start d) 0 (suc (row_in (drop (suc j) l) d))
+row_is : (l : List Entry) (d j : ℕ) → j ≤ length l → ((k : ℕ) → k < j → (get_or l k no_rec).start ≡ d → ⊥)
+    → (j < length l → (get_or l j no_rec).start ≡ d) → j ≡ row_in l d
 unfolding row_in
-row_step l d j h = ap (λ m. row_in m d) (drop-cons l j no_rec h)
+row_is [] d j h miss hit = omega arith
+row_is (x ∷ l) d zero h miss hit = rw (eq-eqb x.start d (hit (omega arith)))
+row_is (x ∷ l) d (suc j) h miss hit =
+    rw (ne_eqb x.start d (miss 0 (omega arith)))
+    (ap suc (row_is l d j (omega arith) (λ k e. miss (suc k) (omega arith)) (λ e. hit (omega arith))))
 
-module _ {p : List ℤ} (ok : SoundPart p) (j d r : ℕ) where
-  abbrev recs : List Entry
-  recs = (point_from p).recs
+module _ {p : List ℤ} (ok : SoundPart p) (d n : ℕ) (e : n ≡ num_at p 6) where
+  abbrev pub Starts : ℕ → Type 0
+  Starts j = num_at p (48 + 4 * j) ≡ d
 
-  pub row_hit : j < num_at p 6 → num_at p (48 + 4 * j) ≡ d → j + row_in (drop j recs) d ≡ r → j ≡ r
-  row_hit h e k =
-      let s = row_step recs d j (omega (arith, place_recs (part_well ok) (part_laid ok))) in
-      let z : row_in (drop j recs) d ≡ 0 = s ∙ rw (eq-eqb (get_or recs j no_rec).start d (sym (start_at ok j) ∙ e)) in
-      omega arith
+  rows_are : n ≡ length (point_from p).recs
+  rows_are = omega (arith, place_recs (part_well ok) (part_laid ok))
 
-  pub row_miss : j < num_at p 6 → (num_at p (48 + 4 * j) ≡ d → ⊥) → j + row_in (drop j recs) d ≡ r → j + 1 + row_in (drop (j + 1) recs) d ≡ r
-  row_miss h e k =
-      let s = row_step recs d j (omega (arith, place_recs (part_well ok) (part_laid ok))) in
-      let z : row_in (drop j recs) d ≡ suc (row_in (drop (suc j) recs) d) = s ∙ rw (ne_eqb (get_or recs j no_rec).start d (λ q. e (start_at ok j ∙ q))) in
-      rw (add-one j) (omega arith)
+  row : (j : ℕ) → j ≤ n → ((k : ℕ) → k < j → Starts k → ⊥) → (j < n → Starts j)
+      → j ≡ row_in (point_from p).recs d
+  row j h miss hit =
+      row_is (point_from p).recs d j (omega (arith, rows_are)) (λ k l q. miss k l (start_at ok k ∙ q))
+      (λ l. sym (start_at ok j) ∙ hit (omega (arith, rows_are)))
 
-  pub row_end : num_at p 6 ≤ j → j + row_in (drop j recs) d ≡ r → j ≡ r
-  unfolding row_in
-  row_end h k =
-      let past : length recs ≤ j = omega (arith, place_recs (part_well ok) (part_laid ok)) in
-      let z : drop j recs ≡ [] = drop_of_length-le recs past in
-      let s : row_in (drop j recs) d ≡ 0 = ap (λ m. row_in m d) z in
-      omega arith
+  -- what a search of all rows finds
+  pub row_found : (r : Option ℕ)
+      → MatchOption r ((k : ℕ) → 0 ≤ k → k < n → Starts k → ⊥)
+      (λ j. (0 ≤ j) × (j < n) × Starts j × ((k : ℕ) → 0 ≤ k → k < j → Starts k → ⊥))
+      → (unwrap_or r n ≡ row_in (point_from p).recs d) × (unwrap_or r n ≤ num_at p 6)
+  row_found None miss = (row n (omega arith) (λ k h. miss k (omega arith) h) (λ h. absurd (omega arith)), omega arith)
+  row_found (Some j) f =
+      (row j (omega (arith, f.1)) (λ k h. f.3 k (omega arith) h) (λ h. f.2), omega (arith, f.1))

@@ -1,5 +1,5 @@
-// entering: what an energy notice meets in its point's part and what it leaves there, its record first and then, after an
-// append, the pending request.
+// entering: what an energy notice meets in its point's part and what it leaves there, its record first and then, after
+// an append, the pending request.
 #![tactic(auto)]
 
 ghost use Rattle.std.specs.Prelude.{◌≡◌, not, ◌≤◌};
@@ -7,73 +7,63 @@ ghost use Rattle.numbers.specs.Search.{is_some};
 ghost use Rattle.lists.specs.InnerSteps.{starting_on, append_day_of};
 ghost use Rattle.lists.specs.InnerWell.{MayEnter};
 ghost use Rattle.layout.specs.Places.{rec_count};
-ghost use Rattle.layout.specs.Layout.{point_from, num_at};
+ghost use Rattle.layout.specs.Layout.{point_from};
 ghost use Rattle.layout.specs.InnerParts.{room_of, SoundPart};
 ghost use Rattle.point.specs.InnerTests.{day_if};
+ghost use Rattle.point.specs.Parts.{lists_of, number_in};
 ghost use Rattle.entering.specs.InnerEntering.{entry_from, InRange, row_in, Recorded, SettledTo};
 
-// A notice's numbers as naturals, its energy raised by 1,000,000; a number that is none as the marker 2^63.
+use daybook::Settlement;
+use point::Part;
+use rows::Record;
+
+// A notice's numbers as naturals; a number that is none as the marker 2^63. Type and flag stay numbers: raised_notice
+// reads any notice, and InRange says which are in range. No function reads mirn, but notice_of gives the notice by it.
 #[derive(Clone, Copy)]
 pub struct RaisedNotice {
     pub mirn: u64,
-    pub start: u64,
-    pub end: u64,
-    pub energy: u64,
-    pub type_: u64,
+    pub entry: Record,
     pub confirmed: u64,
 }
 
-// Which of the three a notice was, and how many records with a later start it removed.
-#[derive(Clone, Copy)]
-pub struct Kept {
-    pub which: u64,
-    pub removed: u64,
-}
-
-// The User that was registered or 0, and whether the request lapsed.
-#[derive(Clone, Copy)]
-pub struct Settled {
-    pub user: u64,
-    pub lapsed: u64,
+// Which of the three a notice was; a recut removes the records with a later start.
+#[derive(Clone, Copy, Debug, PartialEq, Eq)]
+pub enum Kept {
+    Appended,
+    Replaced,
+    Recut { removed: u64 },
 }
 
 // The record that starts on a day, by its index; the number of records if none does.
-fn row_of(p: &[i64], start: u64) -> usize
-    requires { SoundPart p.now }
-    ensures { (result ≡ row_in (point_from p.now).recs start) × (result ≤ num_at p.now rec_count) }
+fn row_of(part: &Part, start: u64) -> usize
+    ensures { (result ≡ row_in (lists_of part.now).recs start) × (result ≤ number_in part.now rec_count) }
 {
-    let n = places::records(p);
-    let mut j: usize = 0;
-    while j < n {
-        if places::rec_start(p, j) == start {
-            return j;
-        }
-        j += 1;
-    }
-    j
+    let n = places::records(part.numbers);
+    (0..n)
+        .find(|j| places::rec_start(part.numbers, *j) == start)
+        .unwrap_or(n)
 }
 
 // Does no record start on the day?
-pub fn appends(p: &[i64], start: u64) -> bool
-    requires { SoundPart p.now }
-    ensures { result ≡ not (is_some (starting_on (point_from p.now).recs start)) }
+pub fn appends(part: &Part, start: u64) -> bool
+    ensures { result ≡ not (is_some (starting_on (lists_of part.now).recs start)) }
 {
-    row_of(p, start) == places::records(p)
+    row_of(part, start) == places::records(part.numbers)
 }
 
-// The first day that is not off, of those after the last record or, with no record, from install on; 40,001 if all are off.
-pub fn append_day(p: &[i64]) -> u64
-    requires { SoundPart p.now }
-    ensures { day_if result ≡ append_day_of (point_from p.now) }
+// The first day that is not off, of those after the last record or, with no record, from install on; 40,001 if all are
+// off, which `day_if` reads as no day.
+pub fn append_day(part: &Part) -> u64
+    ensures { day_if result ≡ append_day_of (lists_of part.now) }
 {
-    let spans = places::spans(p);
-    let recs = places::records(p);
+    let spans = places::spans(part.numbers);
+    let recs = places::records(part.numbers);
     if recs == 0 {
-        let install = places::install(p);
-        return point::first_on(p, spans, install);
+        let install = places::install(part.numbers);
+        return point::first_on(part.numbers, spans, install);
     }
-    let end = places::rec_end(p, recs - 1);
-    point::first_on(p, spans, end + 1)
+    let end = places::rec_end(part.numbers, recs - 1);
+    point::first_on(part.numbers, spans, end + 1)
 }
 
 // The record in its place: an append behind the others, a replacement in the place of its predecessor, a recut in the
@@ -83,33 +73,27 @@ pub fn enter_record(p: &mut [i64], x: RaisedNotice) -> Kept
     ensures { Recorded p.old x result p.new }
 {
     let n = places::records(p);
-    let j = row_of(p, x.start);
+    let part = Part { numbers: p };
+    let j = row_of(&part, x.entry.start);
     if j == n {
-        rows::append_record(p, n, x.start, x.end, x.energy, x.type_);
-        return Kept {
-            which: 1,
-            removed: 0,
-        };
+        rows::append_record(p, n, x.entry);
+        return Kept::Appended;
     }
     let end = places::rec_end(p, j);
-    if end == x.end {
-        rows::put_record(p, j, x.start, x.end, x.energy, x.type_);
-        return Kept {
-            which: 2,
-            removed: 0,
-        };
+    if end == x.entry.end {
+        rows::put_record(p, j, x.entry);
+        return Kept::Replaced;
     }
     rows::cut_records(p, j, n);
-    rows::append_record(p, j, x.start, x.end, x.energy, x.type_);
-    Kept {
-        which: 3,
+    rows::append_record(p, j, x.entry);
+    Kept::Recut {
         removed: (n - j - 1) as u64,
     }
 }
 
-// The pending request, once an append stands: by its end the User is registered from the next day on, in section 1 by an
-// actual reading only, or the request stays, or it lapses.
-pub fn settle_request(p: &mut [i64], x: RaisedNotice) -> Settled
+// The pending request, once an append stands: by its end the User is registered from the next day on, in section 1 by
+// an actual reading only, or the request stays, or it lapses.
+pub fn settle_request(p: &mut [i64], x: RaisedNotice) -> Settlement
     requires { SoundPart p.old × InRange x }
     ensures { SettledTo p.old x result p.new }
 {
@@ -118,17 +102,17 @@ pub fn settle_request(p: &mut [i64], x: RaisedNotice) -> Settled
     let first = places::pending_first(p);
     let last = places::pending_last(p);
     let latest = places::reg_start(p, n - 1);
-    let end = x.end;
+    let end = x.entry.end;
     let section = places::section(p);
     let timely = (user != 0) & (first <= end) & (end <= last) & (latest < end + 1);
-    if timely & ((section == 0) | (x.type_ == 0)) {
+    if timely & ((section == 0) | (x.entry.type_ == 0)) {
         rows::append_registration(p, n, end + 1, user);
         rows::clear_pending(p);
-        return Settled { user, lapsed: 0 };
+        return Settlement::Registered(user);
     }
     if (user == 0) | (end <= last) {
-        return Settled { user: 0, lapsed: 0 };
+        return Settlement::Unsettled;
     }
     rows::clear_pending(p);
-    Settled { user: 0, lapsed: 1 }
+    Settlement::Lapsed
 }

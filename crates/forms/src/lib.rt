@@ -76,10 +76,7 @@ pub fn form_of(call: CallWord) -> Form
 pub fn natural(nums: &[i64], i: usize) -> u64
     ensures { (result ≡ nat_of (num nums.now i)) × (result ≤ 2 ^ 63) }
 {
-    if i < nums.len() {
-        return numbers::get(nums, i);
-    }
-    0
+    nums.get(i).map_or(0, |x| numbers::natural(*x))
 }
 
 // The numbers of a line up to its list.
@@ -87,10 +84,7 @@ pub fn own_numbers(f: Form) -> usize
     requires { f.takes ≤ 7 }
     ensures { (result ≡ own_numbers f) × (result ≤ 8) }
 {
-    if f.list {
-        return f.takes + 1;
-    }
-    f.takes
+    if f.list { f.takes + 1 } else { f.takes }
 }
 
 // All its numbers.
@@ -99,11 +93,11 @@ fn size(f: Form, nums: &[i64]) -> u64
     ensures { result ≡ size_of f nums.now }
 {
     let own = own_numbers(f) as u64;
-    let takes = f.takes;
     if f.list {
-        return own + natural(nums, takes);
+        own + natural(nums, f.takes)
+    } else {
+        own
     }
-    own
 }
 
 // Whether a line has the numbers of its form.

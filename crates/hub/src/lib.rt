@@ -1,5 +1,6 @@
 // The register for C. Each function decodes the register's bytes into a table of its own, runs the proved call on that
-// and encodes what it gives; no input is excluded. include/petlumas.h says the same in C's words.
+// and encodes what it gives; no input is excluded. include/petlumas.h says the same in C's words. The C interface has a
+// function of its own for each call, with that call's numbers.
 #![tactic(auto)]
 
 ghost use Rattle.std.specs.Prelude.{◌≡◌, ◌/◌, length};

@@ -1,7 +1,7 @@
 -- What each line of a journal on images does on the register's buffer and on the images', as bytes: the text that it
 -- prints and the buffers after it. A line with another count of numbers, or with a number out of bounds, is no call,
 -- and does nothing.
-use Rattle.std.specs.Prelude.{Bool, cond, ◌&&◌, List, [], ◌∷◌, ◌++◌, ◌≡◌, ℕ, ◌+◌, ◌*◌, ◌≤◌, eqb, leb, ltb, ℤ, pos, length, take, drop, replicate, set}
+use Rattle.std.specs.Prelude.{Bool, true, false, cond, ◌&&◌, List, [], ◌∷◌, ◌++◌, ◌≡◌, ℕ, ◌+◌, ◌*◌, ◌≤◌, eqb, leb, ltb, ℤ, pos, length, take, drop, replicate, set}
 use mathlib.Core.Option.{Option, none, some}
 use Rattle.numbers.specs.Search.{maybe}
 use Rattle.words.specs.Words.{word_at}
@@ -13,7 +13,7 @@ use Rattle.images.specs.Images.{save_call, restore_call}
 use Rattle.buffers.specs.Buffers.{table_in, written_bytes, written, image_in}
 use Rattle.journal.specs.declared.ImageWord.{ImageWord}
 use Rattle.journal.specs.declared.ImageWord.TheVariants.{Save, Restore, Poke, Sums}
-use Rattle.printing.specs.Rows.{row_bytes, row_of, Printed}
+use Rattle.printing.specs.Rows.{row_bytes, row_of}
 use Rattle.lines.specs.Lines.{LineResult, on_lent, size}
 
 -- An image's buffer has sixteen bytes more than an image. There are five, one after the other.
@@ -113,9 +113,11 @@ image_line Sums b lent images xs = on_images b (sums_line images xs)
 
 -- ---- what the code does
 
--- The outcome is in both buffers, b and i, and in the output, which has room for a row.
-pub record ImagePlayed (o : ImageResult) (b i out : List ℕ) (at : ℕ) (b' i' out' : List ℕ) (r : ℕ) : Type 0 where
-  pub room : r ≤ at + row_bytes
+-- The outcome is in both buffers, b and i, and behind what is printed, in the room of a row; and whether the line is a
+-- call.
+pub record ImagePlayed (o : ImageResult) (b i out b' i' out' : List ℕ) (is_call : Bool) : Type 0 where
+  pub room : length out' ≤ length out + row_bytes
   pub register : b' ≡ maybe b (λ p. p.1.0) o
   pub images : i' ≡ maybe i (λ p. p.1.1) o
-  pub text : Printed out at (maybe [] (λ p. p.0) o) out' r
+  pub text : out' ≡ out ++ maybe [] (λ p. p.0) o
+  pub call : is_call ≡ maybe false (λ p. true) o

@@ -1,15 +1,16 @@
 // The lines of a journal on images: save and restore, one byte set, and the sums of a buffer. Each takes its numbers,
-// works on the bytes of the register's buffer and of the images', and writes its text at place `at` of the output. It
-// answers the place after the text, or `at` where the line is no call.
+// works on the bytes of the register's buffer and of the images', and prints its text. It answers whether it is a call;
+// one that is none leaves the buffers and prints nothing.
 #![tactic(auto)]
 
-ghost use Rattle.std.specs.Prelude.{true, ◌≡◌, ◌+◌, ◌≤◌, length};
-ghost use Rattle.printing.specs.Rows.{row_bytes, Printed};
+ghost use Rattle.std.specs.Prelude.{true, ◌++◌, ◌≡◌, ◌+◌, ◌≤◌, length};
+ghost use Rattle.printing.specs.Rows.{row_bytes};
 ghost use Rattle.lines.specs.Lines.{buffer_numbers, buffer_bytes, size, Played};
 ghost use Rattle.imagelines.specs.ImageLines.{images_bytes, image_at, lends_image, pokeable as ImageLines·pokeable, summable as ImageLines·summable, answered, save_line, restore_line, imgpoke_line, sums_line, image_line, ImagePlayed};
 
 use journal::ImageWord;
-use printing::row;
+use printing::Output;
+use std::ops::Range;
 
 // The buffer of an image, which has sixteen bytes more than the image. Five of them stand one after the other.
 const IMAGE_BYTES: usize = 63504;
@@ -27,61 +28,74 @@ fn lendable(nums: &[i64]) -> bool
     (nums.len() == 3) & (image & bytes)
 }
 
-#[derive(Clone, Copy)]
-struct Part {
-    start: usize,
-    end: usize,
-}
-
 // The bytes that are lent.
-fn lent_part(nums: &[i64]) -> Part
+fn lent_part(nums: &[i64]) -> Range<usize>
     requires { lends_image nums.now ≡ true }
     ensures { (result.start ≡ image_at (size nums.now 1)) × (result.end ≡ result.start + size nums.now 2) × (result.end ≤ images_bytes) }
 {
     let start = IMAGE_BYTES * forms::natural(nums, 1) as usize;
     let bytes = forms::natural(nums, 2) as usize;
     let end = start + bytes;
-    Part { start, end }
+    start..end
 }
 
 // The row of an answer without a field.
-fn print_answer(out: &mut [u8], at: usize, answer: &[u8]) -> usize
-    requires { (8 ≤ length answer.now) × (at + row_bytes ≤ length out.old) }
-    ensures { (result ≤ at + row_bytes) × Printed out.old at (answered answer.now) out.new result }
+fn print_answer<const N: usize>(out: &mut Output<N>, answer: &[u8])
+    requires { (8 ≤ length answer.now) × (length out.old + row_bytes ≤ N) }
+    ensures text { out.new ≡ out.old ++ answered answer.now }
+    ensures room { length out.new ≤ length out.old + row_bytes }
 {
-    printing::signed_row(out, at, &[words::word(answer, 0)])
+    out.row(&[words::word(answer, 0)]);
 }
 
 // Saves the register's lent bytes.
-fn save(register: &[u8], images: &mut [u8], nums: &[i64], out: &mut [u8], at: usize) -> usize
-    requires { (length images.old ≡ images_bytes) × (at + row_bytes ≤ length out.old) }
-    ensures { Played (save_line register.now images.old nums.now) images.old out.old at images.new out.new result }
+fn save<const N: usize>(
+    register: &[u8],
+    images: &mut [u8],
+    nums: &[i64],
+    out: &mut Output<N>,
+) -> bool
+    requires { (length images.old ≡ images_bytes) × (length out.old + row_bytes ≤ N) }
+    ensures { Played (save_line register.now images.old nums.now) images.old out.old images.new out.new result }
 {
     if !lendable(nums) {
-        return at;
+        return false;
     }
     let part = lent_part(nums);
-    let start = part.start;
-    let end = part.end;
     let mut answer = [0u8; 8];
-    hub::petlumas_save(register, &mut answer, &mut images[start..end], nums[0]);
-    print_answer(out, at, &answer)
+    hub::petlumas_save(
+        register,
+        &mut answer,
+        &mut images[part.start..part.end],
+        nums[0],
+    );
+    print_answer(out, &answer);
+    true
 }
 
 // Restores them.
-fn restore(register: &mut [u8], images: &[u8], nums: &[i64], out: &mut [u8], at: usize) -> usize
-    requires { (length images.now ≡ images_bytes) × (at + row_bytes ≤ length out.old) }
-    ensures { Played (restore_line register.old images.now nums.now) register.old out.old at register.new out.new result }
+fn restore<const N: usize>(
+    register: &mut [u8],
+    images: &[u8],
+    nums: &[i64],
+    out: &mut Output<N>,
+) -> bool
+    requires { (length images.now ≡ images_bytes) × (length out.old + row_bytes ≤ N) }
+    ensures { Played (restore_line register.old images.now nums.now) register.old out.old register.new out.new result }
 {
     if !lendable(nums) {
-        return at;
+        return false;
     }
     let part = lent_part(nums);
-    let start = part.start;
-    let end = part.end;
     let mut answer = [0u8; 8];
-    hub::petlumas_restore(register, &mut answer, &images[start..end], nums[0]);
-    print_answer(out, at, &answer)
+    hub::petlumas_restore(
+        register,
+        &mut answer,
+        &images[part.start..part.end],
+        nums[0],
+    );
+    print_answer(out, &answer);
+    true
 }
 
 // Whether a line has the numbers of a buffer, of one of its bytes, and a byte.
@@ -95,17 +109,18 @@ fn pokeable(nums: &[i64]) -> bool
 }
 
 // Sets one byte of a buffer.
-fn poke(images: &mut [u8], nums: &[i64], out: &mut [u8], at: usize) -> usize
-    requires { (length images.old ≡ images_bytes) × (at + row_bytes ≤ length out.old) }
-    ensures { Played (imgpoke_line images.old nums.now) images.old out.old at images.new out.new result }
+fn poke<const N: usize>(images: &mut [u8], nums: &[i64], out: &mut Output<N>) -> bool
+    requires { (length images.old ≡ images_bytes) × (length out.old + row_bytes ≤ N) }
+    ensures { Played (imgpoke_line images.old nums.now) images.old out.old images.new out.new result }
 {
     if !pokeable(nums) {
-        return at;
+        return false;
     }
     let first = IMAGE_BYTES * forms::natural(nums, 0) as usize;
     let place = first + forms::natural(nums, 1) as usize;
     images[place] = forms::natural(nums, 2) as u8;
-    row(out, at, &[0])
+    out.row(&[0u64]);
+    true
 }
 
 // Whether it has the number of a buffer.
@@ -117,37 +132,37 @@ fn summable(nums: &[i64]) -> bool
 }
 
 // The sums of all bytes of a buffer.
-fn sums(images: &[u8], nums: &[i64], out: &mut [u8], at: usize) -> usize
-    requires { (length images.now ≡ images_bytes) × (at + row_bytes ≤ length out.old) }
-    ensures { Played (sums_line images.now nums.now) images.now out.old at images.now out.new result }
+fn sums<const N: usize>(images: &[u8], nums: &[i64], out: &mut Output<N>) -> bool
+    requires { (length images.now ≡ images_bytes) × (length out.old + row_bytes ≤ N) }
+    ensures { Played (sums_line images.now nums.now) images.now out.old images.now out.new result }
 {
     if !summable(nums) {
-        return at;
+        return false;
     }
     let start = IMAGE_BYTES * forms::natural(nums, 0) as usize;
     let end = start + IMAGE_BYTES;
     let s = words::byte_sums(&images[start..end]);
-    row(out, at, &[0, s.s1, s.s2])
+    out.row(&[0, s.s1, s.s2]);
+    true
 }
 
 // Any line on images. Save and restore are lent the first numbers of the register's buffer.
-pub fn answer(
+pub fn answer<const N: usize>(
     word: ImageWord,
     register: &mut [u8],
     lent: usize,
     images: &mut [u8],
     nums: &[i64],
-    out: &mut [u8],
-    at: usize,
-) -> usize
-    requires { (length register.old ≡ buffer_bytes) × (lent ≤ buffer_numbers) × (length images.old ≡ images_bytes) × (at + row_bytes ≤ length out.old) }
-    ensures { ImagePlayed (image_line word register.old lent images.old nums.now) register.old images.old out.old at register.new images.new out.new result }
+    out: &mut Output<N>,
+) -> bool
+    requires { (length register.old ≡ buffer_bytes) × (lent ≤ buffer_numbers) × (length images.old ≡ images_bytes) × (length out.old + row_bytes ≤ N) }
+    ensures { ImagePlayed (image_line word register.old lent images.old nums.now) register.old images.old out.old register.new images.new out.new result }
 {
     let n = 8 * lent;
     match word {
-        ImageWord::Save => save(&register[0..n], images, nums, out, at),
-        ImageWord::Restore => restore(&mut register[0..n], images, nums, out, at),
-        ImageWord::Poke => poke(images, nums, out, at),
-        ImageWord::Sums => sums(images, nums, out, at),
+        ImageWord::Save => save(&register[0..n], images, nums, out),
+        ImageWord::Restore => restore(&mut register[0..n], images, nums, out),
+        ImageWord::Poke => poke(images, nums, out),
+        ImageWord::Sums => sums(images, nums, out),
     }
 }

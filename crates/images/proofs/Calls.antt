@@ -1,5 +1,8 @@
 -- What the two calls give, row by row. Assumes nothing.
 use Rattle.std.proofs.Common.{◌≡◌, ℕ, zero, suc, ◌<◌, ◌≤◌, Bool, true, false, cond, not, ◌&&◌, leb, List, [], ◌∷◌, ◌++◌, length, drop, ℤ, pos, sym, refl, ap, ◌∙◌, ap₂, arith, le-ltb, lt-ltb, leb-true}
+use Rattle.refusals.specs.declared.Refusal.{Refusal}
+use Rattle.refusals.specs.Refusals.{number_of}
+use Rattle.refusals.proofs.Numbers.{number_within}
 use Rattle.numbers.specs.Naturals.{nat_of}
 use Rattle.numbers.proofs.Bools.{both}
 use Rattle.daybook.specs.Notices.{Row, least, Numbers, decide}
@@ -127,10 +130,13 @@ module _ (E : Editions) (t : List ℤ) (n : ℤ) (image : List ℕ) where
     pub restore_out : asked n image ≡ false → restore_call E t n image ≡ (pos 2 ∷ [], t)
     restore_out e = restore_row_lem 1 (image_out n image e)
 
-    -- the row that the code found
-    pub restore_sent : (r : ℕ) → r ≡ first_row rows → (r ≡ 0 → ⊥) → restore_call E t n image ≡ (pos r ∷ [], t)
-    restore_sent zero e f = absurd (f refl)
-    restore_sent (suc r) e f = restore_row_lem r (sym e)
+    -- the refusal that the code found
+    pub restore_sent : (e : Refusal) → number_of e ≡ first_row rows → restore_call E t n image ≡ (pos (number_of e) ∷ [], t)
+    restore_sent e h = go (number_of e) refl
+      where
+        go : (r : ℕ) → number_of e ≡ r → restore_call E t n image ≡ (pos r ∷ [], t)
+        go zero z = absurd (omega (arith, z, number_within e))
+        go (suc r) z = restore_row_lem r (sym h ∙ z)
 
     passed : first_row rows ≡ 0 → restore_call E t n image ≡ decide (first_row (last_row (sound (edition_in E held) held))) 0 t ([], held ++ drop table_length t)
     unfolding first_row

@@ -1,3 +1,6 @@
 -- Laws of a journal's text.
-pub mod Text
+pub mod Numbers
+pub mod Words
+pub mod Ends
+pub mod Line
 pub mod Names

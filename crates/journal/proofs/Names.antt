@@ -1,45 +1,30 @@
--- Two runs of bytes compared, byte by byte as the code goes. Assumes nothing.
-use mathlib.Core.Path.{◌≡◌, refl, ap}
-use mathlib.Core.Bool.{Bool, true, false, ◌&&◌}
-use mathlib.Core.List.{List, [], ◌∷◌}
-use Prim.Native.Nat.{ℕ, suc, ◌+◌, ◌≤◌, ◌<◌}
-use native.Mathlib.Numerals.{add-one}
-use native.Mathlib.Omega.{arith}
-use borrow.Author.Tests.{eq-eqb, ne_eqb}
-use lib.Dec.{eqb}
-use lib.ListN.{length, drop, get_or, drop_of_length-le}
-use lib.Seq.{drop-cons}
+-- Words compared with names. Assumes nothing.
+use Rattle.std.proofs.Common.{◌≡◌, ◌≢◌, ℕ, zero, suc, ◌<◌, Bool, true, false, ltb, List, [], ◌∷◌, get_or, refl, ap, ◌∙◌, rules, lit<, Decides}
+use Rattle.std.specs.List.{list_all}
+use Rattle.std.specs.Str.{IsUtf8}
+use Rattle.std.proofs.lemmas.Str.{IsUtf8-from_ascii}
+use Rattle.std.proofs.lemmas.Slice.Eq.{compares_Decides}
+use borrow.Author.Tests.{ltb-true}
+use Rattle.numbers.proofs.Bools.{both}
 use Rattle.journal.specs.Names.{same_bytes}
 
-both_false : (a : Bool) → (a && false) ≡ false
-both_false true = refl
-both_false false = refl
-
-pub lengths_differ : (a b : List ℕ) → (length a ≡ length b → ⊥) → same_bytes a b ≡ false
+same_bytes_decides : (v w : List ℕ) → Decides (same_bytes v w) (v ≡ w)
 unfolding same_bytes
-lengths_differ [] [] h = absurd (h refl)
-lengths_differ [] (y ∷ b) h = refl
-lengths_differ (x ∷ a) [] h = refl
-lengths_differ (x ∷ a) (y ∷ b) h = rw (lengths_differ a b (λ e. h (ap suc e))) (both_false (eqb x y))
+same_bytes_decides v w = compares_Decides same_bytes (search rules) v w
 
-module _ (a b : List ℕ) (i : ℕ) (l : length a ≡ length b) where
-  module _ (h : i < length a) where
-    cut_a : drop i a ≡ get_or a i 0 ∷ drop (suc i) a
-    cut_a = drop-cons a i 0 h
+not_true : (t : Bool) → (t ≡ true → ⊥) → t ≡ false
+not_true true h = absurd (h refl)
+not_true false h = refl
 
-    cut_b : drop i b ≡ get_or b i 0 ∷ drop (suc i) b
-    cut_b = drop-cons b i 0 (omega arith)
+pub same_bytes_other : (v w : List ℕ) → v ≢ w → same_bytes v w ≡ false
+same_bytes_other v w h = not_true (same_bytes v w) (λ e. h ((same_bytes_decides v w).0 e))
 
-    pub bytes_more : get_or a i 0 ≡ get_or b i 0 → same_bytes (drop (i + 1) a) (drop (i + 1) b) ≡ same_bytes (drop i a) (drop i b)
-    unfolding same_bytes
-    bytes_more e = rw (add-one i, cut_a, cut_b, eq-eqb (get_or a i 0) (get_or b i 0) e)
+-- each name is text, so what is no text is no name
+ascii_at : (w : List ℕ) (i : ℕ) → list_all (λ b. ltb b 128) w ≡ true → get_or w i 0 < 128
+ascii_at [] i h = lit< tt
+ascii_at (b ∷ w) zero h = ltb-true b 128 (both (ltb b 128) (list_all (λ b. ltb b 128) w) h).0
+ascii_at (b ∷ w) (suc i) h = ascii_at w i (both (ltb b 128) (list_all (λ b. ltb b 128) w) h).1
 
-    pub bytes_differ : (get_or a i 0 ≡ get_or b i 0 → ⊥) → same_bytes (drop i a) (drop i b) ≡ false
-    unfolding same_bytes
-    bytes_differ e = rw (cut_a, cut_b, ne_eqb (get_or a i 0) (get_or b i 0) e)
-
-  pub bytes_end : length a ≤ i → same_bytes (drop i a) (drop i b) ≡ true
-  unfolding same_bytes
-  bytes_end h =
-      let k : length b ≤ i = omega arith in
-      rw (drop_of_length-le a h, drop_of_length-le b k)
+pub same_bytes_no_text : (v : List ℕ) → ¬ (IsUtf8 v) → (w : List ℕ) → list_all (λ b. ltb b 128) w ≡ true → same_bytes v w ≡ false
+same_bytes_no_text v h w t =
+    same_bytes_other v w (λ e. h (IsUtf8-from_ascii v (λ i. ascii_at v i (ap (list_all (λ b. ltb b 128)) e ∙ t))))

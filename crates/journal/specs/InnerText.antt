@@ -1,12 +1,13 @@
 -- What the functions that cut a line into words say.
-use Rattle.std.specs.Prelude.{cond, List, ◌≡◌, ℕ, ◌+◌, ◌^◌, ◌≤◌, ◌<◌, leb, length, drop, get_or}
+use Rattle.std.specs.Prelude.{cond, List, ◌≡◌, ℕ, ◌+◌, ◌^◌, ◌≤◌, ◌<◌, ltb, length, drop, get_or}
 use mathlib.Core.Option.{Option, none, some}
+use Rattle.std.specs.Prelude as Std·
 use Rattle.journal.specs.Text.{words_of}
 
--- A magnitude as the code holds it: 2^63 + 1 for none and for all above 2^63.
-abbrev pub capped : Option ℕ → ℕ
-capped none = 2 ^ 63 + 1
-capped (some m) = cond (leb m (2 ^ 63)) m (2 ^ 63 + 1)
+-- A magnitude as the code holds it: nothing if it is 2^64 or more.
+abbrev pub fitting : Option ℕ → Std·.Option ℕ
+fitting none = Std·.None
+fitting (some m) = cond (ltb m (2 ^ 64)) (Std·.Some m) Std·.None
 
 -- r is the place of the first word's start at or after at, or the line's end.
 pub record Skipped (line : List ℕ) (at r : ℕ) : Type 0 where

@@ -36,7 +36,7 @@ abbrev pub image : List ℕ → List ℕ → ImageWord → Command → Command
 image w name is other = pick (same_bytes w name) (Image is) other
 
 -- correct, withdraw, request
-unfoldable pub transfer_or : List ℕ → Command → Command
+abbrev pub transfer_or : List ℕ → Command → Command
 transfer_or w other =
     (transfer w (99 ∷ 111 ∷ 114 ∷ 114 ∷ 101 ∷ 99 ∷ 116 ∷ []) Transfer·.Correct
     (transfer w (119 ∷ 105 ∷ 116 ∷ 104 ∷ 100 ∷ 114 ∷ 97 ∷ 119 ∷ []) Transfer·.Withdraw
@@ -44,7 +44,7 @@ transfer_or w other =
     other)))
 
 -- status, energy, open, fresh
-unfoldable pub notice_or : List ℕ → Command → Command
+abbrev pub notice_or : List ℕ → Command → Command
 notice_or w other =
     (notice w (115 ∷ 116 ∷ 97 ∷ 116 ∷ 117 ∷ 115 ∷ []) Notice·.Status
     (notice w (101 ∷ 110 ∷ 101 ∷ 114 ∷ 103 ∷ 121 ∷ []) Notice·.Energy
@@ -53,7 +53,7 @@ notice_or w other =
     other))))
 
 -- date, allocate, account
-unfoldable pub query_or : List ℕ → Command → Command
+abbrev pub query_or : List ℕ → Command → Command
 query_or w other =
     (query w (100 ∷ 97 ∷ 116 ∷ 101 ∷ []) Query·.Date
     (query w (97 ∷ 108 ∷ 108 ∷ 111 ∷ 99 ∷ 97 ∷ 116 ∷ 101 ∷ []) Query·.Allocate
@@ -61,7 +61,7 @@ query_or w other =
     other)))
 
 -- image, imgpoke, restore, save
-unfoldable pub image_or : List ℕ → Command → Command
+abbrev pub image_or : List ℕ → Command → Command
 image_or w other =
     (image w (105 ∷ 109 ∷ 97 ∷ 103 ∷ 101 ∷ []) Image·.Sums
     (image w (105 ∷ 109 ∷ 103 ∷ 112 ∷ 111 ∷ 107 ∷ 101 ∷ []) Image·.Poke

@@ -3,10 +3,7 @@ use Rattle.std.specs.Prelude.{Bool, cond, ◌&&◌, List, [], ◌∷◌, ℕ, �
 use mathlib.Core.Option.{Option, none, some}
 use lib.IntN.{sub_ℕ}
 use Rattle.numbers.specs.Search.{maybe}
-use Rattle.journal.specs.declared.Parsed.{Parsed}
-use Rattle.journal.specs.declared.Parsed.TheVariants as Parsed·
-use Rattle.journal.specs.declared.Taken.{Taken}
-use Rattle.journal.specs.declared.Taken.TheVariants as Taken·
+use Rattle.std.specs.Prelude as Std·
 
 -- ---- a number
 
@@ -55,15 +52,15 @@ numbers_of (w ∷ ws) = maybe none (λ x. maybe none (λ xs. some (x ∷ xs)) (n
 
 -- ---- what the code answers
 
-abbrev pub value_of : Parsed → Option ℤ
-value_of (Parsed·.Value x) = some x
-value_of Parsed·.Nothing = none
+abbrev pub value_of : Std·.Option ℤ → Option ℤ
+value_of (Std·.Some x) = some x
+value_of Std·.None = none
 
 -- The numbers read into a table.
-abbrev pub read_into : Taken → List ℤ → Option (List ℤ)
-read_into (Taken·.Count n) t = some (take n t)
-read_into Taken·.Nothing t = none
+abbrev pub read_into : Std·.Option ℕ → List ℤ → Option (List ℤ)
+read_into (Std·.Some n) t = some (take n t)
+read_into Std·.None t = none
 
-abbrev pub taken_count : Taken → ℕ
-taken_count (Taken·.Count n) = n
-taken_count Taken·.Nothing = 0
+abbrev pub taken_count : Std·.Option ℕ → ℕ
+taken_count (Std·.Some n) = n
+taken_count Std·.None = 0

@@ -44,15 +44,6 @@ cleared_mid a u b n k e h =
     ∙ cleared_front a (u ++ b) n (length u) e (simp length-append (omega arith))
     ∙ ap₂ (λ j t. a ++ (zeros_of j ++ t)) h (drop-append_seam u b)
 
--- for a loop that clears one place after the other
-pub cleared_none : (t : List ℤ) (a : ℕ) → t ≡ cleared t a 0
-unfolding cleared
-cleared_none t a = refl
-
-pub cleared_more : (t u : List ℤ) (a k : ℕ) → u ≡ cleared t a k → set u (a + k) (pos 0) ≡ cleared t a (k + 1)
-unfolding cleared
-cleared_more t u a k e = rw (add-one, e)
-
 pub length_cleared : (t : List ℤ) (a n : ℕ) → length (cleared t a n) ≡ length t
 unfolding cleared
 length_cleared t a zero = refl

@@ -3,8 +3,10 @@
 
 ghost use Rattle.std.specs.Prelude.{◌++◌, ◌≡◌, ◌+◌, ◌*◌, ◌≤◌, length, take, replicate};
 ghost use Rattle.buffers.specs.Buffers.{numbers_held, with_numbers};
-ghost use Rattle.printing.specs.Rows.{row_bytes, row_of, Printed};
+ghost use Rattle.printing.specs.Rows.{row_bytes, row_of};
 ghost use Rattle.lending.specs.Lending.{answer_bytes, table_bytes};
+
+use printing::Output;
 
 // Numbers as bytes, the first of b.
 pub fn bytes_of<'a, 'b>(xs: &'a [i64], b: &'b mut [u8]) -> &'b mut [u8]
@@ -18,24 +20,24 @@ pub fn bytes_of<'a, 'b>(xs: &'a [i64], b: &'b mut [u8]) -> &'b mut [u8]
 }
 
 // The first bytes of b as n numbers x.
+#[tactic(auto, using(crate::proofs::Bytes::one_more), unfolding(words::specs::Tables::encoded_into, buffers::specs::Buffers::with_numbers))]
 pub fn filled<'b>(n: usize, x: i64, b: &'b mut [u8]) -> &'b mut [u8]
     requires { 8 * n ≤ length b.old }
     ensures { (result.now ≡ with_numbers (replicate n x) (take (8 * n) b.old)) × (length result.now ≡ 8 * n) }
 {
     let end = 8 * n;
     let r = &mut b[..end];
-    let mut k = 0;
-    while k < n {
+    for k in 0..n {
         words::put_word(r, 8 * k, x);
-        k += 1;
     }
     r
 }
 
 // The row of an answer and a table, 18 and 512 numbers at most.
-pub fn print_row(out: &mut [u8], at: usize, answer: &[u8], table: &[u8]) -> usize
-    requires { (length answer.now ≤ answer_bytes) × (length table.now ≤ table_bytes) × (at + row_bytes ≤ length out.old) }
-    ensures { (result ≤ at + row_bytes) × Printed out.old at (row_of (numbers_held answer.now ++ numbers_held table.now)) out.new result }
+pub fn print_row<const N: usize>(out: &mut Output<N>, answer: &[u8], table: &[u8])
+    requires { (length answer.now ≤ answer_bytes) × (length table.now ≤ table_bytes) × (length out.old + row_bytes ≤ N) }
+    ensures text { out.new ≡ out.old ++ row_of (numbers_held answer.now ++ numbers_held table.now) }
+    ensures room { length out.new ≤ length out.old + row_bytes }
 {
     let n = answer.len() / 8;
     let m = table.len() / 8;
@@ -43,5 +45,5 @@ pub fn print_row(out: &mut [u8], at: usize, answer: &[u8], table: &[u8]) -> usiz
     let mut numbers = [0i64; 530];
     words::decode(answer, 0, &mut numbers, 0, n);
     words::decode(table, 0, &mut numbers, n, m);
-    printing::signed_row(out, at, &numbers[0..end])
+    out.row(&numbers[..end]);
 }

@@ -13,7 +13,7 @@ use lib.ListN.{length, take, drop, replicate, length-drop}
 use Rattle.numbers.proofs.Bools.{both}
 use Rattle.buffers.specs.Buffers.{numbers_held, with_numbers}
 use Rattle.journal.specs.declared.CallWord.{CallWord}
-use Rattle.printing.specs.Rows.{row_bytes, row_of, Printed}
+use Rattle.printing.specs.Rows.{row_bytes, row_of}
 use Rattle.lending.specs.Lending.{bytes_of, answer_bytes}
 use Rattle.lending.proofs.Bytes.{take_replicate, in_zeros, filled_in_zeros}
 use Rattle.forms.specs.declared.Form.{Form}
@@ -25,17 +25,16 @@ use Rattle.lines.proofs.Rows.{rest}
 
 -- ---- a call that has been made, its buffers printed
 
-module _ {l : Left} {b b' out out' answer table : List ℕ} {result : ℤ} {at r : ℕ} (e : l ≡ record { result = result; register = b'; answer = answer; table = table }) (h : r ≤ at + row_bytes) where
-  pub acted_is : Printed out at (row_of (numbers_held answer ++ numbers_held table)) out' r → Played (some (acted l)) b out at b' out' r
-  acted_is w = rw e (record { room = h; left = refl; text = w })
+module _ {l : Left} {b b' out out' answer table : List ℕ} {result : ℤ} (e : l ≡ record { result = result; register = b'; answer = answer; table = table }) (h : length out' ≤ length out + row_bytes) where
+  pub acted_is : out' ≡ out ++ (row_of (numbers_held answer ++ numbers_held table)) → Played (some (acted l)) b out b' out' true
+  acted_is w = rw e (record { room = h; left = refl; text = w; call = refl })
 
-  pub showed_is : (f : Form) → Printed out at (shown f result answer table) out' r → Played (some (showed f l)) b out at b' out' r
-  showed_is f w = rw e (record { room = h; left = refl; text = w })
+  pub showed_is : (f : Form) → out' ≡ out ++ (shown f result answer table) → Played (some (showed f l)) b out b' out' true
+  showed_is f w = rw e (record { room = h; left = refl; text = w; call = refl })
 
 -- a text with x behind it, and then b
-pub joined : {out mid out' : List ℕ} {at r r' : ℕ} (a b : List ℕ) (x : ℕ) → Printed out at (a ++ (x ∷ [])) mid r → Printed mid r b out' r' → Printed out at (a ++ (x ∷ b)) out' r'
-joined a b x p q =
-    record { from = omega (arith, p.from, q.from); written = q.written ∙ rw (p.written, append_assoc, append_assoc) }
+pub joined : (out : List ℕ) {mid out' : List ℕ} (a b : List ℕ) (x : ℕ) → mid ≡ out ++ (a ++ (x ∷ [])) → out' ≡ mid ++ b → out' ≡ out ++ (a ++ (x ∷ b))
+joined out a b x p q = rw (q, p, append_assoc, append_assoc)
 
 -- ---- a call on the bytes that are lent; f is its form as the code has it
 
@@ -48,13 +47,13 @@ module _ (call : CallWord) (xs : List ℤ) (f : Form) (t : Bool) (is : f ≡ for
   own_fits own e z = omega (arith, eqb-true (length xs) (size_of f xs) (rw test at z))
 
   -- its buffers are made in zeros, and its answer table of numbers -7
-  pub call_made : {out out' b' : List ℕ} {at r : ℕ} (b list answer table : List ℕ) (own room n gives : ℕ)
+  pub call_made : {out out' b' : List ℕ} (b list answer table : List ℕ) (own room n gives : ℕ)
       → t ≡ true → own ≡ own_numbers f → own ≤ length xs → length xs ≤ line_numbers
       → list ≡ with_numbers (take (length xs - own) (drop own xs)) (take (8 * length (take (length xs - own) (drop own xs))) (replicate (8 * line_numbers) 0))
       → n ≡ table_room f room → n ≤ most_room
       → table ≡ with_numbers (replicate n (negsuc 6)) (take (8 * n) (replicate (8 * most_room) 0))
       → gives ≡ 8 * f.gives → gives ≤ answer_bytes → answer ≡ take (gives - 0) (replicate answer_bytes 0)
-      → Played (some (acted (called call xs list b answer table))) b out at b' out' r → Played (call_line call b room xs) b out at b' out' r
+      → Played (some (acted (called call xs list b answer table))) b out b' out' true → Played (call_line call b room xs) b out b' out' true
   unfolding call_line
   call_made b list answer table own room n gives z own_is fits few list-is n-is small table_is gives-is short answer_is p =
       let long : 8 * length (drop own xs) ≤ 8 * line_numbers = omega (arith, length-drop own xs) in
@@ -93,11 +92,11 @@ module _ (call : CallWord) (xs : List ℤ) (f : Form) (t : Bool) (is : f ≡ for
   not_lent b z = rw (← is, ← test, not-true t z)
 
   -- its buffers are the first bytes of others, each 170
-  pub hub_made : {out out' u : List ℕ} {at r : ℕ} (b answer table : List ℕ) (from n m k : ℕ)
+  pub hub_made : {out out' u : List ℕ} (b answer table : List ℕ) (from n m k : ℕ)
       → t ≡ true → from ≡ lengths f → n ≡ size xs 0 → m ≡ size xs 1 → m ≤ most_bytes → k ≡ table_room f (size xs 2) → k ≤ most_bytes
       → answer ≡ take (m - 0) (buffer most_bytes) → table ≡ take (k - 0) (buffer most_bytes)
-      → Played (some (showed f (called call (take (length xs - from) (drop from xs)) [] (take (n - 0) b) answer table))) (take (n - 0) b) out at u out' r
-      → Played (hub_line call b xs) b out at (u ++ drop (n - 0) b) out' r
+      → Played (some (showed f (called call (take (length xs - from) (drop from xs)) [] (take (n - 0) b) answer table))) (take (n - 0) b) out u out' true
+      → Played (hub_line call b xs) b out (u ++ drop (n - 0) b) out' true
   unfolding hub_line
   hub_made b answer table from n m k z from_is n-is m-is few k-is small answer_is table_is p =
       let a : answer ≡ buffer (size xs 1) = rw (sub-zero m, take_replicate {A = ℕ} m most_bytes 170 few, m-is) at answer_is in

@@ -1,6 +1,6 @@
 -- What each line of a journal does on the register's buffer, as bytes: the text that it prints and the buffer after it.
 -- A line with another count of numbers, or with a number out of bounds, is no call, and does nothing.
-use Rattle.std.specs.Prelude.{Bool, cond, ◌&&◌, List, [], ◌∷◌, ◌++◌, ◌≡◌, ℕ, ◌+◌, ◌*◌, ◌≤◌, eqb, leb, ltb, ℤ, pos, negsuc, length, take, drop, replicate}
+use Rattle.std.specs.Prelude.{Bool, true, false, cond, ◌&&◌, List, [], ◌∷◌, ◌++◌, ◌≡◌, ℕ, ◌+◌, ◌*◌, ◌≤◌, eqb, leb, ltb, ℤ, pos, negsuc, length, take, drop, replicate}
 use mathlib.Core.Option.{Option, none, some}
 use Rattle.numbers.specs.Naturals.{nat_of, same_z}
 use Rattle.numbers.specs.Search.{maybe}
@@ -16,7 +16,7 @@ use Rattle.buffers.specs.Buffers.{numbers_held, with_numbers, table_in, written}
 use Rattle.journal.specs.declared.CallWord.{CallWord}
 use Rattle.journal.specs.declared.Command.{Command}
 use Rattle.journal.specs.declared.Command.TheVariants as Command·
-use Rattle.printing.specs.Rows.{row_bytes, row_of, text_of, hex_of, Printed}
+use Rattle.printing.specs.Rows.{row_bytes, row_of, text_of, hex_of}
 use Rattle.lending.specs.Lending.{bytes_of}
 use Rattle.forms.specs.declared.Form.{Form}
 use Rattle.forms.specs.Forms.{form_of, own_numbers, size_of}
@@ -163,8 +163,9 @@ hub_line call b xs =
 
 -- ---- what the code does
 
--- The outcome is in the buffer and in the output, which has room for a row.
-pub record Played (o : LineResult) (b out : List ℕ) (at : ℕ) (b' out' : List ℕ) (r : ℕ) : Type 0 where
-  pub room : r ≤ at + row_bytes
+-- The outcome is in the buffer and behind what is printed, in the room of a row; and whether the line is a call.
+pub record Played (o : LineResult) (b out b' out' : List ℕ) (is_call : Bool) : Type 0 where
+  pub room : length out' ≤ length out + row_bytes
   pub left : b' ≡ maybe b (λ p. p.1) o
-  pub text : Printed out at (maybe [] (λ p. p.0) o) out' r
+  pub text : out' ≡ out ++ maybe [] (λ p. p.0) o
+  pub call : is_call ≡ maybe false (λ p. true) o

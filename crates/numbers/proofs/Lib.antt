@@ -7,4 +7,3 @@ pub mod Search
 pub mod Sums
 pub mod Floor
 pub mod Shares
-pub mod Answers

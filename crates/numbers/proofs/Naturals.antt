@@ -52,36 +52,6 @@ nat_of_is (negsuc n) h = absurd (omega arith)
 
 -- ---- an energy
 
-low_clean : (x : ℤ) → lt_z x (negsuc 999999) ≡ true → 2 ^ 63 ≡ bias_of x
-low_clean (pos n) e = let z : ◌≡◌ {A = ℕ} 0 1 = cc in absurd (omega arith)
-low_clean (negsuc n) e = rw (le-ltb n 1000000 (omega (arith, ltb-true 999999 n e)))
-
-high_clean : (x : ℤ) → lt_z (pos 1000000) x ≡ true → 2 ^ 63 ≡ bias_of x
-high_clean (pos n) e = rw (lt-leb n 1000000 (ltb-true 1000000 n e))
-high_clean (negsuc n) e = let z : ◌≡◌ {A = ℕ} 0 1 = cc in absurd (omega arith)
-
-within_clean : (x : ℤ) → lt_z x (negsuc 999999) ≡ false → lt_z (pos 1000000) x ≡ false → (x +ℤ pos 1000000 ≡ pos (bias_of x)) × (bias_of x ≤ 2000000)
-within_clean (pos n) p q =
-    let h : n ≤ 1000000 = ltb-false 1000000 n q in
-    rw (le-leb n 1000000 h) (refl, omega arith)
-within_clean (negsuc n) p q =
-    let h : n ≤ 999999 = ltb-false 999999 n p in
-    let g : n < 1000000 = omega arith in
-    let k : suc n ≤ 1000000 = omega arith in
-    let e : 1000000 - suc n ≡ 999999 - n = omega arith in
-    rw (lt-ltb n 1000000 g, le-ltb 1000000 (suc n) k, e) (refl, omega arith)
-
-module _ {x : ℤ} (f : SFits w64 x) where
-  pub bias_low : lt_z (rd x) (negsuc 999999) ≡ true → 2 ^ 63 ≡ bias_of x
-  bias_low e = low_clean x (rw (to_z-of_z w64 x f) at e)
-
-  pub bias_high : lt_z (pos 1000000) (rd x) ≡ true → 2 ^ 63 ≡ bias_of x
-  bias_high e = high_clean x (rw (to_z-of_z w64 x f) at e)
-
-  pub bias_within : lt_z (rd x) (negsuc 999999) ≡ false → lt_z (pos 1000000) (rd x) ≡ false → (rd x +ℤ pos 1000000 ≡ pos (bias_of x)) × (bias_of x ≤ 2000000)
-  bias_within p q =
-      rw (to_z-of_z w64 x f) (within_clean x (rw (to_z-of_z w64 x f) at p) (rw (to_z-of_z w64 x f) at q))
-
 -- a small natural as the machine's signed number
 pub pos_sfits : {n : ℕ} → n < 2 ^ 63 → SFits w64 (pos n)
 pos_sfits h = record { sfits = h }

@@ -1,4 +1,4 @@
--- Searches, for any test: what they find, what their answer tells of the test, and a loop's turn and end. Assumes nothing.
+-- Searches, for any test: what they find, and what their answer tells of the test. Assumes nothing.
 use mathlib.Core.Path.{◌≡◌, refl, sym, ◌∙◌, ap}
 use mathlib.Core.Bool.{Bool, true, false, ◌||◌, cond, or-true, false≢true}
 use mathlib.Core.Option.{Option, none, some}
@@ -115,45 +115,15 @@ pub some_is : (d : ℕ) (o : Option ℕ) → maybe false (eqb d) o ≡ true → 
 some_is d none e = absurd (false≢true e)
 some_is d (some k) e = ap some (sym (eqb-true d k e))
 
--- ---- for a loop
+-- ---- what is found lies among the indices that were searched
 
 module _ (p : ℕ → Bool) where
-  -- ---- upwards, by a loop that takes one index after the other
-  pub from_none : (a : ℕ) → first_from p a 0 ≡ none
-  unfolding first_from
-  from_none a = refl
-
-  pub from_hit : (a n : ℕ) → 0 < n → p a ≡ true → first_from p a n ≡ some a
-  unfolding first_from
-  from_hit a zero l e = absurd (not-suc-le-zero l)
-  from_hit a (suc n) l e = rw e
-
-  pub from_miss : (a n : ℕ) → 0 < n → p a ≡ false → first_from p a n ≡ first_from p (a + 1) (n - 1)
-  unfolding first_from
-  from_miss a zero l e = absurd (not-suc-le-zero l)
-  from_miss a (suc n) l e = let k : suc n - 1 ≡ n = omega arith in rw (k, e, add-one a)
-
   pub from_bound : (a n m : ℕ) → first_from p a n ≡ some m → (a ≤ m) × (m < a + n)
   from_bound a n m = go (first_from p a n) (first_tells p a n)
     where
       go : (o : Option ℕ) → First p a n o → o ≡ some m → (a ≤ m) × (m < a + n)
       go none r e = let z : ◌≡◌ {A = ℕ} 0 1 = cc in absurd (omega arith)
       go (some k) (found u v h f) e = let s : k ≡ m = cc in (omega arith, omega arith)
-
-  -- ---- downwards, by a loop that counts n down to 0
-  pub below_none : last_below p 0 ≡ none
-  unfolding last_below
-  below_none = refl
-
-  pub below_hit : (n : ℕ) → 0 < n → p (n - 1) ≡ true → last_below p n ≡ some (n - 1)
-  unfolding last_below
-  below_hit zero l e = absurd (not-suc-le-zero l)
-  below_hit (suc n) l e = let k : suc n - 1 ≡ n = omega arith in rw (k, rw k at e)
-
-  pub below_miss : (n : ℕ) → 0 < n → p (n - 1) ≡ false → last_below p n ≡ last_below p (n - 1)
-  unfolding last_below
-  below_miss zero l e = absurd (not-suc-le-zero l)
-  below_miss (suc n) l e = let k : suc n - 1 ≡ n = omega arith in rw (k, rw k at e)
 
   pub below_bound : (n m : ℕ) → last_below p n ≡ some m → m < n
   unfolding last_below

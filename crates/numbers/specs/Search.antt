@@ -1,5 +1,5 @@
 -- What may be missing, and searches among days or indices.
-use Rattle.std.specs.Prelude.{Bool, true, false, cond, ℕ, zero, suc}
+use Rattle.std.specs.Prelude.{Bool, true, false, cond, ℕ, zero, suc, Option as Maybe, Some, None}
 use mathlib.Core.Option.{Option, none, some}
 
 -- f of what is there, b if nothing is.
@@ -9,6 +9,11 @@ maybe b f (some a) = f a
 
 abbrev pub is_some : {A : Type 0} → Option A → Bool
 is_some o = maybe false (λ a. true) o
+
+-- What the code answers, as these definitions have it.
+abbrev pub option_of : {A : Type 0} → Maybe A → Option A
+option_of None = none
+option_of (Some a) = some a
 
 -- The first of the n indices from a on at which the test holds. What is left to search is bound by `let` here and below,
 -- so that it is computed only where it is asked.

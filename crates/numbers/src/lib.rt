@@ -9,14 +9,11 @@ ghost use Rattle.numbers.specs.Naturals.{nat_of};
 ghost use Rattle.numbers.specs.InnerEnergies.{bias_of, energy_of};
 ghost use Rattle.numbers.specs.Shares.{floor_part, partial_energy};
 
-// A number as a natural; a negative one as the marker 2^63.
+// A number as a natural; a negative one as the marker 2^63, as `nat_of` has it: tests beside it need no branch.
 pub fn natural(x: i64) -> u64
     ensures { (result ≡ nat_of x) × (result ≤ 2 ^ 63) }
 {
-    if x < 0 {
-        return 0x8000_0000_0000_0000;
-    }
-    x as u64
+    u64::try_from(x).unwrap_or(0x8000_0000_0000_0000)
 }
 
 // And back.
@@ -27,17 +24,15 @@ pub fn integer(n: u64) -> i64
     n as i64
 }
 
-// An energy raised by 1,000,000, so that it is no longer negative; a number that is no energy as the marker 2^63.
+// An energy raised by 1,000,000, so that it is not negative; what is no energy as the marker 2^63, as `bias_of` has
+// it.
 pub fn bias(e: i64) -> u64
     ensures { result ≡ bias_of e }
 {
-    if e < -1000000 {
-        return 0x8000_0000_0000_0000;
+    if (-1000000..=1000000).contains(&e) {
+        return (e + 1000000) as u64;
     }
-    if 1000000 < e {
-        return 0x8000_0000_0000_0000;
-    }
-    (e + 1000000) as u64
+    0x8000_0000_0000_0000
 }
 
 // And back.

@@ -9,7 +9,8 @@ use lib.ListN.{length, drop, length-map}
 use lib.IntN.{ℤ, pos, negsuc}
 use borrow.Author.Tests.{le-leb, lt-leb, lt-ltb, le-ltb}
 use Rattle.numbers.specs.Naturals.{nat_of}
-use Rattle.numbers.specs.Search.{maybe, is_some}
+use Rattle.std.specs.Prelude.{Option as Maybe, Some, None, is_some as has}
+use Rattle.numbers.specs.Search.{is_some, option_of}
 use Rattle.calendar.specs.Calendar.{within, is_day}
 use Rattle.daybook.specs.declared.Edition.{Edition}
 use Rattle.daybook.specs.declared.Opening.{Opening}
@@ -29,7 +30,6 @@ use Rattle.layout.proofs.PointParts.{all_few_of, with_points, table_split}
 use Rattle.layout.proofs.TableSound.{sound_lays, points_count}
 use Rattle.layout.proofs.NewPoint.{fresh_point, append_point_lem}
 use Rattle.table.specs.Lookup.{index_of}
-use Rattle.table.proofs.Laws.{index_none, index_some}
 use Rattle.table.proofs.Found.{found, missing}
 use Rattle.table.proofs.Calls.{call_unsound, laid_over, leaves_is, left_alone}
 use Rattle.opening.specs.Opening.{open_call}
@@ -91,14 +91,10 @@ module _ (ed : Edition) (fits : Fits ed) (t : List ℤ) (g : ed ≡ edition_of t
       (sym (ap₂ (λ u k. append_point ed u k (facts_of n) (nat_of n.user)) (table_split ed R t (sym (sound_lays ed fits t s).1)) (sym (points_count ed t))
       ∙ append_point_lem ed R rest (all_few_of well.points_ok) fits h (facts_of n) (nat_of n.user)))
 
-  -- ---- what the search by MIRN says of row 5
-
-  module _ (i : ℕ) (e : i ≡ maybe ed.points (λ k. k) (index_of ed t (nat_of n.mirn))) where
-    index_known : (i ≡ ed.points → ⊥) → known ≡ true
-    index_known d = ap is_some (found ed fits t s (nat_of n.mirn) i (index_some ed t s (nat_of n.mirn) i e d)).find
-
-    index_new : i ≡ ed.points → known ≡ false
-    index_new d = ap is_some (missing ed fits t s (nat_of n.mirn) (index_none ed t s (nat_of n.mirn) i e d))
+  -- what the search by MIRN says of row 5
+  pub known_is : (r : Maybe ℕ) → option_of r ≡ index_of ed t (nat_of n.mirn) → has r ≡ known
+  known_is None e = ap is_some (sym (missing ed fits t s (nat_of n.mirn) (sym e)))
+  known_is (Some i) e = ap is_some (sym (found ed fits t s (nat_of n.mirn) i (sym e)).find)
 
   -- ---- the rows in order
 
@@ -112,17 +108,17 @@ module _ (ed : Edition) (fits : Fits ed) (t : List ℤ) (g : ed ≡ edition_of t
   unfolding opening_rows above
   open_out e = sent_back_lem 1 (least_first 2 (not (ranged n)) _ refl (ap not e))
 
-  -- past row 2, with i what the search found
-  module _ (r : ranged n ≡ true) (i : ℕ) (is : i ≡ maybe ed.points (λ k. k) (index_of ed t (nat_of n.mirn))) where
-    pub open_known : (i ≡ ed.points → ⊥) → open_call editions t n ≡ (pos 5 ∷ [], t)
+  -- past row 2
+  module _ (r : ranged n ≡ true) where
+    pub open_known : known ≡ true → open_call editions t n ≡ (pos 5 ∷ [], t)
     unfolding opening_rows above
-    open_known d =
-        sent_back_lem 4 (least_skip 2 (not (ranged n)) _ (ap not r) ∙ least_first 5 known _ refl (index_known i is d))
+    open_known k =
+        sent_back_lem 4 (least_skip 2 (not (ranged n)) _ (ap not r) ∙ least_first 5 known _ refl k)
 
-    module _ (d : i ≡ ed.points) where
+    module _ (k : known ≡ false) where
       after_five : row ≡ least ((16, leb ed.points (length holders)) ∷ (19, ltb (ed.points - suc (length holders)) reserved) ∷ [])
       unfolding opening_rows
-      after_five = least_skip 2 (not (ranged n)) _ (ap not r) ∙ least_skip 5 known _ (index_new i is d)
+      after_five = least_skip 2 (not (ranged n)) _ (ap not r) ∙ least_skip 5 known _ k
 
       pub open_full : ed.points ≤ num_at t 0 → open_call editions t n ≡ (pos 16 ∷ [], t)
       unfolding above
@@ -143,7 +139,7 @@ module _ (ed : Edition) (fits : Fits ed) (t : List ℤ) (g : ed ≡ edition_of t
         open_eats k =
             sent_back_lem 18 (after_sixteen ∙ least_first 19 _ [] refl (lt-ltb (ed.points - suc (length holders)) reserved (omega (arith, count_is_lem, x_is))))
 
-        module _ (k : x ≤ ed.points - (num_at t 0 + 1)) where
+        module _ (l : x ≤ ed.points - (num_at t 0 + 1)) where
           nothing : row ≡ 0
           unfolding least
           nothing = after_sixteen ∙ least_skip 19 _ [] (le-ltb (ed.points - suc (length holders)) reserved (omega (arith, count_is_lem, x_is)))

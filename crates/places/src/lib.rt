@@ -65,6 +65,8 @@ pub const OFF_LENGTH: usize = 2;
 
 pub const REC_LENGTH: usize = 4;
 
+// Each place that is read by name has a getter of its own: places::kind(p) says more at a call than one getter with
+// the place as a const parameter.
 pub fn points(t: &[i64]) -> usize
     requires { header_length ≤ length t.now }
     ensures { (result ≡ num_at t.now points_place) × (result ≤ 2 ^ 63) }

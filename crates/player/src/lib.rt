@@ -1,425 +1,254 @@
 // Plays a journal: reads calls from its input, one a line, on one register, and writes a row of numbers for each.
 #![tactic(auto)]
 
-ghost use Rattle.std.specs.Prelude.{◌≡◌, ◌+◌, ◌≤◌, length};
-ghost use Rattle.lines.specs.Lines.{buffer_bytes, line_numbers};
-ghost use Rattle.imagelines.specs.ImageLines.{images_bytes};
-ghost use Rattle.player.specs.InnerReady.{line_bytes, out_bytes, Ready, Answered, Sized};
+ghost use Rattle.std.specs.Prelude.{◌≡◌, ◌+◌, ◌≤◌, length, IfSome};
+ghost use Rattle.printing.specs.Rows.{row_bytes};
+ghost use Rattle.lines.specs.Lines.{buffer_numbers, buffer_bytes, line_numbers, most_room};
 
-use journal::{Command, Taken};
+use arrayvec::ArrayVec;
+use journal::Command;
+use printing::Output;
 use std::io::{Print, Read, Stdin, Stdout};
 
-// The buffers of a line and of the output.
+// The buffer of a line.
 const LINE_BYTES: usize = 8192;
-
-const OUT_BYTES: usize = 32768;
 
 // What is read at once.
 const CHUNK_BYTES: usize = 65536;
 
-// Where a player stands: the numbers of the buffer that calls are lent, those of the answer table, the lines that have
-// ended, the bytes of the present line (one more than LINE_BYTES if it is longer), the bytes of output that wait, and
-// whether input may follow.
-#[derive(Clone, Copy)]
-pub struct Standing {
-    pub lent: usize,
-    pub room: usize,
-    pub lines: u64,
-    pub filled: usize,
-    pub at: usize,
-    pub more: bool,
+// What is printed and waits at most.
+const OUTPUT_BYTES: usize = 32768;
+
+// What is printed, where it is written, and whether each write succeeded.
+#[derive(Drop)]
+struct Screen {
+    output: Output<OUTPUT_BYTES>,
+    stdout: Stdout,
+    open: bool,
 }
 
-// The number of a line that has one. Another count of numbers is read as a negative number is, above every length.
-fn only_number(nums: &[i64]) -> u64 {
-    if nums.len() != 1 {
-        return 0x8000_0000_0000_0000;
+impl Screen {
+    // Writes what waits.
+    fn flush(&mut self)
+        ensures { length self.new.output ≡ 0 }
+    {
+        self.open &= self.stdout.write_all(self.output.as_bytes()).is_ok();
+        self.output.clear();
     }
-    numbers::get(nums, 0)
-}
 
-// The call tlen.
-fn set_lent(nums: &[i64], out: &mut [u8], s: Standing) -> Standing
-    requires { Ready s × (length out.old ≡ out_bytes) }
-    ensures { Answered s result }
-{
-    let n = only_number(nums);
-    if n > lines::BUFFER_NUMBERS as u64 {
-        return s;
-    }
-    let at = s.at;
-    let mut r = s;
-    r.lent = n as usize;
-    r.at = printing::row(out, at, &[0]);
-    r
-}
-
-// The call alen.
-fn set_room(nums: &[i64], out: &mut [u8], s: Standing) -> Standing
-    requires { Ready s × (length out.old ≡ out_bytes) }
-    ensures { Answered s result }
-{
-    let n = only_number(nums);
-    if n > lines::MOST_ROOM as u64 {
-        return s;
-    }
-    let at = s.at;
-    let mut r = s;
-    r.room = n as usize;
-    r.at = printing::row(out, at, &[0]);
-    r
-}
-
-// Any line but those on bytes, with its numbers.
-fn obey(
-    command: Command,
-    register: &mut [u8],
-    images: &mut [u8],
-    nums: &[i64],
-    out: &mut [u8],
-    s: Standing,
-) -> Standing
-    requires { Ready s × (length register.old ≡ buffer_bytes) × (length images.old ≡ images_bytes) × (length nums.now ≤ line_numbers) × (length out.old ≡ out_bytes) }
-    ensures { Answered s result }
-{
-    let lent = s.lent;
-    let room = s.room;
-    let at = s.at;
-    let mut r = s;
-    match command {
-        Command::Lend => set_lent(nums, out, s),
-        Command::Room => set_room(nums, out, s),
-        Command::Image(w) => {
-            r.at = imagelines::answer(w, register, lent, images, nums, out, at);
-            r
+    // What waits, which has room for one more row.
+    fn with_room(&mut self) -> &mut Output<OUTPUT_BYTES>
+        ensures { length result.now + row_bytes ≤ OUTPUT_BYTES }
+    {
+        if OUTPUT_BYTES - printing::ROW_BYTES < self.output.len() {
+            self.flush();
         }
-        Command::Trial => {
-            r.at = triallines::answer(register, lent, nums, out, at);
-            r
-        }
-        _ => {
-            r.at = lines::answer(command, register, lent, room, nums, out, at);
-            r
+        &mut self.output
+    }
+}
+
+// The number of a line that has one alone, if it is from 0 to `most`.
+fn only_number(nums: &[i64], most: usize) -> Option<usize>
+    ensures { IfSome result (λ n. n ≤ most) }
+{
+    let [n] = nums else {
+        return None;
+    };
+    usize::try_from(*n).ok().filter(|n| *n <= most)
+}
+
+// The register's buffer and the images', the numbers of the buffer that calls are lent, and those of an answer table.
+#[derive(Drop)]
+struct Register {
+    bytes: [u8; lines::BUFFER_BYTES],
+    images: [u8; imagelines::IMAGES_BYTES],
+    lent: usize,
+    room: usize,
+    ghost lent_within: { lent ≤ buffer_numbers },
+    ghost room_within: { room ≤ most_room },
+}
+
+impl Register {
+    // The call tlen. It answers, as those below, whether it is a call.
+    fn lend(&mut self, nums: &[i64], screen: &mut Screen) -> bool {
+        let Some(lent) = only_number(nums, lines::BUFFER_NUMBERS) else {
+            return false;
+        };
+        self.lent = lent;
+        screen.with_room().row(&[0u64]);
+        true
+    }
+
+    // The call alen.
+    fn make_room(&mut self, nums: &[i64], screen: &mut Screen) -> bool {
+        let Some(room) = only_number(nums, lines::MOST_ROOM) else {
+            return false;
+        };
+        self.room = room;
+        screen.with_room().row(&[0u64]);
+        true
+    }
+
+    // Any line but those on bytes, with its numbers.
+    fn obey(&mut self, command: Command, nums: &[i64], screen: &mut Screen) -> bool
+        requires { length nums.now ≤ line_numbers }
+    {
+        match command {
+            Command::Lend => self.lend(nums, screen),
+            Command::Room => self.make_room(nums, screen),
+            Command::Image(word) => imagelines::answer(
+                word,
+                &mut self.bytes,
+                self.lent,
+                &mut self.images,
+                nums,
+                screen.with_room(),
+            ),
+            Command::Trial => triallines::answer(&self.bytes, self.lent, nums, screen.with_room()),
+            _ => lines::answer(
+                command,
+                &mut self.bytes,
+                self.lent,
+                self.room,
+                nums,
+                screen.with_room(),
+            ),
         }
     }
 }
 
-#[derive(Clone, Copy)]
-struct Word {
-    start: usize,
-    end: usize,
-}
-
-// The first word from at on.
-fn first_word(line: &[u8], at: usize) -> Word
+// The first word from at on, and the place after it.
+fn first_word(line: &[u8], at: usize) -> (&[u8], usize)
     requires { at ≤ length line.now }
-    ensures { (result.start ≤ result.end) × (result.end ≤ length line.now) }
+    ensures { result.1 ≤ length line.now }
 {
     let start = journal::skip(line, at);
     let end = journal::word_end(line, start);
-    Word { start, end }
+    (&line[start..end], end)
 }
 
-// A call on bytes. The first word from at on names it.
-fn on_bytes(
-    register: &mut [u8],
-    line: &[u8],
-    at: usize,
-    nums: &mut [i64],
-    out: &mut [u8],
-    s: Standing,
-) -> Standing
-    requires { Ready s × (at ≤ length line.now) × (length register.old ≡ buffer_bytes) × (length line.now ≤ line_bytes) × (length nums.old ≡ line_numbers) × (length out.old ≡ out_bytes) }
-    ensures { Answered s result }
-{
-    let word = first_word(line, at);
-    let start = word.start;
-    let end = word.end;
-    let Command::Call(call) = journal::named_on_bytes(&line[start..end]) else {
-        return s;
-    };
-    let Taken::Count(n) = journal::take_numbers(line, end, nums) else {
-        return s;
-    };
-    let from = s.at;
-    let mut r = s;
-    r.at = lines::on_bytes(call, register, &nums[0..n], out, from);
-    r
+// The bytes of the present line, whether it has more than they hold, its numbers, and how many lines have ended.
+#[derive(Drop)]
+struct Player {
+    register: Register,
+    screen: Screen,
+    line: ArrayVec<u8, LINE_BYTES>,
+    too_long: bool,
+    nums: [i64; lines::LINE_NUMBERS],
+    ended: u64,
 }
 
-// A line that has a word. It is left alone, with no row, where it is no call.
-fn call(
-    register: &mut [u8],
-    images: &mut [u8],
-    line: &[u8],
-    nums: &mut [i64],
-    out: &mut [u8],
-    s: Standing,
-) -> Standing
-    requires { Ready s × (length register.old ≡ buffer_bytes) × (length images.old ≡ images_bytes) × (length line.now ≤ line_bytes) × (length nums.old ≡ line_numbers) × (length out.old ≡ out_bytes) }
-    ensures { Answered s result }
-{
-    let word = first_word(line, 0);
-    let start = word.start;
-    let end = word.end;
-    let command = journal::named(&line[start..end]);
-    if let Command::Hub = command {
-        return on_bytes(register, line, end, nums, out, s);
+impl Player {
+    // A call on bytes. The first word from at on names it.
+    fn on_bytes(&mut self, at: usize) -> bool
+        requires { at ≤ length self.old.line.items }
+    {
+        let line = self.line.as_slice();
+        let (word, end) = first_word(line, at);
+        let Command::Call(call) = journal::named_on_bytes(word) else {
+            return false;
+        };
+        let Some(n) = journal::take_numbers(line, end, &mut self.nums) else {
+            return false;
+        };
+        lines::on_bytes(
+            call,
+            &mut self.register.bytes,
+            &self.nums[..n],
+            self.screen.with_room(),
+        )
     }
-    let Taken::Count(n) = journal::take_numbers(line, end, nums) else {
-        return s;
-    };
-    obey(command, register, images, &nums[0..n], out, s)
-}
 
-// A line of at most LINE_BYTES, which is the next after those that have ended.
-fn play(
-    register: &mut [u8],
-    images: &mut [u8],
-    line: &[u8],
-    nums: &mut [i64],
-    out: &mut [u8],
-    s: Standing,
-) -> Standing
-    requires { Ready s × (length register.old ≡ buffer_bytes) × (length images.old ≡ images_bytes) × (length line.now ≤ line_bytes) × (length nums.old ≡ line_numbers) × (length out.old ≡ out_bytes) }
-    ensures { Answered s result }
-{
-    if journal::skip(line, 0) == line.len() {
-        return s;
-    }
-    if line[0] == b'#' {
-        return s;
-    }
-    let played = call(register, images, line, nums, out, s);
-    if played.at == s.at {
-        return unknown(out, s);
-    }
-    played
-}
-
-// A line that is no call.
-fn unknown(out: &mut [u8], s: Standing) -> Standing
-    requires { Ready s × (length out.old ≡ out_bytes) }
-    ensures { Answered s result }
-{
-    let at = s.at;
-    let number = std::num::wrapping_add_u64(s.lines, 1);
-    let mut r = s;
-    r.at = printing::unknown(out, at, number);
-    r
-}
-
-// Writes what waits.
-fn flush(output: Stdout, out: &[u8], s: Standing) -> Standing
-    requires { s.at ≤ length out.now }
-    ensures { (result.lent ≡ s.lent) × (result.room ≡ s.room) × (result.filled ≡ s.filled) × (result.at ≡ 0) }
-{
-    let at = s.at;
-    let written = output.write_all(&out[0..at]).is_ok();
-    let mut r = s;
-    r.at = 0;
-    r.more = written & s.more;
-    r
-}
-
-// The line that the buffer holds.
-fn play_filled(
-    register: &mut [u8],
-    images: &mut [u8],
-    line: &[u8],
-    nums: &mut [i64],
-    out: &mut [u8],
-    s: Standing,
-) -> Standing
-    requires { Ready s × Sized register.old images.old line.now nums.old out.old }
-    ensures { Answered s result }
-{
-    let filled = s.filled;
-    if LINE_BYTES < filled {
-        return unknown(out, s);
-    }
-    play(register, images, &line[0..filled], nums, out, s)
-}
-
-// The line has ended.
-fn end_line(
-    output: Stdout,
-    register: &mut [u8],
-    images: &mut [u8],
-    line: &[u8],
-    nums: &mut [i64],
-    out: &mut [u8],
-    s: Standing,
-) -> Standing
-    requires { Ready s × Sized register.old images.old line.now nums.old out.old }
-    ensures { Ready result }
-{
-    let mut r = play_filled(register, images, line, nums, out, s);
-    r.lines = std::num::wrapping_add_u64(s.lines, 1);
-    r.filled = 0;
-    if OUT_BYTES - printing::ROW_BYTES < r.at {
-        return flush(output, out, r);
-    }
-    r
-}
-
-// One more byte of the line; of a line that is too long the rest is dropped.
-fn keep(line: &mut [u8], s: Standing, b: u8) -> Standing
-    requires { Ready s × (length line.old ≡ line_bytes) }
-    ensures { Ready result }
-{
-    let filled = s.filled;
-    let mut r = s;
-    if filled < LINE_BYTES {
-        line[filled] = b;
-        r.filled = filled + 1;
-        return r;
-    }
-    r.filled = LINE_BYTES + 1;
-    r
-}
-
-fn byte(
-    output: Stdout,
-    register: &mut [u8],
-    images: &mut [u8],
-    line: &mut [u8],
-    nums: &mut [i64],
-    out: &mut [u8],
-    s: Standing,
-    b: u8,
-) -> Standing
-    requires { Ready s × Sized register.old images.old line.old nums.old out.old }
-    ensures { Ready result }
-{
-    if b == b'\n' {
-        return end_line(output, register, images, line, nums, out, s);
-    }
-    keep(line, s, b)
-}
-
-fn walk(
-    output: Stdout,
-    register: &mut [u8],
-    images: &mut [u8],
-    line: &mut [u8],
-    nums: &mut [i64],
-    out: &mut [u8],
-    s: Standing,
-    chunk: &[u8],
-) -> Standing
-    requires { Ready s × Sized register.old images.old line.old nums.old out.old }
-    ensures { Ready result }
-{
-    let mut r = s;
-    let mut i = 0;
-    while i < chunk.len() {
-        r = byte(output, register, images, line, nums, out, r, chunk[i]);
-        i += 1;
-    }
-    r
-}
-
-// Reads once, plays the lines that end, and writes their rows: who types a line sees its row.
-fn turn(
-    input: Stdin,
-    output: Stdout,
-    register: &mut [u8],
-    images: &mut [u8],
-    line: &mut [u8],
-    nums: &mut [i64],
-    out: &mut [u8],
-    s: Standing,
-) -> Standing
-    requires { Ready s × Sized register.old images.old line.old nums.old out.old }
-    ensures { Ready result }
-{
-    let mut input = input;
-    let mut chunk = [0u8; CHUNK_BYTES];
-    let n = input.read(&mut chunk).unwrap_or(0);
-    if n == 0 {
-        let mut r = s;
-        r.more = false;
-        return r;
-    }
-    let r = walk(output, register, images, line, nums, out, s, &chunk[..n]);
-    flush(output, out, r)
-}
-
-// A proved loop has to end, and nothing says that the input does. So the loop counts its turns down, from a number that
-// no run uses up.
-fn follow(
-    input: Stdin,
-    output: Stdout,
-    register: &mut [u8],
-    images: &mut [u8],
-    line: &mut [u8],
-    nums: &mut [i64],
-    out: &mut [u8],
-    s: Standing,
-) -> Standing
-    requires { Ready s × Sized register.old images.old line.old nums.old out.old }
-    ensures { Ready result }
-{
-    let mut r = s;
-    let mut turns = u64::MAX;
-    while turns > 0 {
-        r = turn(input, output, register, images, line, nums, out, r);
-        if !r.more {
-            return r;
+    // Whether the line is a call, or none is to be made of it.
+    fn play(&mut self) -> bool {
+        let line = self.line.as_slice();
+        let (word, end) = first_word(line, 0);
+        if word.is_empty() || line.starts_with(b"#") {
+            return true;
         }
-        turns -= 1;
+        let command = journal::named(word);
+        if let Command::Hub = command {
+            return self.on_bytes(end);
+        }
+        let Some(n) = journal::take_numbers(line, end, &mut self.nums) else {
+            return false;
+        };
+        self.register
+            .obey(command, &self.nums[..n], &mut self.screen)
     }
-    r
+
+    // The line has ended.
+    fn end_line(&mut self) {
+        let number = self.ended.wrapping_add(1);
+        if self.too_long || !self.play() {
+            self.screen.with_room().unknown(number);
+        }
+        self.ended = number;
+        self.line.clear();
+        self.too_long = false;
+    }
+
+    // One more byte. Of a line that is too long the rest is dropped.
+    fn take(&mut self, b: u8) {
+        if b == b'\n' {
+            self.end_line();
+        } else if self.line.try_push(b).is_err() {
+            self.too_long = true;
+        }
+    }
+
+    // Reads once, plays the lines that end, and writes their rows: who types a line sees its row. It answers whether
+    // input may follow.
+    fn turn(&mut self, input: &mut Stdin) -> bool {
+        let mut chunk = [0u8; CHUNK_BYTES];
+        let n = input.read(&mut chunk).unwrap_or(0);
+        if n == 0 {
+            return false;
+        }
+        for b in &chunk[..n] {
+            self.take(*b);
+        }
+        self.screen.flush();
+        self.screen.open
+    }
 }
 
 // The sixteen numbers past the register.
 fn mark(register: &mut [u8])
     requires { length register.old ≡ buffer_bytes }
 {
-    let mut i: usize = 0;
-    while i < 16 {
-        words::put_number8(register, 8 * (places::TABLE_LENGTH + i), 1000 + i as u64);
-        i += 1;
+    for i in 0..16 {
+        words::put_number::<8>(register, 8 * (places::TABLE_LENGTH + i), 1000 + i as u64);
     }
 }
 
 pub fn run(rt: HostRuntime) {
-    let output = rt.stdout();
-    let mut register = [0u8; lines::BUFFER_BYTES];
-    let mut images = [0u8; imagelines::IMAGES_BYTES];
-    let mut line = [0u8; LINE_BYTES];
-    let mut nums = [0i64; lines::LINE_NUMBERS];
-    let mut out = [0u8; OUT_BYTES];
-    mark(&mut register);
-    let start = Standing {
-        lent: places::TABLE_LENGTH,
-        room: 32,
-        lines: 0,
-        filled: 0,
-        at: 0,
-        more: true,
+    let mut player = Player {
+        register: Register {
+            bytes: [0; lines::BUFFER_BYTES],
+            images: [0; imagelines::IMAGES_BYTES],
+            lent: places::TABLE_LENGTH,
+            room: 32,
+        },
+        screen: Screen {
+            output: Output::new(),
+            stdout: rt.stdout(),
+            open: true,
+        },
+        line: ArrayVec::new(),
+        too_long: false,
+        nums: [0; lines::LINE_NUMBERS],
+        ended: 0,
     };
-    let s = follow(
-        rt.stdin(),
-        output,
-        &mut register,
-        &mut images,
-        &mut line,
-        &mut nums,
-        &mut out,
-        start,
-    );
-    if 0 < s.filled {
-        let last = end_line(
-            output,
-            &mut register,
-            &mut images,
-            &line,
-            &mut nums,
-            &mut out,
-            s,
-        );
-        flush(output, &out, last);
+    mark(&mut player.register.bytes);
+    let mut input = rt.stdin();
+    for _ in 0..u64::MAX {
+        if !player.turn(&mut input) {
+            break;
+        }
+    }
+    if !player.line.is_empty() {
+        player.end_line();
+        player.screen.flush();
     }
 }

@@ -7,9 +7,17 @@ ghost use Rattle.daybook.specs.Notices.{fits_kind};
 ghost use Rattle.layout.specs.Places.{off_place};
 ghost use Rattle.layout.specs.Layout.{num_at};
 ghost use Rattle.layout.specs.Sound.{zeros};
+ghost use Rattle.layout.specs.InnerParts.{SoundPart};
 ghost use Rattle.point.specs.InnerTests.{Bits, until_of, on_day, past, first_on, no_off};
 
-// The day before which an off span ends; -1, still off, as 40,001.
+// One point's part of a sound table.
+#[derive(Clone, Copy)]
+pub struct Part<'a> {
+    pub numbers: &'a [i64],
+    pub ghost is_sound: { SoundPart numbers.now },
+}
+
+// The day before which an off span ends; -1, still off, as 40,001: numbers, as `until_of` has them.
 pub fn until(x: i64) -> u64
     ensures { (result ≡ until_of x) × (result ≤ 2 ^ 63) }
 {
@@ -35,20 +43,18 @@ pub fn bits_at(p: &[i64], i: usize) -> u64
     requires { i < length p.now }
     ensures { Bits (num_at p.now i) result }
 {
-    words::bits(p[i])
+    p[i].cast_unsigned()
 }
 
-// Are the places a to b - 1 all 0? Their bits are joined, with no way out of the loop, so that the back end takes several
-// places at a time.
+// Are the places a to b - 1 all 0? Their bits are joined, with no way out of the loop, so that the back end takes
+// several places at a time.
 pub fn zeros_in(p: &[i64], a: usize, b: usize) -> bool
     requires { b ≤ length p.now }
     ensures { result ≡ zeros p.now a b }
 {
     let mut bits: u64 = 0;
-    let mut i = a;
-    while i < b {
-        bits = bits | bits_at(p, i);
-        i += 1;
+    for i in a..b {
+        bits |= bits_at(p, i);
     }
     bits == 0
 }
@@ -63,16 +69,14 @@ fn past_span(off: u64, on: u64, d: u64) -> u64
     d
 }
 
-// The first day from d on that is in none of the first m spans; 40,001 if there is none.
+// The first day from d on that is in none of the first m spans; 40,001, above every day, if there is none.
 pub fn first_on(p: &[i64], m: usize, d: u64) -> u64
     requires { off_place m ≤ length p.now }
     ensures { result ≡ first_on p.now m d }
 {
     let mut x = d;
-    let mut k: usize = 0;
-    while k < m {
+    for k in 0..m {
         x = past_span(places::off_day(p, k), on_day(p, k), x);
-        k += 1;
     }
     x
 }
@@ -82,17 +86,16 @@ pub fn no_off(p: &[i64], m: usize, a: u64, b: u64) -> bool
     requires { off_place m ≤ length p.now }
     ensures { result ≡ no_off p.now m a b }
 {
-    let mut k: usize = 0;
-    while k < m {
+    for k in 0..m {
         if !((b < places::off_day(p, k)) | (on_day(p, k) <= a)) {
             return false;
         }
-        k += 1;
     }
     true
 }
 
-// A non-daily record has start < end, a daily one start = end.
+// A non-daily record has start < end, a daily one start = end. The kind is a number, as a part that is not tested has
+// it.
 pub fn fits_kind(kind: u64, start: u64, end: u64) -> bool
     ensures { result ≡ fits_kind kind start end }
 {

@@ -1,5 +1,5 @@
 -- Numbers, rows of numbers and buffers as text, lists of bytes.
-use Rattle.std.specs.Prelude.{cond, List, [], ◌∷◌, ◌++◌, ◌≡◌, ℕ, zero, suc, ◌/◌, ◌%◌, ◌≤◌, ltb, ℤ, pos, negsuc, take}
+use Rattle.std.specs.Prelude.{cond, List, [], ◌∷◌, ◌++◌, ℕ, zero, suc, ◌/◌, ◌%◌, ltb, ℤ, pos, negsuc}
 use Rattle.io.specs.Digits.{hex_digit_ascii}
 
 -- The room that is kept for a row.
@@ -43,8 +43,3 @@ hex_digits (b ∷ bs) = hex_digit_ascii (b / 16) ∷ hex_digit_ascii (b % 16) �
 abbrev pub hex_of : List ℕ → List ℕ
 hex_of [] = 45 ∷ []
 hex_of (b ∷ bs) = hex_digits (b ∷ bs)
-
--- The text stands in the output from at on, up to r, and what was printed before it stays.
-pub record Printed (out : List ℕ) (at : ℕ) (text out' : List ℕ) (r : ℕ) : Type 0 where
-  pub from : at ≤ r
-  pub written : take r out' ≡ take at out ++ text

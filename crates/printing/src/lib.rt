@@ -1,35 +1,31 @@
-// Rows of numbers, and bytes, as text. What is printed waits in the caller's buffer, from 0 to `at`.
+// What is printed: rows of numbers, and bytes, as text.
 #![tactic(auto)]
 
-ghost use Rattle.std.specs.Prelude.{◌∷◌, [], ◌++◌, map, cond, ◌≡◌, ◌+◌, ◌*◌, ◌<◌, ◌≤◌, eqb, pos, length, take};
+ghost use Rattle.std.specs.Prelude.{◌∷◌, [], ◌++◌, map, cond, ◌≡◌, ◌+◌, ◌*◌, ◌<◌, ◌≤◌, eqb, length};
 ghost use Rattle.io.specs.Digits.{hex_digit_ascii};
-ghost use Rattle.printing.specs.Rows.{decimal_of, text_of, row_of, unknown_of, hex_digits, hex_of, Printed};
+ghost use Rattle.printing.specs.Rows.{text_of, row_of, unknown_of, hex_digits, hex_of};
+
+mod number;
+
+use arrayvec::ArrayVec;
+pub use number::Number;
+use std::marker::Model;
 
 // The room that a caller keeps for a row.
 pub const ROW_BYTES: usize = 12288;
 
-fn copy(text: &[u8], out: &mut [u8], at: usize)
-    requires { at + length text.now ≤ length out.old }
-    ensures { take (at + length text.now) out.new ≡ take at out.old ++ text.now }
-{
-    let mut i = 0;
-    while i < text.len() {
-        out[at + i] = text[i];
-        i += 1;
-    }
+// What is printed and waits to be written, N bytes at most.
+#[derive(Drop)]
+pub struct Output<const N: usize> {
+    bytes: ArrayVec<u8, N>,
 }
 
-// A number in base ten, and the byte after it.
-fn put(out: &mut [u8], at: usize, n: u64, after: u8) -> usize
-    requires { at + 21 ≤ length out.old }
-    ensures { (result ≤ at + 21) × Printed out.old at (decimal_of n ++ (after ∷ [])) out.new result }
-{
-    let mut text = [0u8; 20];
-    let k = io::decimal(n, &mut text);
-    copy(&text[..k], out, at);
-    let end = at + k;
-    out[end] = after;
-    end + 1
+impl<const N: usize> Model for Output<N> {
+    ghost use Rattle.std.specs.Prelude.{ℕ, List};
+
+    ghost Value = { List ℕ };
+
+    ghost view = { λ o. o.bytes.items };
 }
 
 // The byte after a number of a row that `left` others follow.
@@ -39,92 +35,102 @@ fn separator(left: usize) -> u8
     if left == 0 { b'\n' } else { b' ' }
 }
 
-// A row of numbers, separated by single spaces.
-pub fn row(out: &mut [u8], at: usize, xs: &[u64]) -> usize
-    requires { at + 21 * length xs.now ≤ length out.old }
-    ensures { (result ≤ at + 21 * length xs.now) × Printed out.old at (row_of (map pos xs.now)) out.new result }
-{
-    let mut end = at;
-    let mut i = 0;
-    while i < xs.len() {
-        let after = separator(xs.len() - i - 1);
-        end = put(out, end, xs[i], after);
-        i += 1;
-    }
-    end
-}
-
-// A signed number, and the byte after it.
-pub fn put_signed(out: &mut [u8], at: usize, x: i64, after: u8) -> usize
-    requires { at + 22 ≤ length out.old }
-    ensures { (result ≤ at + 22) × Printed out.old at (text_of x ++ (after ∷ [])) out.new result }
-{
-    let bits = words::bits(x);
-    if bits < 0x8000_0000_0000_0000 {
-        return put(out, at, bits, after);
-    }
-    out[at] = b'-';
-    put(out, at + 1, u64::MAX - bits + 1, after)
-}
-
-// A row of signed numbers.
-pub fn signed_row(out: &mut [u8], at: usize, xs: &[i64]) -> usize
-    requires { at + 22 * length xs.now ≤ length out.old }
-    ensures { (result ≤ at + 22 * length xs.now) × Printed out.old at (row_of xs.now) out.new result }
-{
-    let mut end = at;
-    let mut i = 0;
-    while i < xs.len() {
-        let after = separator(xs.len() - i - 1);
-        end = put_signed(out, end, xs[i], after);
-        i += 1;
-    }
-    end
-}
-
-// The row of a line that is no call.
-pub fn unknown(out: &mut [u8], at: usize, line: u64) -> usize
-    requires { at + 23 ≤ length out.old }
-    ensures { (result ≤ at + 23) × Printed out.old at (unknown_of line) out.new result }
-{
-    out[at] = b'?';
-    out[at + 1] = b' ';
-    put(out, at + 2, line, b'\n')
-}
-
 fn digit(d: u8) -> u8
     requires { d < 16 }
     ensures { result ≡ hex_digit_ascii d }
 {
-    if d < 10 { 48 + d } else { 87 + d }
+    if d < 10 { b'0' + d } else { b'a' + (d - 10) }
 }
 
-fn digits(out: &mut [u8], at: usize, bytes: &[u8]) -> usize
-    requires { at + 2 * length bytes.now ≤ length out.old }
-    ensures { (result ≡ at + 2 * length bytes.now) × (take result out.new ≡ take at out.old ++ hex_digits bytes.now) }
+// Appends a number in base ten, and the byte after it.
+fn append<T: Number, const N: usize>(bytes: &mut ArrayVec<u8, N>, x: T, after: u8)
+    requires { length bytes.old.items + 21 ≤ N }
+    ensures text { bytes.new.items ≡ bytes.old.items ++ (text_of (T.value x) ++ (after ∷ [])) }
+    ensures room { length bytes.new.items ≤ length bytes.old.items + 21 }
 {
-    let mut end = at;
-    let mut i = 0;
-    while i < bytes.len() {
-        out[end] = digit(bytes[i] / 16);
-        out[end + 1] = digit(bytes[i] % 16);
-        end += 2;
-        i += 1;
-    }
-    end
+    bytes.try_extend_from_slice(x.digits().as_slice()).unwrap();
+    bytes.push(after);
 }
 
-// Bytes in base sixteen, and the byte after them.
-pub fn put_bytes(out: &mut [u8], at: usize, bytes: &[u8], after: u8) -> usize
-    requires { at + 2 * length bytes.now + 2 ≤ length out.old }
-    ensures { (result ≤ at + 2 * length bytes.now + 2) × Printed out.old at (hex_of bytes.now ++ (after ∷ [])) out.new result }
-{
-    if bytes.len() == 0 {
-        out[at] = b'-';
-        out[at + 1] = after;
-        return at + 2;
+impl<const N: usize> Output<N> {
+    pub fn new() -> Self
+        ensures { result ≡ [] }
+    {
+        Output {
+            bytes: ArrayVec::new(),
+        }
     }
-    let end = digits(out, at, bytes);
-    out[end] = after;
-    end + 1
+
+    pub fn len(&self) -> usize
+        ensures { (result ≡ length self.now) × (result ≤ N) }
+    {
+        self.bytes.len()
+    }
+
+    pub fn as_bytes(&self) -> &[u8]
+        ensures { result.now ≡ self.now }
+    {
+        self.bytes.as_slice()
+    }
+
+    pub fn clear(&mut self)
+        ensures { self.new ≡ [] }
+    {
+        self.bytes.clear();
+    }
+
+    // A number in base ten, and the byte after it.
+    pub fn put<T: Number>(&mut self, x: T, after: u8)
+        requires { length self.old + 21 ≤ N }
+        ensures text { self.new ≡ self.old ++ (text_of (T.value x) ++ (after ∷ [])) }
+        ensures room { length self.new ≤ length self.old + 21 }
+    {
+        append(&mut self.bytes, x, after);
+    }
+
+    // A row of numbers, separated by single spaces.
+    pub fn row<T: Number>(&mut self, xs: &[T])
+        requires { length self.old + 21 * length xs.now ≤ N }
+        ensures text { self.new ≡ self.old ++ row_of (map T.value xs.now) }
+        ensures room { length self.new ≤ length self.old + 21 * length xs.now }
+    {
+        for (i, x) in xs.iter().enumerate() {
+            append(&mut self.bytes, *x, separator(xs.len() - 1 - i));
+        }
+    }
+
+    // The row of a line that is no call.
+    pub fn unknown(&mut self, line: u64)
+        requires { length self.old + 23 ≤ N }
+        ensures text { self.new ≡ self.old ++ unknown_of line }
+        ensures room { length self.new ≤ length self.old + 23 }
+    {
+        self.bytes.try_extend_from_slice(b"? ").unwrap();
+        self.put(line, b'\n');
+    }
+
+    fn digits(&mut self, bytes: &[u8])
+        requires { length self.old + 2 * length bytes.now ≤ N }
+        ensures text { self.new ≡ self.old ++ hex_digits bytes.now }
+        ensures len { length self.new ≡ length self.old + 2 * length bytes.now }
+    {
+        for b in bytes {
+            self.bytes.push(digit(b / 16));
+            self.bytes.push(digit(b % 16));
+        }
+    }
+
+    // Bytes in base sixteen, and the byte after them.
+    pub fn put_bytes(&mut self, bytes: &[u8], after: u8)
+        requires { length self.old + 2 * length bytes.now + 2 ≤ N }
+        ensures text { self.new ≡ self.old ++ (hex_of bytes.now ++ (after ∷ [])) }
+        ensures room { length self.new ≤ length self.old + 2 * length bytes.now + 2 }
+    {
+        if bytes.is_empty() {
+            self.bytes.push(b'-');
+        } else {
+            self.digits(bytes);
+        }
+        self.bytes.push(after);
+    }
 }

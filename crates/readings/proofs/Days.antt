@@ -3,9 +3,9 @@ use mathlib.Core.Path.{◌≡◌, refl, sym, ap, ap₂, ◌∙◌}
 use mathlib.Core.Bool.{Bool, true, false, not, ◌&&◌, cond}
 use mathlib.Core.Option.{Option, none, some}
 use mathlib.Core.List.{List}
-use Prim.Native.Nat.{ℕ, zero, suc, ◌+◌, ◌-◌, ◌≤◌, ◌<◌}
+use Prim.Native.Nat.{ℕ, zero, suc, ◌+◌, ◌-◌, ◌≤◌}
 use native.Mathlib.Omega.{arith}
-use borrow.Author.Tests.{eq-eqb, ne_eqb, eqb-true, eqb-false, le-leb, lt-leb}
+use borrow.Author.Tests.{eq-eqb, ne_eqb, eqb-true, eqb-false, le-leb}
 use lib.Dec.{eqb, leb}
 use lib.IntN.{ℤ, pos, ◌+ℤ◌, ◌-ℤ◌}
 use Rattle.numbers.specs.Search.{is_some, first_from}
@@ -111,9 +111,6 @@ module _ (p : Point) where
       go false e = rw e refl
 
   -- the seven days before day g
-  pub no_week : (g : ℕ) → g < 7 → false ≡ (leb 7 g && all_filled p (g - 7) 7)
-  no_week g h = sym (ap (λ t. t && all_filled p (g - 7) 7) (lt-leb 7 g h))
-
   pub week_is : (g : ℕ) → 7 ≤ g → eqb (filled_days p (g - 7) (g - (g - 7))) 7 ≡ (leb 7 g && all_filled p (g - 7) 7)
   week_is g h =
       let e : g - (g - 7) ≡ 7 = omega arith in

@@ -32,6 +32,20 @@ pub record Parts (e : Entry) (x y u n i j r s : ℕ) : Type 0 where
   pub first_i : energy_of r ≡ partial_energy (energy_of u) n i
   pub first_j : energy_of s ≡ partial_energy (energy_of u) n j
 
+-- from the days a and b of the record, as they are read
+pub parts : {e : Entry} {a b x y u i j r s : ℕ} → a ≡ e.start → b ≡ e.end → u ≡ bias_of e.energy
+    → i ≡ days_passed a b x → j ≡ days_passed a b y
+    → energy_of r ≡ partial_energy (energy_of u) (b + 1 - a) i → energy_of s ≡ partial_energy (energy_of u) (b + 1 - a) j
+    → Parts e x y u (b + 1 - a) i j r s
+parts {x = x} {y = y} start end raised i j first_i first_j = record {
+  raised = raised;
+  days = omega (arith, end, start);
+  before_x = i ∙ ap₂ (λ a b. days_passed a b x) start end;
+  before_y = j ∙ ap₂ (λ a b. days_passed a b y) start end;
+  first_i = first_i;
+  first_j = first_j;
+}
+
 module _ {e : Entry} (ok : RecordOk e) {x y u n i j r s : ℕ} (c : Parts e x y u n i j r s) where
   few : (i ≤ n) × (j ≤ n) × (0 < n) × (u ≤ 2000000)
   few = (

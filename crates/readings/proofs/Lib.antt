@@ -7,3 +7,4 @@ pub mod Users
 pub mod Shares
 pub mod Weights
 pub mod Points
+pub mod Chains

@@ -3,12 +3,13 @@ use mathlib.Core.Path.{◌≡◌, refl, sym, ap, ap₂, ◌∙◌}
 use mathlib.Core.Bool.{Bool, true, false, not, ◌&&◌, ◌||◌, cond, and-true, not-not}
 use mathlib.Core.Option.{Option, none, some}
 use mathlib.Core.List.{List, [], ◌∷◌}
-use Prim.Native.Nat.{ℕ, suc, ◌+◌, ◌-◌, ◌≤◌, ◌<◌}
+use Prim.Native.Nat.{ℕ, zero, suc, ◌≤◌}
 use native.Mathlib.Omega.{arith}
 use native.Mathlib.Numerals.{add-one}
 use borrow.Author.Tests.{leb-true, leb-false}
 use lib.Dec.{leb}
 use lib.IntN.{ℤ}
+use Rattle.std.specs.List.{fold, range_with_len}
 use Rattle.daybook.specs.Queries.{active}
 use Rattle.lists.specs.Lists.{user_on, in_span, off_on, point_of}
 use Rattle.lists.specs.InnerSteps.{overlaps, some_overlap}
@@ -23,23 +24,20 @@ use Rattle.point.proofs.Rows.{rows_at}
 use Rattle.readings.specs.InnerReadings.{point_at}
 use Rattle.readings.proofs.Part.{regs_of}
 
--- ---- the FRO, by a loop with the invariant that the registrations left decide the day
+-- ---- the FRO, by a fold over the registrations
 
--- The User of day g by the registrations from row j to row n - 1, u before them.
-abbrev pub user_left : List ℤ → ℕ → ℕ → ℕ → ℕ → ℕ
-user_left p g n j u = user_on u (rows_at (reg_row p) j (n - j)) g
+-- The User of day g once registration j is read too, u before it.
+abbrev pub user_then : List ℤ → ℕ → ℕ → ℕ → ℕ
+user_then p g u j = cond (leb (reg_start p j) g) (reg_user p j) u
 
-module _ (p : List ℤ) (g n j u : ℕ) where
-  pub user_more : (v : ℕ) → j < n → v ≡ cond (leb (reg_start p j) g) (reg_user p j) u → user_left p g n (j + 1) v ≡ user_left p g n j u
-  unfolding user_on rows_at
-  user_more v l e = let m : n - j ≡ suc (n - (j + 1)) = omega arith in rw (m, add-one j, e)
+user_rows : (p : List ℤ) (g u j n : ℕ) → fold (user_then p g) u (range_with_len j n) ≡ user_on u (rows_at (reg_row p) j n) g
+unfolding user_on rows_at
+user_rows p g u j zero = refl
+user_rows p g u j (suc n) = rw (add-one j) (user_rows p g (user_then p g u j) (suc j) n)
 
-  pub user_end : n ≤ j → n ≡ num_at p 4 → user_left p g n j u ≡ user_left p g n 0 0 → u ≡ (point_at p).fro g
-  unfolding user_on rows_at point_at point_of
-  user_end l e h =
-      let m : n - j ≡ 0 = omega arith in
-      let k : n - 0 ≡ num_at p 4 = omega arith in
-      (rw m at h) ∙ ap (λ i. user_on 0 (rows_at (reg_row p) 0 i) g) k ∙ ap (λ l. user_on 0 l g) (sym (regs_of p))
+pub user_fold : (p : List ℤ) (g n : ℕ) → n ≡ num_at p 4 → fold (user_then p g) 0 (range_with_len 0 n) ≡ (point_at p).fro g
+unfolding point_at point_of
+user_fold p g n e = rw e (user_rows p g 0 0 (num_at p 4)) ∙ ap (λ l. user_on 0 l g) (sym (regs_of p))
 
 pub fro_few : {p : List ℤ} → SoundPart p → (g : ℕ) → (point_at p).fro g ≤ 16
 unfolding point_at point_of

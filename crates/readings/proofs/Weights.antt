@@ -1,17 +1,16 @@
 -- What an allocation reads of a point, for each way that the code ends: T of a non-daily point, the gas of a daily one.
 -- Assumes nothing.
-use mathlib.Core.Path.{◌≡◌, refl, sym, ap, ◌∙◌}
+use mathlib.Core.Path.{◌≡◌, refl, ap, ◌∙◌}
 use mathlib.Core.Bool.{Bool, true, false, ◌&&◌, cond}
 use mathlib.Core.Option.{Option, none, some}
-use Prim.Native.Nat.{ℕ, zero, suc, ◌+◌, ◌-◌, ◌≤◌, ◌<◌}
+use Prim.Native.Nat.{ℕ, zero, suc, ◌+◌, ◌-◌, ◌<◌}
 use native.Mathlib.Omega.{arith}
-use borrow.Author.Tests.{leb-true, ltb-true, eq-eqb, ne_eqb}
+use borrow.Author.Tests.{ltb-true, eq-eqb, ne_eqb}
 use lib.Dec.{leb, ltb, eqb}
-use lib.IntN.{ℤ, pos, sub_ℕ, ◌+ℤ◌}
+use lib.IntN.{pos, sub_ℕ, ◌+ℤ◌}
 use Rattle.numbers.specs.Search.{maybe, is_some}
 use Rattle.numbers.specs.Shares.{share}
 use Rattle.numbers.specs.Sums.{sum_from, sum_over}
-use Rattle.numbers.proofs.Bools.{both}
 use Rattle.daybook.specs.Book.{Entry, Point, day_share, filled}
 use Rattle.daybook.specs.Queries.{active, all_filled, daily_gas, metered_of, at_least0, base_over, weight}
 use Rattle.readings.specs.InnerReadings.{filled_days}
@@ -26,11 +25,6 @@ at_least r m = go (ltb r m) refl
     go : (t : Bool) → ltb r m ≡ t → at_least0 (sub_ℕ r m) ≡ r - m
     go true e = let h : r < m = ltb-true r m e in rw e (omega arith)
     go false e = rw e refl
-
-pub measured_is : (f : ℕ → ℤ) (a b r : ℕ) → sub_ℕ r 2000000000 ≡ sum_from f a (b + 1 - a) → at_least0 (sum_over f a b) ≡ r - 2000000000
-measured_is f a b r e =
-    let n : suc b - a ≡ b + 1 - a = omega arith in
-    ap (λ n. at_least0 (sum_from f a n)) n ∙ ap at_least0 (sym e) ∙ at_least r 2000000000
 
 -- days of which none is filled have no energy
 shares_none : (p : Point) (n a : ℕ) → filled_days p a n ≡ 0 → sum_from (day_share p) a n ≡ pos 0
@@ -87,9 +81,6 @@ module _ (p : Point) (g : ℕ) where
       pub gas_none : filled p (g - 1) ≡ false → pos 0 ≡ daily_gas g p
       unfolding daily_gas
       gas_none e = rw (no, nor, e)
-
-  pub week_long : Week p g true → 7 ≤ g
-  week_long e = leb-true 7 g (both _ _ e).0
 
   pub metered_gas : (active g p && eqb p.facts.kind 1) ≡ true → daily_gas g p ≡ metered_of g p
   unfolding metered_of

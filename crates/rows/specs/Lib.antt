@@ -1,2 +1,2 @@
--- The numbers that the row writers take, as a record.
+-- A record as the row writers take it.
 pub mod InnerRows

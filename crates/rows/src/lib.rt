@@ -7,9 +7,18 @@ ghost use Rattle.numbers.specs.InnerEnergies.{energy_of};
 ghost use Rattle.lists.specs.InnerWell.{FactsOk};
 ghost use Rattle.layout.specs.Places.{recs_place, rec_place};
 ghost use Rattle.layout.specs.InnerWrites.{cleared, put_record, append_record, cut_records, append_registration, cut_registrations, open_span, close_span, set_pending, clear_pending, open_point};
-ghost use Rattle.rows.specs.InnerRows.{record_of};
+ghost use Rattle.rows.specs.InnerRows.{record_of, SmallRecord};
 
 use daybook::Facts;
+
+// A record, its energy raised by 1,000,000. Its type is a number, as it stands in the table.
+#[derive(Clone, Copy)]
+pub struct Record {
+    pub start: u64,
+    pub end: u64,
+    pub energy: u64,
+    pub type_: u64,
+}
 
 // An energy, raised by 1,000,000.
 fn put_energy(p: &mut [i64], i: usize, u: u64)
@@ -41,11 +50,7 @@ pub fn clear(p: &mut [i64], a: usize, n: usize)
     requires { a + n ≤ length p.old }
     ensures { p.new ≡ cleared p.old a n }
 {
-    let mut k: usize = 0;
-    while k < n {
-        numbers::put(p, a + k, 0);
-        k += 1;
-    }
+    p[a..a + n].fill(0);
 }
 
 // The first n numbers of another part or table.
@@ -53,34 +58,33 @@ pub fn copy_first(p: &mut [i64], from: &[i64], n: usize)
     requires { (n ≤ length p.old) × (n ≤ length from.now) }
     ensures { p.new ≡ take n from.now ++ drop n p.old }
 {
-    let mut k: usize = 0;
-    while k < n {
-        p[k] = from[k];
-        k += 1;
-    }
+    p[..n].copy_from_slice(&from[..n]);
 }
 
-// Record j: its days, its energy raised by 1,000,000, its type.
-pub fn put_record(p: &mut [i64], j: usize, start: u64, end: u64, u: u64, type_: u64)
-    requires { (rec_place (j + 1) ≤ length p.old) × (start < 2 ^ 63) × (end < 2 ^ 63) × (u < 2 ^ 63) × (type_ < 2 ^ 63) }
-    ensures { p.new ≡ put_record p.old j (record_of start end u type_) }
+// Record j.
+#[tactic(auto, unfolding(layout::specs::InnerWrites::put_record))]
+pub fn put_record(p: &mut [i64], j: usize, r: Record)
+    requires { (rec_place (j + 1) ≤ length p.old) × SmallRecord r }
+    ensures { p.new ≡ put_record p.old j (record_of r) }
 {
     let at = places::RECS + places::REC_LENGTH * j;
-    put_pair(p, at, start, end);
-    put_energy(p, at + 2, u);
-    numbers::put(p, at + 3, type_);
+    put_pair(p, at, r.start, r.end);
+    put_energy(p, at + 2, r.energy);
+    numbers::put(p, at + 3, r.type_);
 }
 
 // One more record, after n.
-pub fn append_record(p: &mut [i64], n: usize, start: u64, end: u64, u: u64, type_: u64)
-    requires { (rec_place (n + 1) ≤ length p.old) × (start < 2 ^ 63) × (end < 2 ^ 63) × (u < 2 ^ 63) × (type_ < 2 ^ 63) }
-    ensures { p.new ≡ append_record p.old n (record_of start end u type_) }
+#[tactic(auto, unfolding(layout::specs::InnerWrites::append_record))]
+pub fn append_record(p: &mut [i64], n: usize, r: Record)
+    requires { (rec_place (n + 1) ≤ length p.old) × SmallRecord r }
+    ensures { p.new ≡ append_record p.old n (record_of r) }
 {
-    put_record(p, n, start, end, u, type_);
+    put_record(p, n, r);
     numbers::put(p, places::REC_COUNT, n as u64 + 1);
 }
 
 // Of n records the first j are left.
+#[tactic(auto, unfolding(layout::specs::InnerWrites::cut_records))]
 pub fn cut_records(p: &mut [i64], j: usize, n: usize)
     requires { (j ≤ n) × (rec_place n ≤ length p.old) }
     ensures { p.new ≡ cut_records p.old j n }
@@ -94,6 +98,7 @@ pub fn cut_records(p: &mut [i64], j: usize, n: usize)
 }
 
 // One more registration, after n.
+#[tactic(auto, unfolding(layout::specs::InnerWrites::append_registration))]
 pub fn append_registration(p: &mut [i64], n: usize, day: u64, user: u64)
     requires { (n < 8) × (recs_place ≤ length p.old) × (day < 2 ^ 63) × (user < 2 ^ 63) }
     ensures { p.new ≡ append_registration p.old n day user }
@@ -103,6 +108,7 @@ pub fn append_registration(p: &mut [i64], n: usize, day: u64, user: u64)
 }
 
 // Of n registrations the first j are left.
+#[tactic(auto, unfolding(layout::specs::InnerWrites::cut_registrations))]
 pub fn cut_registrations(p: &mut [i64], j: usize, n: usize)
     requires { (j ≤ n) × (n ≤ 8) × (recs_place ≤ length p.old) }
     ensures { p.new ≡ cut_registrations p.old j n }
@@ -116,6 +122,7 @@ pub fn cut_registrations(p: &mut [i64], j: usize, n: usize)
 }
 
 // One more off span, after n; its on day is -1 until it has one.
+#[tactic(auto, unfolding(layout::specs::InnerWrites::open_span))]
 pub fn open_span(p: &mut [i64], n: usize, off: u64)
     requires { (n < 8) × (recs_place ≤ length p.old) × (off < 2 ^ 63) }
     ensures { p.new ≡ open_span p.old n off }
@@ -126,6 +133,7 @@ pub fn open_span(p: &mut [i64], n: usize, off: u64)
     numbers::put(p, places::OFF_COUNT, n as u64 + 1);
 }
 
+#[tactic(auto, unfolding(layout::specs::InnerWrites::close_span))]
 pub fn close_span(p: &mut [i64], k: usize, on: u64)
     requires { (k < 8) × (recs_place ≤ length p.old) × (on < 2 ^ 63) }
     ensures { p.new ≡ close_span p.old k on }
@@ -133,6 +141,7 @@ pub fn close_span(p: &mut [i64], k: usize, on: u64)
     numbers::put(p, places::OFFS + places::OFF_LENGTH * k + 1, on);
 }
 
+#[tactic(auto, unfolding(layout::specs::InnerWrites::set_pending))]
 pub fn set_pending(p: &mut [i64], user: u64, first: u64, last: u64)
     requires { (recs_place ≤ length p.old) × (user < 2 ^ 63) × (first < 2 ^ 63) × (last < 2 ^ 63) }
     ensures { p.new ≡ set_pending p.old user first last }
@@ -149,6 +158,7 @@ pub fn clear_pending(p: &mut [i64])
 }
 
 // A point's facts and its first registration, in a part that holds zeros.
+#[tactic(auto, unfolding(layout::specs::InnerWrites::open_point))]
 pub fn open_point(p: &mut [i64], f: Facts, user: u64)
     requires { (recs_place ≤ length p.old) × FactsOk f × (user < 2 ^ 63) }
     ensures { p.new ≡ open_point p.old f user }

@@ -62,8 +62,7 @@ fn registrations_ok(p: &[i64], n: usize) -> bool
     }
     let mut lo = install;
     let mut latest = 0;
-    let mut k: usize = 0;
-    while k < n {
+    for k in 0..n {
         let i = places::REGS + places::REG_LENGTH * k;
         let start = point::bits_at(p, i);
         let user = point::bits_at(p, i + 1);
@@ -72,7 +71,6 @@ fn registrations_ok(p: &[i64], n: usize) -> bool
         }
         lo = start + 1;
         latest = user;
-        k += 1;
     }
     true
 }
@@ -83,15 +81,13 @@ fn spans_ok(p: &[i64], n: usize) -> bool
     ensures { result ≡ spans_ok p.now n }
 {
     let mut lo = places::install(p);
-    let mut k: usize = 0;
-    while k < n {
+    for k in 0..n {
         let off = places::off_day(p, k);
         let on = point::on_day(p, k);
         if !((lo <= off) & (off <= 39999) & (off < on) & (on <= 40001)) {
             return false;
         }
         lo = on + 1;
-        k += 1;
     }
     true
 }
@@ -146,8 +142,7 @@ fn records_ok(p: &[i64], m: usize, n: usize) -> bool
     let mut day = places::install(p);
     let mut j: usize = 0;
     let mut off = off_from(p, m, 0);
-    let mut k: usize = 0;
-    while k < n {
+    for k in 0..n {
         if off <= day {
             day = point::on_day(p, j);
             j += 1;
@@ -157,7 +152,6 @@ fn records_ok(p: &[i64], m: usize, n: usize) -> bool
             return false;
         }
         day = point::bits_at(p, places::RECS + places::REC_LENGTH * k + 1) + 1;
-        k += 1;
     }
     true
 }

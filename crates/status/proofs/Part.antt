@@ -1,7 +1,7 @@
 -- What the functions that work on a point's part read from it and leave in it, on the lists that it is the layout of.
 -- Assumes nothing.
 use mathlib.Core.Path.{◌≡◌, refl, sym, ◌∙◌, ap, ap₂}
-use mathlib.Core.Bool.{Bool, true, false, not, ◌&&◌, ◌||◌}
+use mathlib.Core.Bool.{Bool, true, false, not, ◌&&◌, ◌||◌, cond}
 use mathlib.Core.Option.{Option, none, some}
 use mathlib.Core.List.{List, [], ◌∷◌}
 use Prim.Native.Nat.{ℕ, suc, ◌+◌, ◌-◌, ◌*◌, ◌≤◌, ◌<◌}
@@ -101,51 +101,52 @@ module _ {room : ℕ} {q : Lists} (w : Well room q) {p : List ℤ} (e : point_nu
 
   -- ---- what is written
 
-  pub open_is : (day n on : ℕ) → n ≡ num_at p 5 → n < 8 → on ≡ 0 → open_span p n day ≡ point_numbers room (switched_lists day on q)
+  pub open_is : (day n : ℕ) → n ≡ num_at p 5 → n < 8 → open_span p n day ≡ point_numbers room (switched_lists day 0 q)
   unfolding offs_after
-  open_is day n on c h z =
-      rw (eq-eqb on 0 z)
-      (ap₂ (λ p n. open_span p n day) (sym e) (c ∙ place_offs w e)
-      ∙ open_span_lem room q (few w) day (omega (arith, place_offs w e)))
+  open_is day n c h =
+      ap₂ (λ p n. open_span p n day) (sym e) (c ∙ place_offs w e)
+      ∙ open_span_lem room q (few w) day (omega (arith, place_offs w e))
 
-  pub close_is : (day n on : ℕ) → n ≡ num_at p 5 → 1 ≤ n → 1 ≤ on → close_span p (n - 1) day ≡ point_numbers room (switched_lists day on q)
+  pub close_is : (day n : ℕ) → n ≡ num_at p 5 → 1 ≤ n → close_span p (n - 1) day ≡ point_numbers room (switched_lists day 1 q)
   unfolding offs_after
-  close_is day n on c h k =
+  close_is day n c h =
       let m : length q.offs ≡ suc (n - 1) = omega (arith, place_offs w e) in
       let x : ℕ × Option ℕ = get_or q.offs (n - 1) no_off in
       ap₂ (λ p n. close_span p n day) (sym e) (sym (length-take-le (n - 1) q.offs (omega arith)))
       ∙ close_span_lem room q (few w) (take (n - 1) q.offs) x.0 x.1 day (split_last no_off q.offs (n - 1) m)
-      ∙ rw (ne_eqb on 0 (λ (z : on ≡ 0). omega arith)) (ap (λ l. point_numbers room (with_offs l q)) (sym (closed_last day q.offs (n - 1) m)))
+      ∙ ap (λ l. point_numbers room (with_offs l q)) (sym (closed_last day q.offs (n - 1) m))
 
 -- ---- the rows
 
-module _ (day on : ℕ) (q : Lists) (b : Bool) (fourteen : b ≡ cannot_switch day on q) where
-  abbrev full : Bool
-  full = eqb on 0 && leb 8 (length q.offs)
+is_off : (on : Bool) → eqb (cond on 1 0) 0 ≡ not on
+is_off true = refl
+is_off false = refl
 
-  pub row_fourteen : b ≡ true → 14 ≡ least (status_rows_of day on q)
+module _ (day : ℕ) (on : Bool) (q : Lists) (b : Bool) (fourteen : b ≡ cannot_switch day (cond on 1 0) q) where
+  full_is : (eqb (cond on 1 0) 0 && leb 8 (length q.offs)) ≡ (not on && leb 8 (length q.offs))
+  full_is = ap (λ t. t && leb 8 (length q.offs)) (is_off on)
+
+  pub row_fourteen : b ≡ true → 14 ≡ least (status_rows_of day (cond on 1 0) q)
   unfolding status_rows above
-  row_fourteen h = sym (least_first 14 _ ((16, full) ∷ []) refl (sym fourteen ∙ h))
+  row_fourteen h = sym (least_first 14 _ _ refl (sym fourteen ∙ h))
 
-  pub row_sixteen : b ≡ false → full ≡ true → 16 ≡ least (status_rows_of day on q)
+  pub row_sixteen : b ≡ false → (not on && leb 8 (length q.offs)) ≡ true → 16 ≡ least (status_rows_of day (cond on 1 0) q)
   unfolding status_rows above
-  row_sixteen h k = sym (least_skip 14 _ ((16, full) ∷ []) (sym fourteen ∙ h) ∙ least_first 16 _ [] refl k)
+  row_sixteen h k = sym (least_skip 14 _ _ (sym fourteen ∙ h) ∙ least_first 16 _ [] refl (full_is ∙ k))
 
-  pub row_none : b ≡ false → full ≡ false → 0 ≡ least (status_rows_of day on q)
+  pub row_none : b ≡ false → (not on && leb 8 (length q.offs)) ≡ false → 0 ≡ least (status_rows_of day (cond on 1 0) q)
   unfolding status_rows least
-  row_none h k = sym (least_skip 14 _ ((16, full) ∷ []) (sym fourteen ∙ h) ∙ least_skip 16 _ [] k)
+  row_none h k = sym (least_skip 14 _ ((16, eqb (cond on 1 0) 0 && leb 8 (length q.offs)) ∷ []) (sym fourteen ∙ h) ∙ least_skip 16 _ [] (full_is ∙ k))
 
 -- where no row applies, there is room for a span that opens, and a span to close
-module _ (day on : ℕ) (q : Lists) (z : least (status_rows_of day on q) ≡ 0) where
-  pub room_to_open : on ≡ 0 → length q.offs < 8
+module _ (day : ℕ) (q : Lists) where
+  pub room_to_open : least (status_rows_of day 0 q) ≡ 0 → length q.offs < 8
   unfolding status_rows
-  room_to_open e =
-      let t = (least_none 15 _ [] (least_none 13 _ _ z).1).0 in
-      leb-false 8 (length q.offs) (rw (eq-eqb on 0 e) at t)
+  room_to_open z = leb-false 8 (length q.offs) (least_none 15 _ [] (least_none 13 _ _ z).1).0
 
-  pub span_to_close : on ≡ 1 → 1 ≤ length q.offs
+  pub span_to_close : least (status_rows_of day 1 q) ≡ 0 → 1 ≤ length q.offs
   unfolding status_rows last_of
-  span_to_close e = go q.offs (rw (eq-eqb on 1 e) at (least_none 13 _ _ z).0)
+  span_to_close z = go q.offs (least_none 13 _ _ z).0
     where
       go : (l : List (ℕ × Option ℕ)) → cannot_on day (last_of l) ≡ false → 1 ≤ length l
       go [] h = let k : ◌≡◌ {A = ℕ} 0 1 = cc in absurd (omega arith)

@@ -1,7 +1,6 @@
 -- What the loops and the parts of the whole table need. Assumes nothing.
-use mathlib.Core.Path.{◌≡◌, refl, sym, ap, ◌∙◌}
+use mathlib.Core.Path.{◌≡◌, sym, ap, ◌∙◌}
 use mathlib.Core.Bool.{Bool, true, false, not, ◌&&◌}
-use mathlib.Core.Option.{Option, none, some}
 use mathlib.Core.List.{List, ◌++◌}
 use Prim.Native.Nat.{ℕ, suc, ◌+◌, ◌-◌, ◌*◌, ◌≤◌, ◌<◌}
 use native.Mathlib.Omega.{arith}
@@ -11,12 +10,13 @@ use lib.ListN.{get_or, length, take, drop}
 use lib.Seq.{drop-drop}
 use lib.IntN.{ℤ, pos, negsuc}
 use borrow.Author.Tests.{le-leb, lt-leb, eq-eqb, ne_eqb, leb-true}
+use Rattle.std.specs.Prelude.{Option as Maybe, Some, None, MatchOption}
 use Rattle.numbers.specs.InnerEnergies.{bias_of}
 use Rattle.numbers.specs.Rows.{all}
-use Rattle.numbers.specs.Search.{maybe, first_from}
+use Rattle.numbers.specs.Search.{option_of}
 use Rattle.numbers.proofs.Bools.{both}
-use Rattle.numbers.proofs.Rows.{all_more, all_fails, all_done}
-use Rattle.numbers.proofs.Search.{from_none, from_hit, from_miss, from_bound}
+use Rattle.numbers.proofs.Rows.{all_none, all_more, all_fails, all_done}
+use Rattle.numbers.proofs.Search.{first_is_lem, first_none}
 use Rattle.daybook.specs.Notices.{is_range}
 use Rattle.daybook.specs.declared.Edition.{Edition}
 use Rattle.layout.specs.Layout.{table_length, stride, place_of, Fits, part_of, num_at, points_from}
@@ -71,44 +71,38 @@ mirn_at ed t m i = eqb (num_at t (place_of ed i)) m
 
 -- ---- the loops
 
-module _ (ed : Edition) (t : List ℤ) (m n i : ℕ) (o : Option ℕ) where
-  -- the search from point i on, of n
-  pub index_hit : first_from (mirn_at ed t m) i (n - i) ≡ o → i < n → num_at t (place_of ed i) ≡ m → i ≡ maybe ed.points (λ k. k) o
-  index_hit e l h =
-      let q : some i ≡ o = sym (from_hit (mirn_at ed t m) i (n - i) (omega arith) (eq-eqb _ _ h)) ∙ e in
-      ap (maybe ed.points (λ k. k)) q
-
-  pub index_miss : first_from (mirn_at ed t m) i (n - i) ≡ o → i < n → (num_at t (place_of ed i) ≡ m → ⊥) → first_from (mirn_at ed t m) (i + 1) (n - (i + 1)) ≡ o
-  index_miss e l h =
-      let k : n - i - 1 ≡ n - (i + 1) = omega arith in
-      ap (first_from (mirn_at ed t m) (i + 1)) (sym k) ∙ sym (from_miss (mirn_at ed t m) i (n - i) (omega arith) (ne_eqb _ _ h)) ∙ e
-
-  pub index_end : first_from (mirn_at ed t m) i (n - i) ≡ o → n ≤ i → ed.points ≡ maybe ed.points (λ k. k) o
-  index_end e l =
-      let k : n - i ≡ 0 = omega arith in
-      let q : none ≡ o = sym (ap (first_from (mirn_at ed t m) i) k ∙ from_none (mirn_at ed t m) i) ∙ e in
-      ap (maybe ed.points (λ k. k)) q
-
-pub index_start : (ed : Edition) (t : List ℤ) (m n : ℕ) → n ≡ num_at t 0 → first_from (mirn_at ed t m) 0 (n - 0) ≡ index_of ed t m
-unfolding index_of
-index_start ed t m n e = let k : n - 0 ≡ num_at t 0 = omega arith in ap (first_from (mirn_at ed t m) 0) k
+-- the point of a MIRN, by `find` over the n points in use
+module _ (ed : Edition) (t : List ℤ) (m n : ℕ) (e : n ≡ num_at t 0) where
+  pub index_found : (r : Maybe ℕ)
+      → MatchOption r ((k : ℕ) → 0 ≤ k → k < n → mirn_at ed t m k ≡ false) (λ i. (0 ≤ i) × (i < n) × (mirn_at ed t m i ≡ true) × ((k : ℕ) → 0 ≤ k → k < i → mirn_at ed t m k ≡ false))
+      → option_of r ≡ index_of ed t m
+  unfolding index_of
+  index_found None h =
+      sym (first_none (mirn_at ed t m) 0 (num_at t 0) (λ k u v. h k u (omega (arith, e, v))))
+  index_found (Some i) h = sym (first_is_lem (mirn_at ed t m) 0 (num_at t 0) i h.0 (omega (arith, e, h.1)) h.2 h.3)
 
 -- one more MIRN that differs, one that does not, and the end
-module _ (ed : Edition) (t : List ℤ) (i n : ℕ) where
-  pub later_fails : (j r : ℕ) → j < n - suc i → r ≡ num_at t (place_of ed (i + 1 + j)) → r ≡ num_at t (place_of ed i) → false ≡ later_differ ed t n i
-  unfolding later_differ
-  later_fails j r l e h =
-      let k : i + 1 + j ≡ suc i + j = omega arith in
-      sym (all_fails (differ_at ed t i) j (n - suc i) l (ap not (eq-eqb _ _ (sym h ∙ e ∙ ap (λ a. num_at t (place_of ed a)) k))))
+module _ (ed : Edition) (t : List ℤ) (i : ℕ) where
+  pub later_none : all (differ_at ed t i) (i + 1 - suc i) ≡ true
+  later_none = let z : i + 1 - suc i ≡ 0 = omega arith in rw z (all_none (differ_at ed t i))
 
-  pub later_more : (j r : ℕ) → r ≡ num_at t (place_of ed (i + 1 + j)) → (r ≡ num_at t (place_of ed i) → ⊥) → all (differ_at ed t i) j ≡ true → all (differ_at ed t i) (j + 1) ≡ true
-  later_more j r e h q =
-      let k : i + 1 + j ≡ suc i + j = omega arith in
-      all_more (differ_at ed t i) j q (ap not (ne_eqb _ _ (λ (z : num_at t (place_of ed i) ≡ num_at t (place_of ed (suc i + j))). h (e ∙ ap (λ a. num_at t (place_of ed a)) k ∙ sym z))))
+  module _ (n j r : ℕ) (l : i < j) (e : r ≡ num_at t (place_of ed j)) where
+    place_is : place_of ed (suc i + (j - suc i)) ≡ place_of ed j
+    place_is = let k : suc i + (j - suc i) ≡ j = omega arith in ap (place_of ed) k
 
-  pub later_done : (j : ℕ) → all (differ_at ed t i) j ≡ true → j ≡ n - suc i → true ≡ later_differ ed t n i
+    pub later_fails : j < n → r ≡ num_at t (place_of ed i) → false ≡ later_differ ed t n i
+    unfolding later_differ
+    later_fails h q =
+        sym (all_fails (differ_at ed t i) (j - suc i) (n - suc i) (omega arith) (ap not (eq-eqb _ _ (sym q ∙ e ∙ ap (num_at t) (sym place_is)))))
+
+    pub later_more : (r ≡ num_at t (place_of ed i) → ⊥) → all (differ_at ed t i) (j - suc i) ≡ true → all (differ_at ed t i) (j + 1 - suc i) ≡ true
+    later_more h q =
+        let m : j + 1 - suc i ≡ j - suc i + 1 = omega arith in
+        rw m (all_more (differ_at ed t i) (j - suc i) q (ap not (ne_eqb _ _ (λ (z : num_at t (place_of ed i) ≡ num_at t (place_of ed (suc i + (j - suc i)))). h (e ∙ ap (num_at t) (sym place_is) ∙ sym z)))))
+
+  pub later_done : (n j : ℕ) → all (differ_at ed t i) (j - suc i) ≡ true → j ≡ n → true ≡ later_differ ed t n i
   unfolding later_differ
-  later_done j q e = all_done (differ_at ed t i) j (n - suc i) q e
+  later_done n j q e = all_done (differ_at ed t i) (j - suc i) (n - suc i) q (ap (λ k. k - suc i) e)
 
 -- ---- the whole table
 
@@ -133,26 +127,3 @@ module _ (ed : Edition) (t : List ℤ) where
   -- a sound table is long enough and has not too many points
   pub sound_long : sound ed t ≡ true → (7688 ≤ length t) × (num_at t 0 ≤ ed.points)
   sound_long e = let s : Tested ed t = tested ed t e in (s.long, s.few)
-
--- ---- what the search by MIRN answers
-
-pub index_within : (ed : Edition) (t : List ℤ) → sound ed t ≡ true → (m i : ℕ) → index_of ed t m ≡ some i → i + 1 ≤ ed.points
-unfolding index_of
-index_within ed t s m i e =
-    omega (arith, (from_bound (mirn_at ed t m) 0 (num_at t 0) i e).1, (sound_long ed t s).1)
-
-module _ (ed : Edition) (t : List ℤ) (s : sound ed t ≡ true) (m i : ℕ) (e : i ≡ maybe ed.points (λ k. k) (index_of ed t m)) where
-  pub index_none : i ≡ ed.points → index_of ed t m ≡ none
-  unfolding index_of
-  index_none z = go (index_of ed t m) (λ k q. (from_bound (mirn_at ed t m) 0 (num_at t 0) k q).1) (sym z ∙ e)
-    where
-      go : (o : Option ℕ) → ((k : ℕ) → o ≡ some k → k < 0 + num_at t 0) → ed.points ≡ maybe ed.points (λ k. k) o → o ≡ none
-      go none f h = refl
-      go (some k) f h = absurd (omega (arith, f k refl, (sound_long ed t s).1))
-
-  pub index_some : (i ≡ ed.points → ⊥) → index_of ed t m ≡ some i
-  index_some n = go (index_of ed t m) e
-    where
-      go : (o : Option ℕ) → i ≡ maybe ed.points (λ k. k) o → o ≡ some i
-      go none h = absurd (n h)
-      go (some k) h = ap some (sym h)

@@ -1,52 +1,31 @@
--- Where a call finds its point, test by test; and what it says to have been sent back, or to have found the part.
--- Assumes nothing.
-use mathlib.Core.Path.{◌≡◌, refl, sym, ap, subst, ◌∙◌}
+-- What a call is told of its table and of the point of its MIRN: that it is sent back, or where the part stands. Assumes
+-- nothing.
+use mathlib.Core.Path.{◌≡◌, refl, sym, ap, ◌∙◌}
 use mathlib.Core.Bool.{Bool, true, false, cond}
 use mathlib.Core.Option.{Option, none, some}
 use mathlib.Core.List.{List, []}
-use Prim.Native.Nat.{ℕ, zero, suc, ◌+◌, ◌≤◌}
+use Prim.Native.Nat.{ℕ, zero, suc, ◌+◌, ◌≤◌, ◌<◌}
 use native.Mathlib.Omega.{arith}
-use borrow.Author.Tests.{ne_eqb}
-use lib.Dec.{eqb, eqb-suc-zero}
 use lib.IntN.{ℤ}
 use lib.ListN.{length}
 use mir.Facts.{to_z-of_z}
 use mir.Syntax.{w64}
 use mir.Val.{to_z, of_z, SFits}
+use Rattle.std.specs.Prelude.{Result, Ok, Err}
+use Rattle.refusals.specs.declared.Refusal.{Refusal}
+use Rattle.refusals.specs.declared.Refusal.TheVariants as Refusal·
+use Rattle.refusals.specs.Refusals.{number_of}
+use Rattle.refusals.proofs.Numbers.{number_within}
 use Rattle.numbers.specs.Naturals.{nat_of}
 use Rattle.numbers.specs.Search.{maybe}
 use Rattle.daybook.specs.declared.Edition.{Edition}
 use Rattle.daybook.specs.Editions.{editions}
-use Rattle.layout.specs.Layout.{table_length, place_of, Fits, edition_of, part_of}
+use Rattle.layout.specs.Layout.{place_of, Fits, edition_of, part_of}
 use Rattle.layout.specs.Sound.{sound}
 use Rattle.table.specs.declared.Located.{Located}
-use Rattle.table.specs.declared.Located.TheVariants.{Refused, At}
 use Rattle.table.specs.Lookup.{index_of, look_up}
-use Rattle.table.specs.InnerTable.{located}
-use Rattle.table.proofs.Laws.{lent, part_is_lem, place_small, place_next, sound_long, index_none, index_some, index_within}
-
--- ---- from the tests to the answer
-
-module _ (ed : Edition) (t : List ℤ) (m : ℤ) (early : ℕ) where
-  pub located_unsound : sound ed t ≡ false → Refused 1 ≡ located ed t m early
-  unfolding located
-  located_unsound e = rw e
-
-  module _ (s : sound ed t ≡ true) where
-    pub located_early : (early ≡ 0 → ⊥) → Refused early ≡ located ed t m early
-    unfolding located
-    located_early n = rw (s, ne_eqb early 0 n)
-
-    module _ (z : early ≡ 0) (i : ℕ) (e : i ≡ maybe ed.points (λ k. k) (index_of ed t (nat_of m))) where
-      pub located_missing : i ≡ ed.points → Refused 4 ≡ located ed t m early
-      unfolding located
-      located_missing n = rw (s, z, index_none ed t s (nat_of m) i e n)
-
-      pub located_at : (i ≡ ed.points → ⊥) → (a b : ℕ) → a ≡ place_of ed i → b ≡ place_of ed (i + 1) → At a b ≡ located ed t m early
-      unfolding located
-      located_at n a b x y = rw (s, z, index_some ed t s (nat_of m) i e n, x, y)
-
--- ---- from the answer to what was tested
+use Rattle.table.specs.InnerTable.{sound_edition, place_of_mirn}
+use Rattle.table.proofs.Laws.{lent, part_is_lem, place_small, place_next, sound_long}
 
 -- The call found point i, of its MIRN.
 pub record PartFound (ed : Edition) (t : List ℤ) (m : ℤ) (early a b : ℕ) : Type 0 where
@@ -63,41 +42,83 @@ pub data SentBack (ed : Edition) (t : List ℤ) (m : ℤ) (early : ℕ) : ℕ �
   by_numbers : sound ed t ≡ true → (r : ℕ) → early ≡ suc r → SentBack ed t m early (suc r)
   unknown : sound ed t ≡ true → early ≡ 0 → index_of ed t (nat_of m) ≡ none → SentBack ed t m early 4
 
-module _ (ed : Edition) (t : List ℤ) (m : ℤ) (early : ℕ) where
-  abbrev answer : Bool → ℕ → Option ℕ → Located
-  answer s e o = cond s (cond (eqb e 0) (maybe (Refused 4) (λ i. At (place_of ed i) (place_of ed (i + 1))) o) (Refused e)) (Refused 1)
+-- ---- is the table sound?
 
-  part_found : (a b : ℕ) → At a b ≡ located ed t m early → PartFound ed t m early a b
-  unfolding located
-  part_found a b h = go (sound ed t) refl early refl (index_of ed t (nat_of m)) refl h
+module _ (t : List ℤ) where
+  module _ {ed : Edition} (g : ed ≡ edition_of t) where
+    pub given_sound : sound ed t ≡ true → Ok ed ≡ sound_edition t
+    unfolding sound_edition
+    given_sound s = rw (← g, s)
+
+    pub given_unsound : sound ed t ≡ false → Err Refusal·.Unsound ≡ sound_edition t
+    unfolding sound_edition
+    given_unsound s = rw (← g, s)
+
+  pub not_sound : {e : Refusal} → Err e ≡ sound_edition t → (e ≡ Refusal·.Unsound) × (sound (edition_of t) t ≡ false)
+  unfolding sound_edition
+  not_sound {e} h = go (sound (edition_of t) t) refl h
     where
-      go : (s : Bool) → sound ed t ≡ s → (e : ℕ) → early ≡ e → (o : Option ℕ) → index_of ed t (nat_of m) ≡ o → At a b ≡ answer s e o → PartFound ed t m early a b
-      go false s e z o x h = let k : ◌≡◌ {A = ℕ} 0 1 = cc in absurd (omega arith)
-      go true s (suc e) z o x h = let k : ◌≡◌ {A = ℕ} 0 1 = let q = eqb-suc-zero e in cc in absurd (omega arith)
-      go true s zero z none x h = let k : ◌≡◌ {A = ℕ} 0 1 = cc in absurd (omega arith)
-      go true s zero z (some i) x h = record { is_sound = s; passed = z; i = i; index = x; from = cc; to = cc }
+      go : (s : Bool) → sound (edition_of t) t ≡ s → Err e ≡ cond s (Ok (edition_of t)) (Err Refusal·.Unsound) → (e ≡ Refusal·.Unsound) × (sound (edition_of t) t ≡ false)
+      go true s h = let k : ◌≡◌ {A = ℕ} 0 1 = cc in absurd (omega arith)
+      go false s h = (cc, s)
 
-  sent_back_lem : (r : ℕ) → Refused r ≡ located ed t m early → SentBack ed t m early r
-  unfolding located
-  sent_back_lem r h = go (sound ed t) refl early refl (index_of ed t (nat_of m)) refl h
+  pub nothing_sound : (m : ℤ) {e : Refusal} → Err e ≡ sound_edition t → [] ≡ look_up editions t m
+  unfolding look_up
+  nothing_sound m h = rw (not_sound h).1
+
+-- ---- a call's own numbers
+
+pub back_numbers : {ed : Edition} {t : List ℤ} {m : ℤ} {early : ℕ} (e : Refusal) → sound ed t ≡ true → number_of e ≡ early → SentBack ed t m early (number_of e)
+back_numbers {ed} {t} {m} {early} e s h = go (number_of e) refl
+  where
+    go : (n : ℕ) → number_of e ≡ n → SentBack ed t m early n
+    go zero z = absurd (omega (arith, z, number_within e))
+    go (suc r) z = by_numbers s r (sym h ∙ z)
+
+-- ---- the point of a MIRN
+
+module _ (ed : Edition) (t : List ℤ) where
+  pub given_none : (m : ℤ) → none ≡ index_of ed t (nat_of m) → Err Refusal·.UnknownMirn ≡ place_of_mirn ed t m
+  unfolding place_of_mirn
+  given_none m h = rw (← h)
+
+  pub given_place : (m : ℤ) {i a b : ℕ} → some i ≡ index_of ed t (nat_of m) → a ≡ place_of ed i → b ≡ place_of ed (i + 1)
+      → Ok (record { from = a; to = b }) ≡ place_of_mirn ed t m
+  unfolding place_of_mirn
+  given_place m h x y = rw (← h, x, y)
+
+  -- its part can be lent
+  pub place_within : {i a b : ℕ} → Fits ed → sound ed t ≡ true → i < ed.points → a ≡ place_of ed i → b ≡ place_of ed (i + 1) → (a ≤ b) × (b ≤ length t)
+  place_within {i} fits s l x y =
+      (omega (arith, x, y, place_next ed fits i), omega (arith, y, place_small ed fits (i + 1) (omega arith), (sound_long ed t s).0))
+
+-- what a caller is told, whose MIRN is read as the machine holds it
+module _ (ed : Edition) (t : List ℤ) (m : ℤ) (f : SFits w64 m) where
+  copied : {r : Result Located Refusal} → r ≡ place_of_mirn ed t (to_z w64 (of_z w64 m)) → r ≡ place_of_mirn ed t m
+  copied e = e ∙ ap (λ m. place_of_mirn ed t m) (to_z-of_z f)
+
+  unknown_mirn : {e : Refusal} → Err e ≡ place_of_mirn ed t (to_z w64 (of_z w64 m)) → (e ≡ Refusal·.UnknownMirn) × (index_of ed t (nat_of m) ≡ none)
+  unfolding place_of_mirn
+  unknown_mirn {e} h = go (index_of ed t (nat_of m)) refl (copied h)
     where
-      go : (s : Bool) → sound ed t ≡ s → (e : ℕ) → early ≡ e → (o : Option ℕ) → index_of ed t (nat_of m) ≡ o → Refused r ≡ answer s e o → SentBack ed t m early r
-      go false s e z o x h = let k : 1 ≡ r = cc in subst (SentBack ed t m early) k (unsound s)
-      go true s (suc e) z o x h = let k : suc e ≡ r = let q = eqb-suc-zero e in cc in subst (SentBack ed t m early) k (by_numbers s e z)
-      go true s zero z none x h = let k : 4 ≡ r = cc in subst (SentBack ed t m early) k (unknown s z x)
-      go true s zero z (some i) x h = let k : ◌≡◌ {A = ℕ} 0 1 = cc in absurd (omega arith)
+      go : (o : Option ℕ) → index_of ed t (nat_of m) ≡ o → ◌≡◌ {A = Result Located Refusal} (Err e) (maybe (Err Refusal·.UnknownMirn) (λ i. Ok (record { from = place_of ed i; to = place_of ed (i + 1) })) o) → (e ≡ Refusal·.UnknownMirn) × (index_of ed t (nat_of m) ≡ none)
+      go none x h = (cc, x)
+      go (some i) x h = let k : ◌≡◌ {A = ℕ} 0 1 = cc in absurd (omega arith)
 
--- ---- what a caller is told: its MIRN is read as the machine holds it
+  pub part_found : {early : ℕ} {p : Located} → sound ed t ≡ true → early ≡ 0 → Ok p ≡ place_of_mirn ed t (to_z w64 (of_z w64 m)) → PartFound ed t m early p.from p.to
+  unfolding place_of_mirn
+  part_found {early} {p} s z h = go (index_of ed t (nat_of m)) refl (copied h)
+    where
+      go : (o : Option ℕ) → index_of ed t (nat_of m) ≡ o → ◌≡◌ {A = Result Located Refusal} (Ok p) (maybe (Err Refusal·.UnknownMirn) (λ i. Ok (record { from = place_of ed i; to = place_of ed (i + 1) })) o) → PartFound ed t m early p.from p.to
+      go none x h = let k : ◌≡◌ {A = ℕ} 0 1 = cc in absurd (omega arith)
+      go (some i) x h = record { is_sound = s; passed = z; i = i; index = x; from = cc; to = cc }
 
-pub copied : (ed : Edition) (t : List ℤ) (m : ℤ) (early : ℕ) → SFits w64 m → located ed t (to_z w64 (of_z w64 m)) early ≡ located ed t m early
-copied ed t m early f = ap (λ m. located ed t m early) (to_z-of_z f)
+  pub back_unknown : {early : ℕ} {e : Refusal} → sound ed t ≡ true → early ≡ 0 → Err e ≡ place_of_mirn ed t (to_z w64 (of_z w64 m)) → SentBack ed t m early (number_of e)
+  back_unknown s z h = let w = unknown_mirn h in rw w.0 (unknown s z w.1)
 
-module _ {ed : Edition} {t : List ℤ} {m : ℤ} {early : ℕ} {r : Located} (f : SFits w64 m) (e : r ≡ located ed t (to_z w64 (of_z w64 m)) early) where
-  pub told_part : {a b : ℕ} → r ≡ At a b → PartFound ed t m early a b
-  told_part h = part_found ed t m early _ _ (sym h ∙ e ∙ copied ed t m early f)
-
-  pub told_row : {k : ℕ} → r ≡ Refused k → SentBack ed t m early k
-  told_row h = sent_back_lem ed t m early _ (sym h ∙ e ∙ copied ed t m early f)
+  pub nothing_known : {e : Refusal} → ed ≡ edition_of t → sound ed t ≡ true → Err e ≡ place_of_mirn ed t (to_z w64 (of_z w64 m)) → [] ≡ look_up editions t m
+  unfolding look_up
+  nothing_known g s h = rw (← g, s, (unknown_mirn h).1)
 
 -- ---- the part that was found
 
@@ -105,18 +126,6 @@ module _ {ed : Edition} {t : List ℤ} {m : ℤ} {early a b : ℕ} (fits : Fits 
   pub at_part : lent t a b ≡ part_of ed t h.i
   at_part = part_is_lem ed fits t h.i a b h.from h.to
 
-  -- it can be lent
-  pub in_table : (a ≤ b) × (b ≤ table_length) × (table_length ≤ length t)
-  in_table =
-      let n : place_of ed (h.i + 1) ≤ table_length = place_small ed fits (h.i + 1) (index_within ed t h.is_sound (nat_of m) h.i h.index) in
-      (omega (arith, h.from, h.to, place_next ed fits h.i), omega (arith, h.to, n), (sound_long ed t h.is_sound).0)
-
   pub looked_up : ed ≡ edition_of t → lent t a b ≡ look_up editions t m
   unfolding look_up
   looked_up g = rw (← g, h.is_sound, h.index) at_part
-
-pub nothing_found : {ed : Edition} {t : List ℤ} {m : ℤ} {r : ℕ} → ed ≡ edition_of t → SentBack ed t m 0 r → [] ≡ look_up editions t m
-unfolding look_up
-nothing_found g (unsound s) = rw (← g, s)
-nothing_found g (by_numbers s r e) = absurd (omega arith)
-nothing_found g (unknown s e o) = rw (← g, s, o)

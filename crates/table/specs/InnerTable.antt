@@ -1,5 +1,7 @@
 -- What the inner functions say of a whole table, and of a call on one point's part.
-use Rattle.std.specs.Prelude.{Bool, ◌&&◌, cond, List, ℕ, ◌+◌, eqb, ℤ, pos, get_or, drop}
+use Rattle.std.specs.Prelude.{Result, Ok, Err, Bool, ◌&&◌, cond, List, ℕ, ◌+◌, eqb, ℤ, pos, get_or, drop}
+use Rattle.refusals.specs.declared.Refusal.{Refusal}
+use Rattle.refusals.specs.declared.Refusal.TheVariants as Refusal·
 use Rattle.numbers.specs.Naturals.{nat_of}
 use Rattle.numbers.specs.Rows.{all}
 use Rattle.numbers.specs.Search.{maybe}
@@ -7,12 +9,11 @@ use Rattle.daybook.specs.declared.Edition.{Edition}
 use Rattle.daybook.specs.Notices.{Row, least, Numbers, decide, is_range}
 use Rattle.lists.specs.Lists.{Lists}
 use Rattle.layout.specs.Places.{points_place, nondaily_place, daily_place, edition_place, header_spare, header_length}
-use Rattle.layout.specs.Layout.{table_length, place_of, part_of, num_at, points_from, point_numbers, point_from}
+use Rattle.layout.specs.Layout.{table_length, place_of, edition_of, part_of, num_at, points_from, point_numbers, point_from}
 use Rattle.layout.specs.Sound.{zeros, part_sound, mirns_differ, sound}
 use Rattle.layout.specs.InnerParts.{room_of}
 use Rattle.table.specs.Lookup.{index_of}
 use Rattle.table.specs.declared.Located.{Located}
-use Rattle.table.specs.declared.Located.TheVariants.{Refused, At}
 
 -- What is tested of a table that is long enough and does not say that it has too many points.
 unfoldable pub body_sound : Edition → List ℤ → Bool
@@ -29,9 +30,12 @@ on_part k rows effect p =
     let w : Numbers × Lists = effect (point_from p) in
     decide (least (rows (point_from p))) k p (w.0, point_numbers (room_of p) w.1)
 
--- Where a call finds the part of its MIRN's point: sent back by row 1, by the row of its own numbers unless that is 0, or
--- by row 4.
-unfoldable pub located : Edition → List ℤ → ℤ → ℕ → Located
-located ed t mirn early =
-    let found : Located = maybe (Refused 4) (λ i. At (place_of ed i) (place_of ed (i + 1))) (index_of ed t (nat_of mirn)) in
-    cond (sound ed t) (cond (eqb early 0) found (Refused early)) (Refused 1)
+-- The edition of a sound table; row 1 of any other.
+unfoldable pub sound_edition : List ℤ → Result Edition Refusal
+sound_edition t = let ed : Edition = edition_of t in cond (sound ed t) (Ok ed) (Err Refusal·.Unsound)
+
+-- Where the part of a MIRN's point stands; row 4 of an unknown MIRN.
+unfoldable pub place_of_mirn : Edition → List ℤ → ℤ → Result Located Refusal
+place_of_mirn ed t mirn =
+    maybe (Err Refusal·.UnknownMirn) (λ i. Ok (record { from = place_of ed i; to = place_of ed (i + 1) }))
+    (index_of ed t (nat_of mirn))

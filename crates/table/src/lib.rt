@@ -1,25 +1,28 @@
-// The whole register table, of any edition that fits: is it sound, where does a point stand, what are its numbers, and how
-// many records has the fullest one?
+// The whole register table, of any edition that fits: is it sound, where does a point stand, what are its numbers, and
+// how many records has the fullest one?
 #![tactic(auto)]
 
-ghost use Rattle.std.specs.Prelude.{◌≡◌, true, ◌<◌, ◌≤◌, max, length, drop};
+ghost use Rattle.std.specs.Prelude.{◌≡◌, true, ◌<◌, ◌≤◌, length, drop, IfSome};
 ghost use Rattle.numbers.specs.Rows.{all};
-ghost use Rattle.numbers.specs.Search.{maybe};
-ghost use Rattle.daybook.specs.Editions.{editions, edition_no, most_records};
+ghost use Rattle.numbers.specs.Search.{option_of};
+ghost use Rattle.daybook.specs.Editions.{editions, edition_no};
 ghost use Rattle.layout.specs.Places.{points_place, header_length};
-ghost use Rattle.layout.specs.Layout.{table_length, stride as stride_of, place_of, Fits, edition_of, part_of, num_at, points_from, table_book};
+ghost use Rattle.layout.specs.Layout.{table_length, stride as stride_of, place_of, Fits, edition_of, part_of, num_at, points_from};
 ghost use Rattle.layout.specs.Sound.{part_sound, mirns_differ, sound as table_sound};
 ghost use Rattle.layout.specs.InnerMirns.{later_differ};
-ghost use Rattle.table.specs.InnerTable.{body_sound, located};
+ghost use Rattle.table.specs.InnerTable.{body_sound};
 ghost use Rattle.table.specs.Lookup.{index_of, look_up};
 
-use daybook::Edition;
+mod register;
 
-// Where a call finds its point's part, from its first place to past its last; or the row that sends the call back.
+use daybook::Edition;
+pub use register::Register;
+
+// Where a point's part stands in a table: from its first place to past its last.
 #[derive(Clone, Copy)]
-pub enum Located {
-    Refused(u64),
-    At { from: usize, to: usize },
+pub struct Located {
+    pub from: usize,
+    pub to: usize,
 }
 
 // The edition of a number.
@@ -92,13 +95,10 @@ fn later_differ(t: &[i64], ed: Edition, i: usize, n: usize) -> bool
     ensures { result ≡ later_differ ed t.now n i }
 {
     let own = mirn(t, ed, i);
-    let m = n - (i + 1);
-    let mut j: usize = 0;
-    while j < m {
-        if mirn(t, ed, i + 1 + j) == own {
+    for j in i + 1..n {
+        if mirn(t, ed, j) == own {
             return false;
         }
-        j += 1;
     }
     true
 }
@@ -107,12 +107,10 @@ fn mirns_differ(t: &[i64], ed: Edition, n: usize) -> bool
     requires { Fits ed × (n ≤ ed.points) × (table_length ≤ length t.now) }
     ensures { result ≡ mirns_differ (points_from ed n (drop header_length t.now)) }
 {
-    let mut i: usize = 0;
-    while i < n {
+    for i in 0..n {
         if !later_differ(t, ed, i, n) {
             return false;
         }
-        i += 1;
     }
     true
 }
@@ -121,12 +119,10 @@ fn parts_sound(t: &[i64], ed: Edition, n: usize) -> bool
     requires { Fits ed × (n ≤ ed.points) × (table_length ≤ length t.now) }
     ensures { result ≡ all (λ i. part_sound (part_of ed t.now i)) n }
 {
-    let mut i: usize = 0;
-    while i < n {
+    for i in 0..n {
         if !soundness::part_sound(part(t, ed, i)) {
             return false;
         }
-        i += 1;
     }
     true
 }
@@ -161,50 +157,14 @@ pub fn sound(t: &[i64], ed: Edition) -> bool
     body_sound(t, ed, n)
 }
 
-// The point of a MIRN, as many as the edition has points if there is none.
-pub fn index_of(t: &[i64], ed: Edition, m: u64) -> usize
+// The point of a MIRN.
+fn index_of(t: &[i64], ed: Edition, m: u64) -> Option<usize>
     requires { Fits ed × (table_length ≤ length t.now) × (num_at t.now points_place ≤ ed.points) }
-    ensures { (result ≡ maybe ed.points (λ i. i) (index_of ed t.now m)) × (result ≤ ed.points) }
+    ensures is { option_of result ≡ index_of ed t.now m }
+    ensures some { IfSome result (λ i. i < ed.points) }
 {
     let used = places::points(t);
-    let mut i: usize = 0;
-    while i < used {
-        if mirn(t, ed, i) == m {
-            return i;
-        }
-        i += 1;
-    }
-    ed.points
-}
-
-// The point of a MIRN in a table that is known to be sound, for a call whose own numbers are sent back by row `early`, 0
-// if by none: that row, row 4.
-pub fn locate_in_sound(t: &[i64], ed: Edition, mirn: i64, early: u64) -> Located
-    requires { Fits ed × (table_sound ed t.now ≡ true) }
-    ensures { result ≡ located ed t.now mirn early }
-{
-    if early != 0 {
-        return Located::Refused(early);
-    }
-    let i = index_of(t, ed, numbers::natural(mirn));
-    if i == ed.points {
-        return Located::Refused(4);
-    }
-    Located::At {
-        from: place(ed, i),
-        to: place(ed, i + 1),
-    }
-}
-
-// The same in any table: row 1 comes first.
-pub fn locate(t: &[i64], ed: Edition, mirn: i64, early: u64) -> Located
-    requires { Fits ed }
-    ensures { result ≡ located ed t.now mirn early }
-{
-    if !sound(t, ed) {
-        return Located::Refused(1);
-    }
-    locate_in_sound(t, ed, mirn, early)
+    (0..used).find(|i| mirn(t, ed, *i) == m)
 }
 
 // The point of a MIRN: its part of the lent table itself, an empty part if the table is short or unsound or has no
@@ -212,34 +172,11 @@ pub fn locate(t: &[i64], ed: Edition, mirn: i64, early: u64) -> Located
 pub fn look_up(t: &[i64], m: i64) -> &[i64]
     ensures { result.now ≡ look_up editions t.now m }
 {
-    let ed = edition(t);
-    let Located::At { from, to } = locate(t, ed, m, 0) else {
+    let Ok(register) = Register::of(t) else {
         return &t[0..0];
     };
-    &t[from..to]
-}
-
-// The larger of two numbers.
-pub fn larger(a: usize, b: usize) -> usize
-    ensures { result ≡ max a b }
-{
-    if a < b {
-        return b;
-    }
-    a
-}
-
-// The largest number of records that a point has, 0 with no point.
-pub fn most_records(t: &[i64], ed: Edition) -> usize
-    requires { Fits ed × (table_sound ed t.now ≡ true) }
-    ensures { result ≡ most_records (table_book ed t.now).points }
-{
-    let n = places::points(t);
-    let mut most: usize = 0;
-    let mut i: usize = 0;
-    while i < n {
-        most = larger(most, places::records(part(t, ed, i)));
-        i += 1;
-    }
-    most
+    let Ok(place) = register.locate(m) else {
+        return &t[0..0];
+    };
+    &register.table[place.from..place.to]
 }

@@ -7,8 +7,10 @@ use mathlib.Core.List.{List, [], ◌∷◌}
 use Prim.Native.Nat.{ℕ, suc, ◌≤◌}
 use borrow.Author.Tests.{not-false}
 use lib.IntN.{ℤ, pos}
+use Rattle.std.specs.Prelude.{Err}
+use Rattle.refusals.specs.declared.Refusal.{Refusal}
+use Rattle.refusals.specs.Refusals.{number_of}
 use Rattle.numbers.specs.Naturals.{nat_of}
-use Rattle.numbers.specs.Answers.{refused}
 use Rattle.numbers.proofs.Bools.{both}
 use Rattle.calendar.specs.Calendar.{is_day, holiday_list, allowable_period}
 use Rattle.daybook.specs.declared.Edition.{Edition}
@@ -24,8 +26,9 @@ use Rattle.layout.specs.Sound.{sound}
 use Rattle.layout.specs.Calls.{on_edition}
 use Rattle.layout.proofs.TableSound.{sound_lays}
 use Rattle.table.proofs.Laws.{lent, back_in}
-use Rattle.table.proofs.Locating.{PartFound, SentBack}
-use Rattle.table.proofs.Calls.{call_unsound}
+use Rattle.table.specs.InnerTable.{sound_edition}
+use Rattle.table.proofs.Locating.{PartFound, SentBack, not_sound}
+use Rattle.table.proofs.Calls.{call_unsound, gives}
 use Rattle.table.proofs.OnPart.{CallOn, on_early, call_back, call_done}
 use Rattle.transfer.specs.Transfer.{request_call}
 use Rattle.transfer.specs.InnerParts.{request_rows_of, request_effect, request_part}
@@ -36,9 +39,6 @@ use Rattle.transfer.proofs.Points.{pending_room}
 module _ (n : TransferRequest) where
   abbrev pub in_range : Bool
   in_range = is_mirn n.mirn && is_user n.user && is_day n.proposed && is_flag n.nochange
-
-  pub range_read : {a b c d : Bool} → a ≡ is_mirn n.mirn → b ≡ is_user n.user → c ≡ is_day n.proposed → d ≡ is_flag n.nochange → (a && b && c && d) ≡ in_range
-  range_read p q r s = rw (p, q, r, s)
 
 module _ (n : TransferRequest) (holidays : List ℤ) where
   pub request_range : in_range n ≡ false → 2 ≡ least (request_early n holidays)
@@ -102,11 +102,22 @@ module _ (ed : Edition) (fits : Fits ed) (t : List ℤ) (g : ed ≡ edition_of t
       go true s = on_early ed fits t s (call s) r (sym is ∙ z)
 
   pub request_back : (r : ℕ) → SentBack ed t n.mirn e r
-      → (pos r ∷ pos 0 ∷ pos 0 ∷ [] ≡ (request_call editions t n holidays).0) × (t ≡ (request_call editions t n holidays).1) × (true ≡ refused (pos r ∷ pos 0 ∷ pos 0 ∷ []))
-  request_back = call_back ed fits t call (request_call editions t n holidays) whole e is
+      → (pos r ∷ pos 0 ∷ pos 0 ∷ [] ≡ (request_call editions t n holidays).0)
+      × (t ≡ (request_call editions t n holidays).1)
+  request_back r h = let b = call_back ed fits t call (request_call editions t n holidays) whole e is r h in (b.0, b.1)
 
-  pub request_done : {a b : ℕ} → PartFound ed t n.mirn e a b → (x : Numbers) (p : List ℤ) {c : Bool}
-      → (x ≡ (request_part user period_of (lent t a b)).0) × (p ≡ (request_part user period_of (lent t a b)).1) × (c ≡ refused x)
-      → (x ≡ (request_call editions t n holidays).0) × (back_in t a b p ≡ (request_call editions t n holidays).1) × (c ≡ refused x)
+  pub request_done : {a b : ℕ} → PartFound ed t n.mirn e a b → (x : Numbers) (p : List ℤ)
+      → (x ≡ (request_part user period_of (lent t a b)).0) × (p ≡ (request_part user period_of (lent t a b)).1)
+      → (x ≡ (request_call editions t n holidays).0) × (back_in t a b p ≡ (request_call editions t n holidays).1)
   unfolding request_part
-  request_done = call_done ed fits t call (request_call editions t n holidays) whole e is
+  request_done h x p d =
+      let f = call_done ed fits t call (request_call editions t n holidays) whole e is h x p (d.0, d.1, refl) in
+      (f.0, f.1)
+
+-- from an unsound table
+pub request_unsound : (t : List ℤ) (n : TransferRequest) (holidays : List ℤ) (e : Refusal) → Err e ≡ sound_edition t
+    → (pos (number_of e) ∷ pos 0 ∷ pos 0 ∷ [] ≡ (request_call editions t n holidays).0)
+    × (t ≡ (request_call editions t n holidays).1)
+unfolding request_call
+request_unsound t n holidays e h =
+    let w = not_sound t h in rw w.0 (gives (call_unsound 2 (request n holidays) (edition_of t) t w.1))

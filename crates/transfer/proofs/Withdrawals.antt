@@ -6,8 +6,10 @@ use mathlib.Core.List.{List, [], ◌∷◌}
 use Prim.Native.Nat.{ℕ, ◌≤◌}
 use borrow.Author.Tests.{not-false}
 use lib.IntN.{ℤ, pos}
+use Rattle.std.specs.Prelude.{Err}
+use Rattle.refusals.specs.declared.Refusal.{Refusal}
+use Rattle.refusals.specs.Refusals.{number_of}
 use Rattle.numbers.specs.Naturals.{nat_of}
-use Rattle.numbers.specs.Answers.{refused}
 use Rattle.numbers.proofs.Bools.{both}
 use Rattle.daybook.specs.declared.Edition.{Edition}
 use Rattle.daybook.specs.declared.Withdrawal.{Withdrawal}
@@ -22,7 +24,9 @@ use Rattle.layout.specs.Sound.{sound}
 use Rattle.layout.specs.Calls.{on_edition}
 use Rattle.layout.proofs.TableSound.{sound_lays}
 use Rattle.table.proofs.Laws.{lent, back_in}
-use Rattle.table.proofs.Locating.{PartFound, SentBack}
+use Rattle.table.specs.InnerTable.{sound_edition}
+use Rattle.table.proofs.Locating.{PartFound, SentBack, not_sound}
+use Rattle.table.proofs.Calls.{call_unsound, gives}
 use Rattle.table.proofs.OnPart.{CallOn, call_back, call_done}
 use Rattle.transfer.specs.Transfer.{withdraw_call}
 use Rattle.transfer.specs.InnerParts.{withdraw_rows_of, withdraw_effect, withdraw_part}
@@ -70,11 +74,19 @@ module _ (ed : Edition) (fits : Fits ed) (t : List ℤ) (g : ed ≡ edition_of t
       }
 
   pub withdraw_back : (r : ℕ) → SentBack ed t n.mirn e r
-      → (pos r ∷ [] ≡ (withdraw_call editions t n).0) × (t ≡ (withdraw_call editions t n).1) × (true ≡ refused (pos r ∷ []))
-  withdraw_back = call_back ed fits t call (withdraw_call editions t n) whole e is
+      → (pos r ∷ [] ≡ (withdraw_call editions t n).0) × (t ≡ (withdraw_call editions t n).1)
+  withdraw_back r h = let b = call_back ed fits t call (withdraw_call editions t n) whole e is r h in (b.0, b.1)
 
-  pub withdraw_done : {a b : ℕ} → PartFound ed t n.mirn e a b → (x : Numbers) (p : List ℤ) {c : Bool}
-      → (x ≡ (withdraw_part (nat_of n.user) (lent t a b)).0) × (p ≡ (withdraw_part (nat_of n.user) (lent t a b)).1) × (c ≡ refused x)
-      → (x ≡ (withdraw_call editions t n).0) × (back_in t a b p ≡ (withdraw_call editions t n).1) × (c ≡ refused x)
+  pub withdraw_done : {a b : ℕ} → PartFound ed t n.mirn e a b → (x : Numbers) (p : List ℤ)
+      → (x ≡ (withdraw_part (nat_of n.user) (lent t a b)).0) × (p ≡ (withdraw_part (nat_of n.user) (lent t a b)).1)
+      → (x ≡ (withdraw_call editions t n).0) × (back_in t a b p ≡ (withdraw_call editions t n).1)
   unfolding withdraw_part
-  withdraw_done = call_done ed fits t call (withdraw_call editions t n) whole e is
+  withdraw_done h x p d =
+      let f = call_done ed fits t call (withdraw_call editions t n) whole e is h x p (d.0, d.1, refl) in (f.0, f.1)
+
+-- from an unsound table
+pub withdraw_unsound : (t : List ℤ) (n : Withdrawal) (e : Refusal) → Err e ≡ sound_edition t
+    → (pos (number_of e) ∷ [] ≡ (withdraw_call editions t n).0) × (t ≡ (withdraw_call editions t n).1)
+unfolding withdraw_call
+withdraw_unsound t n e h =
+    let w = not_sound t h in rw w.0 (gives (call_unsound 0 (withdraw n) (edition_of t) t w.1))

@@ -2,12 +2,12 @@
 use mathlib.Core.Path.{◌≡◌, refl, sym, ◌∙◌, ap, ap₂}
 use mathlib.Core.Bool.{true, false, not, ◌&&◌}
 use mathlib.Core.List.{List, [], ◌∷◌, flatten}
-use Prim.Native.Nat.{ℕ, ◌*◌, ◌≤◌, ◌<◌}
+use Prim.Native.Nat.{ℕ, ◌*◌, ◌≤◌}
 use native.Mathlib.Omega.{arith}
 use lib.Dec.{leb}
 use lib.IntN.{ℤ, pos, negsuc}
 use lib.ListN.{length, replicate}
-use borrow.Author.Tests.{leb-true, le-leb, lt-leb}
+use borrow.Author.Tests.{leb-true, le-leb}
 use Rattle.numbers.specs.Naturals.{nat_of}
 use Rattle.numbers.proofs.Bools.{both}
 use Rattle.calendar.specs.Calendar.{within}
@@ -34,12 +34,6 @@ count_within (pos n) = ap (λ b. b && leb n 100) (le-leb 0 n (omega arith))
 count_within (negsuc n) = refl
 
 module _ (count : ℤ) (given room : ℕ) where
-  pub too_many_lem : 100 < nat_of count → batch_fits count given room ≡ false
-  too_many_lem h = rw (count_within count, lt-leb (nat_of count) 100 h) refl
-
-  pub fits_is : nat_of count ≤ 100 → (leb (6 * nat_of count) given && leb (5 * nat_of count) room) ≡ batch_fits count given room
-  fits_is h = rw (count_within count, le-leb (nat_of count) 100 h) refl
-
   pub fits_few : batch_fits count given room ≡ true → (nat_of count ≤ 100) × (6 * nat_of count ≤ given) × (5 * nat_of count ≤ room)
   fits_few e =
       let (l, h) = both (within (pos 0) (pos 100) count && leb (6 * nat_of count) given) (leb (5 * nat_of count) room) e in

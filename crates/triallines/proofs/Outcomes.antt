@@ -15,7 +15,7 @@ use Rattle.daybook.specs.FromNumbers.{num}
 use Rattle.daybook.specs.Editions.{editions}
 use Rattle.trial.specs.Trial.{trial_call}
 use Rattle.buffers.specs.Buffers.{with_numbers, table_in, numbers_held, written}
-use Rattle.printing.specs.Rows.{row_bytes, row_of, Printed}
+use Rattle.printing.specs.Rows.{row_bytes, row_of}
 use Rattle.lending.specs.Lending.{bytes_of}
 use Rattle.lending.proofs.Bytes.{in_zeros, filled_in_zeros}
 use Rattle.lines.specs.Lines.{size, Played}
@@ -46,13 +46,13 @@ module _ (xs : List ℤ) (t : Bool) (test : t ≡ tryable xs) where
   not_tried b lent z = rw (← test, not-true t z)
 
   -- its buffers are made in zeros, and its answers of numbers -7
-  pub trial_made : {out out' : List ℕ} {at r : ℕ} (b : List ℕ) (lent room : ℕ) (notices answers u answer : List ℕ) (result count : ℤ)
+  pub trial_made : {out out' : List ℕ} (b : List ℕ) (lent room : ℕ) (notices answers u answer : List ℕ) (result count : ℤ)
       → t ≡ true → room ≡ size xs 1 → count ≡ num xs 0
       → notices ≡ with_numbers (take (length xs - 2) (drop 2 xs)) (take (8 * length (take (length xs - 2) (drop 2 xs))) (replicate 4848 0))
       → answers ≡ with_numbers (replicate room (negsuc 6)) (take (8 * room) (replicate 4096 0))
       → (result, (u, answer)) ≡ written (trial_call editions (table_in (take (8 * lent - 0) b)) count (numbers_held notices) (length answers / 8)) answers blank
-      → r ≤ at + row_bytes → Printed out at (row_of (numbers_held answer ++ numbers_held u)) out' r
-      → Played (trial_line b lent xs) b out at b out' r
+      → length out' ≤ length out + row_bytes → out' ≡ out ++ (row_of (numbers_held answer ++ numbers_held u))
+      → Played (trial_line b lent xs) b out b out' true
   unfolding trial_line
   trial_made b lent room notices answers u answer result count z room_is count_is_lem notices-is answers-is made h w =
       let holds : Tried xs = tried xs t test z in
@@ -60,4 +60,4 @@ module _ (xs : List ℤ) (t : Bool) (test : t ≡ tryable xs) where
       let l : notices ≡ bytes_of (drop 2 xs) = rw (rest xs 2, in_zeros (drop 2 xs) 4848 few) at notices-is in
       let s : answers ≡ bytes_of (replicate (size xs 1) (negsuc 6)) = rw (← room_is) (answers-is ∙ filled_in_zeros room 4096 (negsuc 6) (omega arith)) in
       let m = rw (sub-zero (8 * lent), count_is_lem, l, s) at made in
-      rw (← test, z, ← m) (record { room = h; left = refl; text = w })
+      rw (← test, z, ← m) (record { room = h; left = refl; text = w; call = refl })

@@ -1,12 +1,13 @@
 // The line `trial` of a journal: it takes its numbers, tries a batch of notices on the bytes of the register's buffer
-// and writes its text at place `at` of the output. It answers the place after the text, or `at` where the line is no
-// call.
+// and prints its text. It answers whether it is a call; one that is none prints nothing.
 #![tactic(auto)]
 
 ghost use Rattle.std.specs.Prelude.{◌≡◌, ◌+◌, ◌≤◌, length};
 ghost use Rattle.printing.specs.Rows.{row_bytes};
 ghost use Rattle.lines.specs.Lines.{buffer_numbers, buffer_bytes, Played};
 ghost use Rattle.triallines.specs.TrialLines.{tryable as TrialLines·tryable, trial_line};
+
+use printing::Output;
 
 // The numbers of such a line, and those of the answers, at most.
 const MOST_NUMBERS: usize = 608;
@@ -29,12 +30,17 @@ fn tryable(nums: &[i64]) -> bool
 }
 
 // A trial on the first numbers of the register's buffer.
-pub fn answer(register: &[u8], lent: usize, nums: &[i64], out: &mut [u8], at: usize) -> usize
-    requires { (length register.now ≡ buffer_bytes) × (lent ≤ buffer_numbers) × (at + row_bytes ≤ length out.old) }
-    ensures { Played (trial_line register.now lent nums.now) register.now out.old at register.now out.new result }
+pub fn answer<const N: usize>(
+    register: &[u8],
+    lent: usize,
+    nums: &[i64],
+    out: &mut Output<N>,
+) -> bool
+    requires { (length register.now ≡ buffer_bytes) × (lent ≤ buffer_numbers) × (length out.old + row_bytes ≤ N) }
+    ensures { Played (trial_line register.now lent nums.now) register.now out.old register.now out.new result }
 {
     if !tryable(nums) {
-        return at;
+        return false;
     }
     let n = 8 * lent;
     let room = forms::natural(nums, 1) as usize;
@@ -44,5 +50,6 @@ pub fn answer(register: &[u8], lent: usize, nums: &[i64], out: &mut [u8], at: us
     let notices = lending::bytes_of(&nums[2..], &mut list);
     let answers = lending::filled(room, -7, &mut table);
     hub::petlumas_trial(&register[0..n], &mut answer, notices, answers, nums[0]);
-    lending::print_row(out, at, &answer, answers)
+    lending::print_row(out, &answer, answers);
+    true
 }

@@ -4,4 +4,3 @@ pub mod Words
 pub mod Tables
 pub mod Back
 mod Checks
-pub mod Signs

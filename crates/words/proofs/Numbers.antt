@@ -1,8 +1,10 @@
 -- Numbers of any width as bytes: what is written is read back, and the rest stays. Assumes nothing.
-use Rattle.std.proofs.Common.{◌≡◌, ℕ, zero, suc, ◌+◌, ◌*◌, ◌/◌, ◌%◌, ◌^◌, ◌<◌, ◌≤◌, ◌⊎◌, List, length, get_or, take, drop, set, sym, refl, ap, ◌∙◌, ap₂, inl, inr, ⊎_elim, add-zero, add_assoc, mod-eq_of_lt, mul_assoc, suc-add, pow-suc, zero-add, div-one, arith, lit<, length-set, get_or-set_other, get_or-set_same, drop-set-lt}
-use native.Mathlib.Nat.{pow-succ', one-le-pow, mod-one, div-div-eq-div-mul}
+use Rattle.std.proofs.Common.{◌≡◌, ℕ, zero, suc, ◌+◌, ◌-◌, ◌*◌, ◌/◌, ◌%◌, ◌^◌, ◌<◌, ◌≤◌, ◌⊎◌, List, [], ◌∷◌, ◌++◌, length, get_or, take, drop, set, sym, refl, ap, ◌∙◌, ap₂, inl, inr, ⊎_elim, add-zero, add-one, add_assoc, append_assoc, mod-eq_of_lt, mul_assoc, suc-add, pow-suc, zero-add, div-one, arith, lit<, length-set, get_or-set_other, get_or-set_same, drop-set-lt, w64}
+use Rattle.std.specs.Int.{byte_at, bytes_low_first, to_le_bytes, from_le_bytes}
+use Rattle.std.proofs.lemmas.List.{drop-drop, take-append-drop}
+use native.Mathlib.Nat.{pow-succ', one-le-pow, mod-one, mul-zero, div-div-eq-div-mul}
 use lib.Arith.{mod-mul}
-use lib.Seq.{take-set-le, set-get_or}
+use lib.Seq.{take-set-le, take-suc-set, set-get_or}
 use Rattle.words.specs.Words.{number_at, with_number}
 
 pub length_number : (b : List ℕ) (at w n : ℕ) → length (with_number b at w n) ≡ length b
@@ -100,18 +102,47 @@ number_again b at (suc w) f =
     let hi : n / 256 ≡ number_at b (at + 1) w = omega (arith, f at) in
     rw (lo, hi, set-get_or b at 0) (number_again b (at + 1) w f)
 
--- ---- four bytes written out, as the code has them
+-- ---- the eight bytes of a number, as std converts them
 
-pub number_four : (b : List ℕ) (at : ℕ) → number_at b at 4 ≡ get_or b at 0 + 256 * get_or b (at + 1) 0 + 65536 * get_or b (at + 2) 0 + 16777216 * get_or b (at + 3) 0
+number_none : (at w : ℕ) → number_at [] at w ≡ 0
 unfolding number_at
-number_four b at =
-    let e : at + 1 + 1 ≡ at + 2 = omega arith in
-    let f : at + 2 + 1 ≡ at + 3 = omega arith in
-    rw (e, f) (omega arith)
+number_none at zero = refl
+number_none at (suc w) = omega (arith, number_none (at + 1) w)
 
-pub with_four : (b : List ℕ) (at n : ℕ) → with_number b at 4 n ≡ set (set (set (set b at (n % 256)) (at + 1) (n / 256 % 256)) (at + 2) (n / 65536 % 256)) (at + 3) (n / 16777216 % 256)
+-- eight bytes, the first n read from b and the others 0
+pub eight_number : (b bytes : List ℕ) (at n : ℕ) → n ≤ 8 → ((k : ℕ) → k < n → get_or bytes k 0 ≡ get_or b (at + k) 0) → ((k : ℕ) → n ≤ k → get_or bytes k 0 ≡ 0)
+    → from_le_bytes w64 bytes ≡ number_at b at n
+unfolding number_at
+eight_number b bytes at n l front back =
+    let first : number_at bytes 0 n ≡ number_at b at n = number_alike bytes b 0 at n (λ k h. rw zero-add (front k h)) in
+    let rest : number_at bytes n (8 - n) ≡ 0 = number_alike bytes [] n 0 (8 - n) (λ k h. back (n + k) (omega arith)) ∙ number_none 0 (8 - n) in
+    let whole : n + (8 - n) ≡ 8 = omega arith in
+    let parts = rw (whole, zero-add n) at (number_add bytes 0 n (8 - n)) in
+    let eight : from_le_bytes w64 bytes ≡ number_at bytes 0 8 = omega arith in
+    eight ∙ parts ∙ rw (rest, first, mul-zero, add-zero)
+
+later_bytes : (i w n : ℕ) → bytes_low_first (suc i) w n ≡ bytes_low_first i w (n / 256)
+later_bytes i zero n = refl
+later_bytes zero (suc w) n = ap (λ (xs : List ℕ). n / 256 % 256 ∷ xs) (later_bytes 1 w n)
+later_bytes (suc i) (suc w) n = ap₂ (λ (x : ℕ) (xs : List ℕ). x % 256 ∷ xs) (sym (div-div-eq-div-mul n 256 (256 ^ suc i) ∙ ap (λ (x : ℕ). n / x) (sym (pow-succ' 256 (suc i))))) (later_bytes (suc (suc i)) w n)
+
+pub first_bytes : (i w k n : ℕ) → w ≤ k → take w (bytes_low_first i k n) ≡ bytes_low_first i w n
+first_bytes i zero k n h = refl
+first_bytes i (suc w) zero n h = absurd (omega arith)
+first_bytes i (suc w) (suc k) n h = ap (λ (xs : List ℕ). byte_at i n ∷ xs) (first_bytes (suc i) w k n (omega arith))
+
+number_bytes : (b : List ℕ) (at w n : ℕ) → at + w ≤ length b → with_number b at w n ≡ take at b ++ (bytes_low_first 0 w n ++ drop (at + w) b)
 unfolding with_number
-with_four b at n =
-    let e : at + 1 + 1 ≡ at + 2 = omega arith in
-    let f : at + 2 + 1 ≡ at + 3 = omega arith in
-    rw (e, f, div-div-eq-div-mul n 256 256, div-div-eq-div-mul n 65536 256)
+number_bytes b at zero n h = rw add-zero (sym (take-append-drop at b))
+number_bytes b at (suc w) n h =
+    let s = set b at (n % 256) in
+    let long : length s ≡ length b = length-set b at (n % 256) in
+    let e : at + 1 + w ≡ at + suc w = omega arith in
+    number_bytes s (at + 1) w (n / 256) (omega arith)
+    ∙ rw (e, add-one, take-suc-set b at (n % 256) (omega arith), drop-set-lt (at + suc w) b at (n % 256) (omega arith), later_bytes 0 w n, append_assoc)
+
+-- the w lowest bytes of eight, in the place of those that b has there
+pub number_eight : (b ys : List ℕ) (at w k n : ℕ) → w ≤ 8 → at + w ≤ length b → k ≡ w → ys ≡ take w (to_le_bytes w64 n)
+    → take at b ++ (ys ++ drop k (drop at b)) ≡ with_number b at w n
+number_eight b ys at w k n l h e p =
+    rw (p, first_bytes 0 w 8 n l, e, drop-drop) (sym (number_bytes b at w n h))

@@ -1,127 +1,73 @@
-// Little-endian words of 4 and 8 bytes, and check sums of words; a signed word is two's complement.
-// Every `requires` is about lengths alone: callers (the hub's functions) test the lengths first.
+// Little-endian numbers of at most 8 bytes, and check sums of words; a signed word is two's complement.
+// A `requires` is about lengths, which callers (the hub's functions) test first, and the size of a number.
 #![tactic(auto)]
 
 ghost use Rattle.std.specs.Prelude.{◌≡◌, ◌+◌, ◌*◌, ◌%◌, ◌^◌, ◌<◌, ◌≤◌, length};
-ghost use Rattle.std.specs.Int.{w64};
-ghost use mir.Val.{to_z, of_z};
+ghost use Rattle.std.specs.Iterator.{IsFinite};
+ghost use Rattle.std.specs.Iterator.Runs.{WholeRun};
 ghost use Rattle.words.specs.Words.{number_at, word_at, with_number, with_word, bits_of};
 ghost use Rattle.words.specs.Tables.{decoded_into, encoded_into};
-ghost use Rattle.words.specs.Sums.{sums_of};
+ghost use Rattle.words.specs.Sums.{sums_of, with_more};
 
-// A byte as a number.
-fn wide(x: u8) -> u64
-    ensures { (result ≡ x) × (result < 256) }
+// The number of the N bytes from at on.
+pub fn number<const N: usize>(b: &[u8], at: usize) -> u64
+    requires { (N ≤ 8) × (at + N ≤ length b.now) }
+    ensures { (result ≡ number_at b.now at N) × (result < 256 ^ N) }
 {
-    x as u64
-}
-
-// The lowest byte of n.
-fn low(n: u64) -> u8
-    ensures { result ≡ n % 256 }
-{
-    (n % 256) as u8
-}
-
-// n's bits as a signed number.
-fn signed(n: u64) -> i64
-    ensures { result ≡ to_z w64 n }
-{
-    if n < 0x8000_0000_0000_0000 {
-        n as i64
-    } else {
-        -1 - ((u64::MAX - n) as i64)
+    // Byte by byte: after copy_from_slice the back end keeps a test of overlap for each word of a table.
+    let mut bytes = [0; 8];
+    for (i, byte) in b[at..at + N].iter().enumerate() {
+        bytes[i] = *byte;
     }
-}
-
-// The bits of a signed number.
-pub fn bits(x: i64) -> u64
-    ensures { result ≡ of_z w64 x }
-{
-    if x >= 0 {
-        x as u64
-    } else {
-        u64::MAX - ((-1 - x) as u64)
-    }
-}
-
-// The number of the four bytes from at on.
-pub fn number4(b: &[u8], at: usize) -> u64
-    requires { at + 4 ≤ length b.now }
-    ensures { (result ≡ number_at b.now at 4) × (result < 2 ^ 32) }
-{
-    let first = wide(b[at]);
-    let second = wide(b[at + 1]);
-    let third = wide(b[at + 2]);
-    let fourth = wide(b[at + 3]);
-    first + 256 * second + 65536 * third + 16777216 * fourth
-}
-
-// The number of the eight bytes from at on.
-pub fn number8(b: &[u8], at: usize) -> u64
-    requires { at + 8 ≤ length b.now }
-    ensures { result ≡ number_at b.now at 8 }
-{
-    number4(b, at) + 4294967296 * number4(b, at + 4)
+    u64::from_le_bytes(bytes)
 }
 
 // The signed number of the eight bytes from at on.
+#[tactic(auto, unfolding(crate::specs::Words::word_at))]
 pub fn word(b: &[u8], at: usize) -> i64
     requires { at + 8 ≤ length b.now }
     ensures { result ≡ word_at b.now at }
 {
-    signed(number8(b, at))
+    number::<8>(b, at).cast_signed()
 }
 
-// Writes the four lowest bytes of n from at on.
-pub fn put_number4(b: &mut [u8], at: usize, n: u64)
-    requires { at + 4 ≤ length b.old }
-    ensures { b.new ≡ with_number b.old at 4 n }
+// Writes the N lowest bytes of n from at on.
+pub fn put_number<const N: usize>(b: &mut [u8], at: usize, n: u64)
+    requires { (N ≤ 8) × (at + N ≤ length b.old) }
+    ensures { b.new ≡ with_number b.old at N n }
 {
-    b[at] = low(n);
-    b[at + 1] = low(n / 256);
-    b[at + 2] = low(n / 65536);
-    b[at + 3] = low(n / 16777216);
-}
-
-// Writes the eight bytes of n from at on.
-pub fn put_number8(b: &mut [u8], at: usize, n: u64)
-    requires { at + 8 ≤ length b.old }
-    ensures { b.new ≡ with_number b.old at 8 n }
-{
-    put_number4(b, at, n);
-    put_number4(b, at + 4, n / 4294967296);
+    let bytes = n.to_le_bytes();
+    b[at..at + N].copy_from_slice(&bytes[..N]);
 }
 
 // Writes the eight bytes of x from at on.
+#[tactic(auto, unfolding(crate::specs::Words::with_word))]
 pub fn put_word(b: &mut [u8], at: usize, x: i64)
     requires { at + 8 ≤ length b.old }
     ensures { b.new ≡ with_word b.old at x }
 {
-    put_number8(b, at, bits(x));
+    put_number::<8>(b, at, x.cast_unsigned());
 }
 
 // The n words of b from byte at on into the places of t from to on.
+#[tactic(auto, using(crate::proofs::Tables::decoded_more), unfolding(crate::specs::Tables::decoded_into))]
 pub fn decode(b: &[u8], at: usize, t: &mut [i64], to: usize, n: usize)
     requires { (at + 8 * n ≤ length b.now) × (to + n ≤ length t.old) }
     ensures { t.new ≡ decoded_into t.old to b.now at n }
 {
-    let mut i = 0;
-    while i < n {
+    for i in 0..n {
         t[to + i] = word(b, at + 8 * i);
-        i += 1;
     }
 }
 
 // The n numbers of t from place from on into the words of b from byte at on.
+#[tactic(auto, using(crate::proofs::Tables::encoded_more), unfolding(crate::specs::Tables::encoded_into))]
 pub fn encode(t: &[i64], from: usize, b: &mut [u8], at: usize, n: usize)
     requires { (at + 8 * n ≤ length b.old) × (from + n ≤ length t.now) }
     ensures { b.new ≡ encoded_into b.old at t.now from n }
 {
-    let mut k = 0;
-    while k < n {
+    for k in 0..n {
         put_word(b, at + 8 * k, t[from + k]);
-        k += 1;
     }
 }
 
@@ -132,35 +78,38 @@ pub struct Checksum {
     pub s2: u64,
 }
 
-// The sums of a table's words.
+impl Checksum {
+    // With one word more.
+    fn with(self, word: u64) -> Checksum
+        ensures { result ≡ with_more self word }
+    {
+        let s1 = self.s1.wrapping_add(word);
+        Checksum {
+            s1,
+            s2: self.s2.wrapping_add(s1),
+        }
+    }
+
+    // The sums of an iterator's words.
+    pub fn of<I: Iterator<Item = u64>>(words: I) -> Checksum
+        requires can { I.can_next words }
+        requires ends { IsFinite (I.remaining words) }
+        ensures { WholeRun I.next_gives words (λ p. (result.s1 ≡ (sums_of p.items).0) × (result.s2 ≡ (sums_of p.items).1)) }
+    {
+        words.fold(Checksum { s1: 0, s2: 0 }, |sums, word| sums.with(word))
+    }
+}
+
+// The sums of a table's words. This and the next say what is summed, a line each.
 pub fn sums(t: &[i64]) -> Checksum
     ensures { (result.s1 ≡ (sums_of (bits_of t.now)).0) × (result.s2 ≡ (sums_of (bits_of t.now)).1) }
 {
-    let mut s1: u64 = 0;
-    let mut s2: u64 = 0;
-    let mut place = 0;
-    while place < t.len() {
-        s1 = std::num::wrapping_add_u64(s1, bits(t[place]));
-        s2 = std::num::wrapping_add_u64(s2, s1);
-        place += 1;
-    }
-    Checksum { s1, s2 }
+    Checksum::of(t.iter().map(|x| x.cast_unsigned()))
 }
 
 // The sums of bytes, each a word.
 pub fn byte_sums(b: &[u8]) -> Checksum
     ensures { (result.s1 ≡ (sums_of b.now).0) × (result.s2 ≡ (sums_of b.now).1) }
 {
-    let mut sum: u64 = 0;
-    let mut of_sums: u64 = 0;
-    let mut at = 0;
-    while at < b.len() {
-        sum = std::num::wrapping_add_u64(sum, wide(b[at]));
-        of_sums = std::num::wrapping_add_u64(of_sums, sum);
-        at += 1;
-    }
-    Checksum {
-        s1: sum,
-        s2: of_sums,
-    }
+    Checksum::of(b.iter().map(|x| u64::from(*x)))
 }

@@ -13,6 +13,7 @@ returns c =
       c.is_day-3.ensures,
       c.natural-a.ensures.0,
       c.natural-b.ensures.0,
+      c.is_quantity.ensures,
       c.load_ok.ensures,
       c.load_ok-2.ensures,
       to_z-of_z w64 n.gasday (search rules),

@@ -1,25 +1,14 @@
-use mathlib.Core.Path.{◌≡◌, sym, ◌∙◌}
-use Prim.Native.Nat.{◌+◌, ◌-◌}
-use native.Mathlib.Numerals.{add-one}
-use native.Mathlib.Omega.{arith}
-use Rattle.numbers.proofs.Search.{from_none, from_hit, from_miss}
+use Rattle.std.proofs.Common.{◌≡◌, rules, tests, true, false}
+use Rattle.std.specs.Prelude.{MatchOption, Some, None}
+use Rattle.std.proofs.lemmas.Iterator.{first_from_Range}
+use Rattle.calendar.specs.Calendar.{business_day}
+use Rattle.calendar.proofs.Business.{first_reached}
 use Rattle.calendar.proofs.first_after.Goals as goal
-
-pub loop-day-init : goal.loop-day-init
-loop-day-init c = (omega arith, rw add-one)
-
-pub returns-then-is_business_day : goal.returns-then-is_business_day
-returns-then-is_business_day c =
-    let hit = sym c.is_business_day.ensures ∙ c.if-is_business_day.true in
-    sym (from_hit _ (c.loop-day.day + 1) (39999 - c.loop-day.day) (omega arith) hit) ∙ c.loop-day.invariant.1
-
-pub loop-day-preserved : goal.loop-day-preserved
-loop-day-preserved c =
-    let miss = sym c.is_business_day.ensures ∙ c.if-is_business_day.false in
-    let e : 39999 - (c.loop-day.day + 1) ≡ 39999 - c.loop-day.day - 1 = omega arith in
-    (omega arith, rw e (sym (from_miss _ (c.loop-day.day + 1) (39999 - c.loop-day.day) (omega arith) miss) ∙ c.loop-day.invariant.1))
 
 pub returns : goal.returns
 returns c =
-    let e : 39999 - c.loop-day.day ≡ 0 = omega arith in
-    sym (from_none _ (c.loop-day.day + 1)) ∙ (rw e at c.loop-day.invariant.1)
+    let p = business_day c.args.hs.now in
+    let given : MatchOption c.find.result (c.map.result ≡ None) (λ i. c.map.result ≡ Some (record { 0 = i })) = search rules in
+    first_reached p c.args.d.0 c.find.result
+    (first_from_Range _ _ _ _ (λ k. p k ≡ true) (λ k. p k ≡ false) c.find.ensures.ran (λ x q k. search (rules, tests)) (λ x q k. search (rules, tests)))
+    c.map.result given c.requires

@@ -1,31 +1,26 @@
-use borrow.Author.Rules.{rules}
-use Prim.Native.Nat.{◌+◌, ◌<◌}
-use native.Mathlib.Omega.{arith}
-use mathlib.Core.Path.{◌≡◌, refl, sym, ap, ◌∙◌}
-use mathlib.Core.List.{[], ◌∷◌}
-use lib.ListN.{length, replicate}
-use Rattle.daybook.proofs.Arrays.{filled_front, filled_more, filled_all, naturals_back}
+use Rattle.std.proofs.Common.{◌≡◌, refl, sym, ap, ◌∙◌, ◌+◌, ◌<◌, length, get_or, arith, rules}
+use Rattle.std.specs.Prelude.{false, map, [], ◌∷◌}
+use lib.ListN.{length-map, get_or-map}
+use Rattle.words.specs.Words.{bits_of}
+use Rattle.daybook.specs.Calls.{correction_numbers}
+use mir.Val.{bool_byte}
+use Rattle.daybook.proofs.Arrays.{filled_more, filled_all, flags_back}
 use Rattle.daybook.proofs.correction_numbers.Goals as goal
-
-pub loop-k-init : goal.loop-k-init
-loop-k-init c = (search rules, refl, filled_front (_ ∷ []) c.args.a.flags (replicate 16 0))
 
 pub loop-k-preserved : goal.loop-k-preserved
 loop-k-preserved c =
     let l = c.loop-k in
-    let flags = c.args.a.flags in
-    let h : 1 + l.k < length l.numbers = search rules in (
-      search rules,
-      search rules,
-      filled_more (_ ∷ []) flags l.numbers l.k (1 + l.k) _ _ refl (omega arith) h
-          l.invariant.2 refl,
-    )
+    let flags = c.in-Ok.affected in
+    let b = c.from.ensures ∙ sym (get_or-map bool_byte flags l.k false) in
+    let h : 1 + l.k < length l.numbers = search rules in
+    (search rules, filled_more (_ ∷ []) (map bool_byte flags) l.numbers l.k (1 + l.k) _ _ refl (omega arith) h l.invariant.1 b)
 
-pub returns : goal.returns
-returns c =
+pub returns-after-loop-k : goal.returns-after-loop-k
+returns-after-loop-k c =
     let l = c.loop-k in
-    let a = c.args.a in
-    let k : 1 + l.k ≡ length l.numbers = omega arith in
-    let long : length a.flags ≡ 16 = search rules in
-    filled_all (_ ∷ []) a.flags l.numbers (omega (arith, long)) (rw k at l.invariant.2)
-    ∙ ap (λ m. a.refusal ∷ m) (sym (naturals_back a.flags))
+    let flags = c.in-Ok.affected in
+    let long : length flags ≡ 16 = search rules in
+    let k : 1 + l.k ≡ length l.numbers = search rules in
+    filled_all (_ ∷ []) (map bool_byte flags) l.numbers (omega (arith, long, k, length-map flags bool_byte)) (rw k at l.invariant.1)
+    ∙ ap (λ m. 0 ∷ m) (flags_back flags)
+    ∙ sym (ap (λ a. bits_of (correction_numbers a)) c.in-Ok.is)

@@ -1,19 +1,14 @@
-use Rattle.std.proofs.Common.{refl, sym, ◌∙◌, ap}
-use Rattle.table.proofs.Calls.{call_unsound, tells}
-use Rattle.energy.proofs.Call.{own_edition}
+use Rattle.std.proofs.Common.{◌≡◌, Err, ◌∙◌, ap, rules}
+use Rattle.energy.proofs.Call.{own_edition, energy_unsound}
 use Rattle.energy.proofs.energy.Goals as goal
 
-pub returns-then-not-sound : goal.returns-then-not-sound
-returns-then-not-sound c =
-    let t = c.args.t.now in
-    let unsound = sym c.sound.ensures ∙ c.if-not-sound.true in
-    tells (sym (own_edition _ t c.edition-ed.ensures.0 c.args.n) ∙ call_unsound 4 _ _ t unsound) refl
-
-pub enter_in_sound-requires : goal.enter_in_sound-requires
-enter_in_sound-requires c = (c.edition-ed.ensures.1, sym c.sound.ensures ∙ c.if-not-sound.false)
+pub returns-in_err-edition : goal.returns-in_err-edition
+returns-in_err-edition c =
+    let gone : c.from_residual.result ≡ Err c.in_err-edition.field-0.0 = search rules in
+    rw gone (energy_unsound c.args.t.now c.args.n _ c.in_err-edition.ensures.is)
 
 pub returns : goal.returns
 returns c =
-    let is = own_edition _ c.args.t.now c.edition-ed.ensures.0 c.args.n in
+    let is = own_edition _ c.args.t.now c.in_ok-edition.ensures.ok.1 c.args.n in
     let d = c.enter_in_sound.ensures in
-    (d.0 ∙ ap (λ w. w.0) is, d.1 ∙ ap (λ w. w.1) is, d.2)
+    (d.0 ∙ ap (λ w. w.0) is, d.1 ∙ ap (λ w. w.1) is)

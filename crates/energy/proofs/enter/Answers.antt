@@ -1,40 +1,34 @@
-use Rattle.numbers.proofs.Answers.{row_refuses}
-use mathlib.Core.Path.{refl}
-use native.Mathlib.Omega.{arith}
-use Rattle.energy.proofs.Entered.{refused, may, then_sound, corrected, entered}
+use Rattle.std.proofs.Common.{◌≡◌, Err, sym, rules}
+use Rattle.energy.proofs.Entered.{refused, may, then_sound, replaced, recut_lem, entered}
 use Rattle.energy.proofs.enter.Goals as goal
 
-pub returns-then-row-ne0 : goal.returns-then-row-ne0
-returns-then-row-ne0 c =
-    let s = c.before in
-    let w = refused s.requires.0 s.args.x s.requires.1 s.args.nondaily s.args.daily _ c.check-row.ensures c.if-row-ne0.true in
-    (w.0, w.1, row_refuses c.if-row-ne0.true)
+pub returns-in_err-check : goal.returns-in_err-check
+returns-in_err-check c =
+    let s = c.args in
+    let gone : c.from_residual.result ≡ Err c.in_err-check.field-0.0 = search rules in
+    rw gone (refused c.requires.0 s.x c.requires.1 s.nondaily s.daily _ c.in_err-check.ensures)
 
-pub enter_record-kept-requires : goal.enter_record-kept-requires
-enter_record-kept-requires c =
-    let s = c.before in
-    (s.requires.0, s.requires.1, may s.requires.0 s.args.x s.requires.1 s.args.nondaily s.args.daily _ c.check-row.ensures c.if-row-ne0.false)
+pub enter_record-requires : goal.enter_record-requires
+enter_record-requires c =
+    let s = c.args in
+    (c.requires.0, c.requires.1, may c.requires.0 s.x c.requires.1 s.nondaily s.daily (sym c.in_ok-check.ensures))
 
-pub returns-then-kept-ne1 : goal.returns-then-kept-ne1
-returns-then-kept-ne1 c =
-    let l = c.before in
-    let k = l.before in
-    let s = k.before in
-    let w = corrected s.requires.0 s.args.x s.requires.1 s.args.nondaily s.args.daily _ k.check-row.ensures l.if-row-ne0.false c.enter_record-kept.ensures (λ e. omega (arith, c.if-kept-ne1.true, e)) in
-    (w.0, w.1, refl)
+pub settle_request-requires : goal.settle_request-requires
+settle_request-requires c =
+    let s = c.args in
+    (then_sound c.requires.0 s.x c.requires.1 s.nondaily s.daily (sym c.in_ok-check.ensures) c.enter_record.ensures, c.requires.1)
 
-pub settle_request-settled-requires : goal.settle_request-settled-requires
-settle_request-settled-requires c =
-    let l = c.before in
-    let k = l.before in
-    let s = k.before in
-    (then_sound s.requires.0 s.args.x s.requires.1 s.args.nondaily s.args.daily _ k.check-row.ensures l.if-row-ne0.false c.enter_record-kept.ensures, s.requires.1)
+pub returns-in-Appended : goal.returns-in-Appended
+returns-in-Appended c =
+    let s = c.args in
+    entered c.requires.0 s.x c.requires.1 s.nondaily s.daily (sym c.in_ok-check.ensures) c.enter_record.ensures (sym c.in-Appended.is) _ c.settle_request.ensures
 
-pub returns : goal.returns
-returns c =
-    let r = c.before in
-    let l = r.before in
-    let k = l.before in
-    let s = k.before in
-    let w = entered s.requires.0 s.args.x s.requires.1 s.args.nondaily s.args.daily _ k.check-row.ensures l.if-row-ne0.false r.enter_record-kept.ensures c.if-kept-ne1.false _ c.settle_request-settled.ensures in
-    (w.0, w.1, refl)
+pub returns-in-Replaced : goal.returns-in-Replaced
+returns-in-Replaced c =
+    let s = c.args in
+    replaced c.requires.0 s.x c.requires.1 s.nondaily s.daily (sym c.in_ok-check.ensures) c.enter_record.ensures (sym c.in-Replaced.is)
+
+pub returns-in-Recut : goal.returns-in-Recut
+returns-in-Recut c =
+    let s = c.args in
+    recut_lem c.requires.0 s.x c.requires.1 s.nondaily s.daily (sym c.in_ok-check.ensures) c.enter_record.ensures (sym c.in-Recut.is)

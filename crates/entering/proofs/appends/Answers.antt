@@ -8,6 +8,6 @@ use Rattle.entering.proofs.appends.Goals as goal
 
 pub returns : goal.returns
 returns c =
-    let ok = c.requires in
-    let recs = (point_from c.args.p.now).recs in
+    let ok = c.args.part.now.is_sound in
+    let recs = (point_from c.args.part.now.numbers.now).recs in
     ap₂ eqb c.row_of.ensures.0 (c.records.ensures.0 ∙ place_recs (part_well ok) (part_laid ok)) ∙ appends_is recs c.args.start

@@ -10,11 +10,11 @@ use Rattle.hub.proofs.petlumas_account.Goals as goal
 pub reply-requires : goal.reply-requires
 reply-requires c =
     let f = c.ranges in
-    let numbers = c.account_numbers-numbers.ensures ∙ ap bits_of (rw (to_z-of_z f.user, to_z-of_z f.from, to_z-of_z f.to, c.table_in-table.ensures.0) at c.account-a.ensures.0) in
+    let numbers = c.account_numbers-numbers.ensures ∙ ap bits_of (rw (to_z-of_z f.user, to_z-of_z f.from, to_z-of_z f.to, c.table_in-table.ensures.0) at c.account-a.ensures) in
     (search rules, search rules, first_small _ _ numbers (account_small _ _))
 
 pub returns : goal.returns
 returns c =
     let f = c.ranges in
-    let numbers = c.account_numbers-numbers.ensures ∙ ap bits_of (rw (to_z-of_z f.user, to_z-of_z f.from, to_z-of_z f.to, c.table_in-table.ensures.0) at c.account-a.ensures.0) in
+    let numbers = c.account_numbers-numbers.ensures ∙ ap bits_of (rw (to_z-of_z f.user, to_z-of_z f.from, to_z-of_z f.to, c.table_in-table.ensures.0) at c.account-a.ensures) in
     ended_reply _ _ numbers (account_small _ _) _ (search rules) _ c.integer.ensures _ _ c.reply.ensures.0

@@ -10,11 +10,11 @@ use Rattle.hub.proofs.petlumas_date.Goals as goal
 pub reply-requires : goal.reply-requires
 reply-requires c =
     let f = c.ranges in
-    let numbers = c.date_numbers-numbers.ensures ∙ ap bits_of (rw (to_z-of_z f.year, to_z-of_z f.month, to_z-of_z f.day) at c.date-a.ensures.0) in
+    let numbers = c.date_numbers-numbers.ensures ∙ ap bits_of (rw (to_z-of_z f.year, to_z-of_z f.month, to_z-of_z f.day) at c.date-a.ensures) in
     (search rules, search rules, first_small _ _ numbers (date_small _ _ _))
 
 pub returns : goal.returns
 returns c =
     let f = c.ranges in
-    let numbers = c.date_numbers-numbers.ensures ∙ ap bits_of (rw (to_z-of_z f.year, to_z-of_z f.month, to_z-of_z f.day) at c.date-a.ensures.0) in
+    let numbers = c.date_numbers-numbers.ensures ∙ ap bits_of (rw (to_z-of_z f.year, to_z-of_z f.month, to_z-of_z f.day) at c.date-a.ensures) in
     ended_reply _ _ numbers (date_small _ _ _) _ (search rules) _ c.integer.ensures _ _ c.reply.ensures.0

@@ -5,5 +5,5 @@ use Rattle.images.proofs.block_intact.Goals as goal
 pub returns : goal.returns
 unfolding intact_at
 returns c =
-    ap₂ ◌&&◌ (ap₂ eqb c.number8.ensures c.check.ensures)
-    (ap (λ x. eqb x c.args.k) c.number4.ensures.0)
+    ap₂ ◌&&◌ (ap₂ eqb c.number.ensures.0 c.check.ensures)
+    (ap (λ x. eqb x c.args.k) c.number-2.ensures.0)

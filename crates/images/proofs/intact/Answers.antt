@@ -1,20 +1,12 @@
-use Rattle.std.proofs.Common.{sym, ◌∙◌, rules}
-use Rattle.numbers.proofs.Rows.{all_none, all_more, all_fails, all_done}
-use Rattle.images.specs.Blocks.{block_count, intact}
+use Rattle.std.proofs.Common.{◌≡◌, true, false, refl, rules}
+use Rattle.std.proofs.lemmas.Iterator.{cases_from_all, YieldsList-from_range}
+use Rattle.images.specs.Blocks.{intact_at, intact}
+use Rattle.images.proofs.Sums.{all_decided}
 use Rattle.images.proofs.intact.Goals as goal
-
-pub loop-k-init : goal.loop-k-init
-loop-k-init c = (search rules, all_none _)
-
-pub returns-then-not-block_intact : goal.returns-then-not-block_intact
-unfolding intact
-returns-then-not-block_intact c =
-    sym (all_fails _ c.loop-k.k block_count (search rules) (sym c.block_intact.ensures ∙ c.if-not-block_intact.true))
-
-pub loop-k-preserved : goal.loop-k-preserved
-loop-k-preserved c =
-    (search rules, all_more _ _ c.loop-k.invariant.1 (sym c.block_intact.ensures ∙ c.if-not-block_intact.false))
 
 pub returns : goal.returns
 unfolding intact
-returns c = all_done _ _ _ c.loop-k.invariant.1 (search rules)
+returns c =
+    let p = intact_at c.args.image.now in
+    all_decided p 124 c.all.result
+    (cases_from_all _ _ _ (λ k. p k ≡ true) (λ k. p k ≡ false) c.all.ensures.ran (YieldsList-from_range 0 124 124 refl refl) (λ x q k. search rules) (λ x q k. search rules))

@@ -1,20 +1,13 @@
-use Rattle.std.proofs.Common.{eqb, sym, ap, ◌∙◌, rules, eq-eqb, ne_eqb}
-use Rattle.numbers.proofs.Rows.{all_none, all_more, all_fails, all_done}
-use Rattle.images.specs.Blocks.{block_count, of_state}
+use Rattle.std.proofs.Common.{◌≡◌, Bool, ℕ, true, false, eqb, refl, rules}
+use Rattle.std.proofs.lemmas.Iterator.{cases_from_all, YieldsList-from_range}
+use Rattle.words.specs.Words.{number_at}
+use Rattle.images.specs.Blocks.{state_place, of_state}
+use Rattle.images.proofs.Sums.{all_decided}
 use Rattle.images.proofs.of_state.Goals as goal
-
-pub loop-k-init : goal.loop-k-init
-loop-k-init c = (search rules, all_none _)
-
-pub returns-then-number4-state : goal.returns-then-number4-state
-unfolding of_state
-returns-then-number4-state c =
-    sym (all_fails _ c.loop-k.k block_count (search rules) (ap (λ x. eqb x c.args.state) (sym c.number4.ensures.0) ∙ ne_eqb _ _ c.if-number4-state.true))
-
-pub loop-k-preserved : goal.loop-k-preserved
-loop-k-preserved c =
-    (search rules, all_more _ _ c.loop-k.invariant.1 (eq-eqb _ _ (sym c.number4.ensures.0 ∙ c.if-number4-state.false)))
 
 pub returns : goal.returns
 unfolding of_state
-returns c = all_done _ _ _ c.loop-k.invariant.1 (search rules)
+returns c =
+    let p : ℕ → Bool = λ k. eqb (number_at c.args.image.now (state_place k) 4) c.args.state in
+    all_decided p 124 c.all.result
+    (cases_from_all _ _ _ (λ k. p k ≡ true) (λ k. p k ≡ false) c.all.ensures.ran (YieldsList-from_range 0 124 124 refl refl) (λ x q k. search rules) (λ x q k. search rules))

@@ -3,4 +3,4 @@ use Rattle.images.proofs.put_block.Goals as goal
 
 pub returns : goal.returns
 returns c =
-    block_put _ _ _ _ _ _ _ _ _ c.encode.ensures c.put_number4.ensures c.put_number4-2.ensures c.check-sum.ensures c.put_number8.ensures
+    block_put _ _ _ _ _ _ _ _ _ c.encode.ensures c.put_number.ensures c.put_number-2.ensures c.check-sum.ensures c.put_number-3.ensures

@@ -1,43 +1,44 @@
-use Rattle.std.proofs.Common.{◌&&◌, leb, length, sym, refl, ap, ◌∙◌, leb-true}
+use Rattle.std.proofs.Common.{◌&&◌, leb, length, sym, ap, ap₂, ◌∙◌, leb-true}
+use Rattle.std.proofs.lemmas.Result.{err_from_is_err_and}
 use Rattle.numbers.proofs.Bools.{both}
 use Rattle.numbers.proofs.Naturals.{test_read, natural_read}
 use Rattle.daybook.specs.States.{is_state, image_length}
 use Rattle.daybook.specs.Editions.{editions}
 use Rattle.layout.specs.Sound.{sound}
-use Rattle.table.proofs.Laws.{sound_long}
-use Rattle.table.proofs.Calls.{gives, tells}
+use Rattle.table.proofs.Registers.{register_long, table_passes}
+use Rattle.table.proofs.Calls.{gives}
+use Rattle.table.proofs.Locating.{not_sound}
 use Rattle.images.specs.Blocks.{with_image}
 use Rattle.images.proofs.Calls.{save_unsound, save_out, save_entered}
 use Rattle.images.proofs.save.Goals as goal
 
-pub returns-then-not-sound : goal.returns-then-not-sound
-returns-then-not-sound c =
-    let sound_is = c.sound.ensures ∙ ap (λ ed. sound ed c.args.t.now) c.edition-ed.ensures.0 in
-    tells (save_unsound editions _ _ _ (sym sound_is ∙ c.if-not-sound.true)) refl
+pub returns-in_err-register : goal.returns-in_err-register
+returns-in_err-register c =
+    let p = err_from_is_err_and c.from_residual.result c.from_residual.ensures.1 in
+    let w = not_sound _ c.in_err-register.ensures.is in
+    rw (p.1, p.2, w.0) (gives (save_unsound editions _ _ _ w.1))
 
 pub returns-then-not-in_range : goal.returns-then-not-in_range
 returns-then-not-in_range c =
     let a = c.args in
-    let sound_is = c.sound.ensures ∙ ap (λ ed. sound ed a.t.now) c.edition-ed.ensures.0 in
+    let ed = table_passes c.in_ok-register.register c.in_ok-register.ensures.ok in
     let asked_is = c.in_range.ensures ∙ test_read a.state c.ranges.state (λ z. is_state z && leb image_length (length a.image.now)) in
-    tells (save_out editions _ _ _ (sym sound_is ∙ c.if-not-sound.false) (sym asked_is ∙ c.if-not-in_range.true)) refl
+    gives (save_out editions _ _ _ (ap (λ ed. sound ed a.t.now) (sym ed.1) ∙ ed.2) (sym asked_is ∙ c.if-not-in_range.true))
 
 pub put_blocks-requires : goal.put_blocks-requires
 put_blocks-requires c =
     let a = c.args in
-    let sound_is = c.sound.ensures ∙ ap (λ ed. sound ed a.t.now) c.edition-ed.ensures.0 in
     let asked_is = c.in_range.ensures ∙ test_read a.state c.ranges.state (λ z. is_state z && leb image_length (length a.image.now)) in (
-      (sound_long _ a.t.now (sym sound_is ∙ c.if-not-sound.false)).0,
+      register_long c.in_ok-register.register,
       leb-true image_length (length a.image.now) (both (is_state a.state) (leb image_length (length a.image.now)) (sym asked_is ∙ c.if-not-in_range.false)).1,
     )
 
 pub returns : goal.returns
 returns c =
     let a = c.args in
-    let sound_is = c.sound.ensures ∙ ap (λ ed. sound ed a.t.now) c.edition-ed.ensures.0 in
+    let ed = table_passes c.in_ok-register.register c.in_ok-register.ensures.ok in
     let asked_is = c.in_range.ensures ∙ test_read a.state c.ranges.state (λ z. is_state z && leb image_length (length a.image.now)) in
-    let w = gives (save_entered editions a.t.now a.state a.image.now (sym sound_is ∙ c.if-not-sound.false) (sym asked_is ∙ c.if-not-in_range.false)) in (
+    let w = gives (save_entered editions a.t.now a.state a.image.now (ap (λ ed. sound ed a.t.now) (sym ed.1) ∙ ed.2) (sym asked_is ∙ c.if-not-in_range.false)) in (
       w.0,
-      c.put_blocks.ensures ∙ ap (λ n. with_image n a.t.now a.image.now) (c.natural.ensures.0 ∙ natural_read a.state c.ranges.state) ∙ w.1,
-      refl,
+      c.put_blocks.ensures ∙ ap₂ (λ n t. with_image n t a.image.now) (c.natural.ensures.0 ∙ natural_read a.state c.ranges.state) c.in_ok-register.ensures.ok.0 ∙ w.1,
     )

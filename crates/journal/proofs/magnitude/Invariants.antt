@@ -1,11 +1,8 @@
-use mathlib.Core.Path.{◌≡◌}
-use Prim.Native.Nat.{◌-◌, ◌+◌, ◌^◌, ◌≤◌}
-use lib.ListN.{length, drop}
+use Rattle.std.proofs.Common.{◌≡◌, ◌<◌, ◌^◌, drop}
 use Rattle.journal.specs.Text.{digits_after, value_of_digits}
+use Rattle.journal.specs.InnerText.{fitting}
 use Rattle.journal.proofs.magnitude.Given as goal
 
-abbrev pub invariant-loop-i : goal.invariant-loop-i
-invariant-loop-i l = (l.i ≤ length l.s) × (l.n ≤ 2 ^ 63 + 1) × (digits_after l.n (drop l.i l.s) ≡ value_of_digits (drop l.at l.s))
-
-abbrev pub decreases-loop-i : goal.decreases-loop-i
-decreases-loop-i l = length l.s - l.i
+abbrev pub invariant-loop-b : goal.invariant-loop-b
+invariant-loop-b l =
+    (l.n < 2 ^ 64) × (fitting (digits_after l.n (drop l.b-index l.digits)) ≡ fitting (value_of_digits l.digits))

@@ -1,17 +1,11 @@
+use Rattle.std.proofs.Common.{refl}
+use lib.Chars.{codes}
 use Rattle.journal.specs.Names.{command_named}
+use Rattle.journal.proofs.Names.{same_bytes_no_text}
 use Rattle.journal.proofs.named.Goals as goal
 
-pub returns : goal.returns
+pub returns-in_default : goal.returns-in_default
 unfolding command_named
-returns c =
-    let queries = c.before in
-    let images = queries.before in
-    let trial = images.before in
-    let convert = trial.before in
-    let hub = convert.before in
-    let alen = hub.before in
-    let tlen = alen.before in
-    let poke = tlen.before in
-    let table = poke.before in
-    let look = table.before in
-    rw (c.transfer_or.ensures, c.notice_or.ensures, queries.query_or.ensures, images.image_or.ensures, trial.pick-c-8.ensures, convert.pick-c-7.ensures, hub.pick-c-6.ensures, alen.pick-c-5.ensures, tlen.pick-c-4.ensures, poke.pick-c-3.ensures, table.pick-c-2.ensures, look.pick-c.ensures)
+returns-in_default c =
+    let other = same_bytes_no_text c.args.w.now c.in_default.ensures.cases.0 in
+    rw (other (codes "correct") refl, other (codes "withdraw") refl, other (codes "request") refl, other (codes "status") refl, other (codes "energy") refl, other (codes "open") refl, other (codes "fresh") refl, other (codes "date") refl, other (codes "allocate") refl, other (codes "account") refl, other (codes "image") refl, other (codes "imgpoke") refl, other (codes "restore") refl, other (codes "save") refl, other (codes "trial") refl, other (codes "convert") refl, other (codes "hub") refl, other (codes "alen") refl, other (codes "tlen") refl, other (codes "poke") refl, other (codes "table") refl, other (codes "look") refl)

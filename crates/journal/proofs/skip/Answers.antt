@@ -1,20 +1,21 @@
-use mathlib.Core.Path.{◌∙◌}
-use native.Mathlib.Omega.{arith}
-use Rattle.journal.proofs.Text.{words_space}
-use borrow.Author.Rules.{rules}
+use Rattle.std.proofs.Common.{◌≡◌, ◌≢◌, rules, tests, drop, length, arith, ◌+◌, ◌∙◌}
+use Rattle.std.proofs.lemmas.Iterator.{IsFirst-from_position, YieldsList-from_slice}
+use Rattle.std.proofs.lemmas.Slice.{between_to_end}
+use lib.ListN.{length-drop}
+use Rattle.journal.proofs.Ends.{skipped}
 use Rattle.journal.proofs.skip.Goals as goal
 
-pub returns-then-line-i-ne32 : goal.returns-then-line-i-ne32
-returns-then-line-i-ne32 c =
-    let l = c.loop-i in
-    record { from = search rules; within = search rules; same_words = l.invariant.2; stops = λ h. c.if-line-i-ne32.true }
+pub returns-in-Some : goal.returns-in-Some
+returns-in-Some c =
+    let line = c.args.line.now in
+    let s = drop c.args.at line in
+    let h = IsFirst-from_position _ _ _ (λ b. b ≢ 32) (λ b. b ≡ 32) c.in-Some.ensures.ran (YieldsList-from_slice s (c.iter.ensures.rest ∙ between_to_end line c.args.at (length line) (omega arith))) (λ x q k. search (rules, tests)) (λ x q k. search (rules, tests)) in
+    skipped line c.args.at c.in-Some.n (omega (arith, h.0)) c.requires h.2 (λ _. h.1)
 
-pub loop-i-preserved : goal.loop-i-preserved
-loop-i-preserved c =
-    let l = c.loop-i in
-    (search rules, search rules, words_space c.args.line.now l.i c.loop-i-test.true c.if-line-i-ne32.false ∙ l.invariant.2)
-
-pub returns : goal.returns
-returns c =
-    let l = c.loop-i in
-    record { from = search rules; within = search rules; same_words = l.invariant.2; stops = λ h. absurd (omega arith) }
+pub returns-in-None : goal.returns-in-None
+returns-in-None c =
+    let line = c.args.line.now in
+    let s = drop c.args.at line in
+    let h = IsFirst-from_position _ _ _ (λ b. b ≢ 32) (λ b. b ≡ 32) c.in-None.ensures.ran (YieldsList-from_slice s (c.iter.ensures.rest ∙ between_to_end line c.args.at (length line) (omega arith))) (λ x q k. search (rules, tests)) (λ x q k. search (rules, tests)) in
+    let e : c.args.at + length s ≡ length line = omega (arith, length-drop c.args.at line) in
+    rw e at (skipped line c.args.at (length s) (omega arith) c.requires h (λ l. absurd (omega arith)))

@@ -1,66 +1,47 @@
-use mathlib.Core.Path.{sym, ap, ◌∙◌}
+use Rattle.std.proofs.Common.{◌≡◌, ◌<◌, ◌∙◌, sym, ap, drop, length, rules, tests, arith, to_z, of_z, w64}
+use Rattle.std.proofs.lemmas.Iterator.Consumers.{YieldsList-at, YieldsList-from_filter, YieldsList-turn, YieldsList-end}
+use Rattle.std.proofs.lemmas.Iterator.Splits.{YieldsList-from_slice_split}
+use Rattle.std.proofs.lemmas.Int.{to_z-of_z}
+use Rattle.std.proofs.lemmas.List.{length_push}
+use Rattle.std.proofs.lemmas.Slice.{between_to_end}
 use mathlib.Core.Option.{some}
-use Prim.Native.Nat.{◌<◌}
-use native.Mathlib.Omega.{arith}
-use lib.ListN.{length, length-set}
-use mir.Facts.{to_z-of_z}
-use mir.Syntax.{w64}
-use Rattle.journal.specs.Text.{value_of, numbers_of}
-use Rattle.journal.proofs.Text.{behind_nothing, word_moves, words_space, numbers_more, numbers_none, numbers_end}
-use borrow.Author.Rules.{rules}
+use lib.ListN.{length-set, length-drop}
+use Rattle.journal.specs.Text.{words_of}
+use Rattle.journal.proofs.Words.{is_space, holds_a_byte, word_at, words_end, words_few}
+use Rattle.journal.proofs.Line.{numbers_more, numbers_none, numbers_end}
 use Rattle.journal.proofs.take_numbers.Goals as goal
 
-pub loop-i-init : goal.loop-i-init
-loop-i-init c =
-    let s = c.skip-i.ensures in
-    (search rules, search rules, search rules, s.stops, behind_nothing _ ∙ ap numbers_of s.same_words)
+pub returns-in_err-nums : goal.returns-in_err-nums
+returns-in_err-nums c =
+    let l = c.loop-word in
+    let s = drop c.args.at c.args.line.now in
+    let t = YieldsList-turn (YieldsList-at c.into_iter-word-iterator.ensures.into_iter_gives (YieldsList-from_filter _ holds_a_byte (YieldsList-at c.filter-words.ensures.source (YieldsList-from_slice_split _ is_space s (c.split.ensures.rest ∙ between_to_end c.args.line.now c.args.at (length c.args.line.now) (omega arith)) c.split.ensures.done c.split.ensures.closure (λ x b q k. search (rules, tests)))) c.filter-words.ensures.closure (λ x b q k. search (rules, tests)))) l.yielded _ l.yielded_by _ _ c.in-Some.word c.in-Some.is c.next.ensures.steps in
+    let w = word_at s l.n _ l.invariant.0 c.in-Some.word.now t in
+    rw c.from_residual.ensures (sym (numbers_none (words_of s) l.nums l.n c.in-Some.word.now w c.in_err-nums.ensures) ∙ l.invariant.2, omega arith)
 
-pub returns-in_default : goal.returns-in_default
-returns-in_default c =
-    let after-word-end = c.before in
-    let l = after-word-end.loop-i in
-    let q = sym (sym (ap value_of c.in_default.is) ∙ c.number.ensures) in
-    (sym (numbers_none after-word-end.args.line.now l.i after-word-end.word_end-e.result after-word-end.loop-i-test.true (l.invariant.3 after-word-end.loop-i-test.true) after-word-end.word_end-e.ensures l.nums l.n q) ∙ l.invariant.4, search rules)
+pub bounds-nums-n : goal.bounds-nums-n
+bounds-nums-n c =
+    let l = c.loop-word in
+    let s = drop c.args.at c.args.line.now in
+    let t = YieldsList-turn (YieldsList-at c.into_iter-word-iterator.ensures.into_iter_gives (YieldsList-from_filter _ holds_a_byte (YieldsList-at c.filter-words.ensures.source (YieldsList-from_slice_split _ is_space s (c.split.ensures.rest ∙ between_to_end c.args.line.now c.args.at (length c.args.line.now) (omega arith)) c.split.ensures.done c.split.ensures.closure (λ x b q k. search (rules, tests)))) c.filter-words.ensures.closure (λ x b q k. search (rules, tests)))) l.yielded _ l.yielded_by _ _ c.in-Some.word c.in-Some.is c.next.ensures.steps in
+    let w = word_at s l.n _ l.invariant.0 c.in-Some.word.now t in
+    omega (arith, words_few s, length-drop c.args.at c.args.line.now)
 
-pub returns-then-e-line : goal.returns-then-e-line
-returns-then-e-line c =
-    let after-number = c.before in
-    let in-loop = after-number.before in
-    let l = in-loop.loop-i in
-    let line = in-loop.args.line.now in
-    let e = after-number.word_end-e in
-    let h = in-loop.loop-i-test.true in
-    let q = sym (sym (ap value_of c.in-Value.is) ∙ after-number.number.ensures) ∙ ap some (sym (to_z-of_z {w = w64} (search rules))) in
-    let m = word_moves line l.i e.result h (l.invariant.3 h) e.ensures in
-    let more = numbers_more line l.i e.result h (l.invariant.3 h) e.ensures l.nums l.n _ q (omega arith) in
-    (numbers_end line e.result _ (omega arith) ∙ sym more ∙ l.invariant.4, omega arith)
-
-pub loop-i-smaller : goal.loop-i-smaller
-loop-i-smaller c =
-    let after-number = c.before in
-    let in-loop = after-number.before in
-    let l = in-loop.loop-i in
-    let e = after-number.word_end-e in
-    let h = in-loop.loop-i-test.true in
-    let m = word_moves in-loop.args.line.now l.i e.result h (l.invariant.3 h) e.ensures in
-    omega arith
-
-pub loop-i-preserved : goal.loop-i-preserved
-loop-i-preserved c =
-    let after-number = c.before in
-    let in-loop = after-number.before in
-    let l = in-loop.loop-i in
-    let line = in-loop.args.line.now in
-    let e = after-number.word_end-e in
-    let h = in-loop.loop-i-test.true in
-    let q = sym (sym (ap value_of c.in-Value.is) ∙ after-number.number.ensures) ∙ ap some (sym (to_z-of_z {w = w64} (search rules))) in
-    let m = word_moves line l.i e.result h (l.invariant.3 h) e.ensures in
-    let more = numbers_more line l.i e.result h (l.invariant.3 h) e.ensures l.nums l.n _ q (omega arith) in
-    let k : e.result < length line = omega arith in
-    let rest = c.skip-i-in-loop-i.ensures.same_words ∙ words_space line e.result k (e.ensures.stops k) in
-    (search rules, omega arith, simp length-set (omega arith), c.skip-i-in-loop-i.ensures.stops, rw rest (sym more ∙ l.invariant.4))
+pub loop-word-preserved : goal.loop-word-preserved
+loop-word-preserved c =
+    let l = c.loop-word in
+    let s = drop c.args.at c.args.line.now in
+    let t = YieldsList-turn (YieldsList-at c.into_iter-word-iterator.ensures.into_iter_gives (YieldsList-from_filter _ holds_a_byte (YieldsList-at c.filter-words.ensures.source (YieldsList-from_slice_split _ is_space s (c.split.ensures.rest ∙ between_to_end c.args.line.now c.args.at (length c.args.line.now) (omega arith)) c.split.ensures.done c.split.ensures.closure (λ x b q k. search (rules, tests)))) c.filter-words.ensures.closure (λ x b q k. search (rules, tests)))) l.yielded _ l.yielded_by _ _ c.in-Some.word c.in-Some.is c.next.ensures.steps in
+    let w = word_at s l.n _ l.invariant.0 c.in-Some.word.now t in
+    let b : l.n < length l.nums = omega (arith, words_few s, length-drop c.args.at c.args.line.now) in
+    let x : some (to_z w64 (of_z w64 c.in_ok-nums.field-0)) ≡ some c.in_ok-nums.field-0 = ap some (to_z-of_z w64 _ (search rules)) in
+    let more = numbers_more (words_of s) l.nums l.n c.in-Some.word.now w (to_z w64 (of_z w64 c.in_ok-nums.field-0)) (x ∙ c.in_ok-nums.ensures) b in
+    (omega (arith, l.invariant.0, length_push l.yielded c.in-Some.word), omega (arith, length-set l.nums l.n (to_z w64 (of_z w64 c.in_ok-nums.field-0))), sym more ∙ l.invariant.2)
 
 pub returns : goal.returns
 returns c =
-    let l = c.loop-i in
-    (numbers_end c.args.line.now l.i _ c.loop-i-test.false ∙ l.invariant.4, omega arith)
+    let l = c.loop-word in
+    let s = drop c.args.at c.args.line.now in
+    let t = YieldsList-end (YieldsList-at c.into_iter-word-iterator.ensures.into_iter_gives (YieldsList-from_filter _ holds_a_byte (YieldsList-at c.filter-words.ensures.source (YieldsList-from_slice_split _ is_space s (c.split.ensures.rest ∙ between_to_end c.args.line.now c.args.at (length c.args.line.now) (omega arith)) c.split.ensures.done c.split.ensures.closure (λ x b q k. search (rules, tests)))) c.filter-words.ensures.closure (λ x b q k. search (rules, tests)))) l.yielded _ l.yielded_by _ _ c.in-None.is c.next.ensures.steps in
+    let e = words_end s l.n _ l.invariant.0 t.1 in
+    (numbers_end (words_of s) l.n _ (omega arith) ∙ l.invariant.2, omega (arith, words_few s, length-drop c.args.at c.args.line.now))

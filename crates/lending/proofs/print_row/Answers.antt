@@ -1,16 +1,14 @@
 use Prim.Native.Nat.{◌+◌, ◌/◌}
-use native.Mathlib.Nat.{sub-zero}
 use native.Mathlib.Omega.{arith}
-use lib.ListN.{length}
+use mathlib.Core.List.{map-id}
+use lib.ListN.{length, take}
 use Rattle.lending.proofs.Bytes.{both_read}
 use Rattle.lending.proofs.print_row.Goals as goal
 
-pub returns : goal.returns
-returns c =
-    let second = c.before in
-    let first = second.before in
-    let a = first.args in
+pub returns-clause-text : goal.returns-clause-text
+returns-clause-text g c =
+    let a = c.args in
     let n = length a.answer.now / 8 in
     let m = length a.table.now / 8 in
-    let p = c.signed_row in
-    (omega (arith, p.ensures.0), rw (sub-zero (n + m), both_read a.answer.now a.table.now _ _ _ n m (omega (arith, first.requires)) first.decode.ensures second.decode-2.ensures) at p.ensures.1)
+    let v = c.decode-2.new.t in
+    rw (map-id (take (n + m) v), both_read a.answer.now a.table.now _ _ v n m (omega (arith, c.requires)) c.decode.ensures c.decode-2.ensures) at c.row.ensures.text

@@ -9,13 +9,13 @@ use Rattle.lines.proofs.Conversions.{not_converted, converted}
 use Rattle.lines.proofs.convert.Goals as goal
 
 pub returns-then-not-convertible : goal.returns-then-not-convertible
-returns-then-not-convertible c =
+returns-then-not-convertible g c =
     let a = c.args in
-    nothing _ _ _ (not_converted a.nums.now c.convertible.result c.convertible.ensures a.register.now a.lent (ap not c.if-not-convertible.true))
+    nothing _ _ (not_converted a.nums.now c.convertible.result c.convertible.ensures a.register.now a.lent (ap not c.if-not-convertible.true))
 
 pub returns : goal.returns
-returns c =
+returns g c =
     let a = c.args in
     let call = c.petlumas_convert-result in
     let back = to_z-of_z {w = w64} {z = call.result} (search rules) in
-    converted a.nums.now c.convertible.result c.convertible.ensures a.register.now a.lent c.natural.result c.filled-second.result.now _ _ call.result c.if-not-convertible.false c.natural.ensures.0 c.filled-second.ensures.0 call.ensures (rw back at c.go_on.ensures) (omega (arith, c.signed_row.ensures.0)) (rw back at c.signed_row.ensures.1)
+    converted a.nums.now c.convertible.result c.convertible.ensures a.register.now a.lent c.natural.result c.filled-second.result.now _ _ call.result c.if-not-convertible.false c.natural.ensures.0 c.filled-second.ensures.0 call.ensures (rw back at c.go_on.ensures) (omega (arith, c.row.ensures.room)) (rw back at c.row.ensures.text)

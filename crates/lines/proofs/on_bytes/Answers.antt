@@ -11,13 +11,13 @@ use Rattle.lines.proofs.Calls.{showed_is, lent, not_lent, hub_made}
 use Rattle.lines.proofs.on_bytes.Goals as goal
 
 pub returns-then-not-lendable : goal.returns-then-not-lendable
-returns-then-not-lendable c =
+returns-then-not-lendable g c =
     let a = c.args in
     let f = c.form_of-f in
-    nothing _ _ _ (not_lent a.call a.nums.now f.result c.lendable.result f.ensures.is c.lendable.ensures a.register.now (ap not c.if-not-lendable.true))
+    nothing _ _ (not_lent a.call a.nums.now f.result c.lendable.result f.ensures.is c.lendable.ensures a.register.now (ap not c.if-not-lendable.true))
 
 pub returns : goal.returns
-returns c =
+returns g c =
     let a = c.args in
     let f = c.form_of-f in
     let lendable = c.if-not-lendable.false in
@@ -28,5 +28,5 @@ returns c =
     let h = lent f.result a.nums.now c.lendable.result c.lendable.ensures lendable in
     let answer_fits : m.result ≤ most_bytes = omega (arith, h.answer, m.ensures.0) in
     let table_fits : c.table_room-k.result ≤ most_bytes = omega (arith, h.table, k) in
-    let text = rw (to_z-of_z {w = w64} {z = c.invoke-result.result} (search rules)) at c.print_bytes.ensures.1 in
-    hub_made a.call a.nums.now f.result c.lendable.result f.ensures.is c.lendable.ensures a.register.now _ _ from.result n.result m.result c.table_room-k.result lendable from.ensures.0 n.ensures.0 m.ensures.0 answer_fits k table_fits refl refl (showed_is c.invoke-result.ensures c.print_bytes.ensures.0 f.result text)
+    let text = rw (to_z-of_z {w = w64} {z = c.invoke-result.result} (search rules)) at c.print_bytes.ensures.text in
+    hub_made a.call a.nums.now f.result c.lendable.result f.ensures.is c.lendable.ensures a.register.now _ _ from.result n.result m.result c.table_room-k.result lendable from.ensures.0 n.ensures.0 m.ensures.0 answer_fits k table_fits refl refl (showed_is c.invoke-result.ensures c.print_bytes.ensures.room f.result text)

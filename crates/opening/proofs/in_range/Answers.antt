@@ -1,26 +1,23 @@
-use mir.Syntax.{w64}
+use Rattle.std.proofs.Common.{rules, w64}
 use mir.ValLaws.{to_z-of_z}
-use borrow.Author.Rules.{sfits_of}
 use Rattle.opening.proofs.in_range.Goals as goal
 
 pub returns : goal.returns
 returns c =
-    let install = c.before in
-    let user = install.before in
-    let kind = user.before in
-    let mirn = kind.before in
-    let n = mirn.args.n in
-    let told = c.struct_told-10-1.given in
+    let n = c.args.n in
     rw (
-      mirn.is_mirn.ensures,
-      kind.is_flag.ensures,
-      user.is_user.ensures,
-      install.is_day.ensures,
-      to_z-of_z w64 n.mirn (sfits_of told.0.1),
-      to_z-of_z w64 n.kind (sfits_of told.1.0.1),
-      to_z-of_z w64 n.user (sfits_of told.1.1.0.1),
-      to_z-of_z w64 n.install (sfits_of told.1.1.1.0.1),
-      to_z-of_z w64 n.base (sfits_of told.1.1.1.1.0.1),
-      to_z-of_z w64 n.section (sfits_of told.1.1.1.1.1.0.1),
-      to_z-of_z w64 n.operator (sfits_of told.1.1.1.1.1.1.0.1),
+      c.is_mirn.ensures,
+      c.is_flag.ensures,
+      c.is_user.ensures,
+      c.is_day.ensures,
+      c.is_base.ensures,
+      c.is_section.ensures,
+      c.is_operator.ensures,
+      to_z-of_z w64 n.mirn (search rules),
+      to_z-of_z w64 n.kind (search rules),
+      to_z-of_z w64 n.user (search rules),
+      to_z-of_z w64 n.install (search rules),
+      to_z-of_z w64 n.base (search rules),
+      to_z-of_z w64 n.section (search rules),
+      to_z-of_z w64 n.operator (search rules),
     )

@@ -1,10 +1,7 @@
 use mathlib.Core.Path.{◌≡◌}
-use Prim.Native.Nat.{◌≤◌, ◌-◌}
+use Prim.Native.Nat.{◌-◌}
 use Rattle.point.specs.InnerTests.{passed, first_on}
 use Rattle.point.proofs.first_on.Given as goal
 
 abbrev pub invariant-loop-k : goal.invariant-loop-k
-invariant-loop-k l = (l.k ≤ l.m) × (passed l.p l.x l.k (l.m - l.k) ≡ first_on l.p l.m l.d)
-
-abbrev pub decreases-loop-k : goal.decreases-loop-k
-decreases-loop-k l = l.m - l.k
+invariant-loop-k l = passed l.p l.x l.k (l.m - l.k) ≡ first_on l.p l.m l.d

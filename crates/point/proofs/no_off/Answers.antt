@@ -5,7 +5,7 @@ use Rattle.point.specs.InnerTests.{no_off}
 use Rattle.point.proofs.no_off.Goals as goal
 
 pub loop-k-init : goal.loop-k-init
-loop-k-init c = (omega arith, all_none _)
+loop-k-init c = all_none _
 
 pub returns-then-not-b-off_day : goal.returns-then-not-b-off_day
 unfolding no_off
@@ -14,8 +14,8 @@ returns-then-not-b-off_day c =
 
 pub loop-k-preserved : goal.loop-k-preserved
 loop-k-preserved c =
-    (omega arith, all_more _ _ c.loop-k.invariant.1 (rw (c.on_day.ensures.0, c.off_day.ensures.0) at c.if-not-b-off_day.false))
+    all_more _ _ c.loop-k.invariant (rw (c.on_day.ensures.0, c.off_day.ensures.0) at c.if-not-b-off_day.false)
 
 pub returns : goal.returns
 unfolding no_off
-returns c = all_done _ _ _ c.loop-k.invariant.1 (omega arith)
+returns c = all_done _ _ _ c.loop-k.invariant (omega arith)

@@ -4,12 +4,12 @@ use Rattle.point.proofs.Loops.{zeros_none, zeros_more, zeros_end}
 use Rattle.point.proofs.zeros_in.Goals as goal
 
 pub loop-i-init : goal.loop-i-init
-loop-i-init c = (omega arith, omega arith, zeros_none _ _)
+loop-i-init c = (omega arith, zeros_none _ _)
 
 pub loop-i-preserved : goal.loop-i-preserved
 loop-i-preserved c =
     let l = c.loop-i in
-    (omega arith, omega arith, zeros_more _ _ l.i l.bits c.bits_at-bits.result l.invariant.0 l.invariant.2 c.bits_at-bits.ensures)
+    (omega arith, zeros_more _ _ l.i l.bits c.bits_at-bits.result (omega arith) l.invariant.1 c.bits_at-bits.ensures)
 
 pub returns : goal.returns
-returns c = c.loop-i.invariant.2 ∙ zeros_end _ _ c.loop-i.i _ (omega arith)
+returns c = c.loop-i.invariant.1 ∙ zeros_end _ _ c.loop-i.i _ (omega arith)

@@ -5,7 +5,4 @@ use Rattle.layout.specs.Sound.{zeros}
 use Rattle.point.proofs.zeros_in.Given as goal
 
 abbrev pub invariant-loop-i : goal.invariant-loop-i
-invariant-loop-i l = (l.a ≤ l.i) × (l.i - l.a ≤ l.b - l.a) × (eqb l.bits 0 ≡ zeros l.p l.a l.i)
-
-abbrev pub decreases-loop-i : goal.decreases-loop-i
-decreases-loop-i l = l.b - l.i
+invariant-loop-i l = (l.i - l.a ≤ l.b - l.a) × (eqb l.bits 0 ≡ zeros l.p l.a l.i)

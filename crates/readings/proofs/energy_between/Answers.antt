@@ -1,29 +1,31 @@
-use Prim.Native.Nat.{◌*◌}
-use mathlib.Core.Path.{◌≡◌, ap, ◌∙◌}
+use Rattle.std.proofs.Common.{rules, ◌*◌}
+use mathlib.Core.Path.{ap, ◌∙◌}
 use native.Mathlib.Omega.{arith}
 use Rattle.numbers.specs.Sums.{sum_from}
-use Rattle.numbers.proofs.Sums.{sum_none, sum_turn, sum_end}
 use Rattle.numbers.proofs.Integers.{raise}
+use Rattle.point.specs.InnerTests.{rec_row}
+use Rattle.readings.specs.InnerRecords.{part_between, partial_of}
+use Rattle.readings.proofs.Chains.{chain_sum, chain_fits}
 use Rattle.readings.proofs.Energy.{energy_by_rows}
-use borrow.Author.Rules.{rules}
 use Rattle.readings.proofs.energy_between.Goals as goal
 
-pub loop-k-init : goal.loop-k-init
-loop-k-init c = (omega arith, omega arith, sum_none _ 0)
+pub sum-sum-requires-clause-fits : goal.sum-sum-requires-clause-fits
+sum-sum-requires-clause-fits c =
+    chain_fits _ _ _ (λ k. part_between partial_of c.args.x c.args.y (rec_row c.args.part.now.numbers.now k)) 1000000 2000000 (λ k r q l h. search rules)
+    _ c.map.ensures.closure c.map.ensures.source (omega arith)
 
-pub loop-k-preserved : goal.loop-k-preserved
-loop-k-preserved c =
-    let l = c.loop-k in
-    (search rules, search rules, sum_turn _ 1000000 l.k l.sum _ l.invariant.2 c.record_energy-sum.ensures.0)
+pub overflow_add-result : goal.overflow_add-result
+overflow_add-result c =
+    let sum = chain_sum _ _ _ (λ k. part_between partial_of c.args.x c.args.y (rec_row c.args.part.now.numbers.now k)) 1000000 2000000 (λ k r q l h. search rules) _ c.map.ensures.closure c.map.ensures.source _ c.sum-sum.ensures.ran in
+    search rules
 
 pub returns : goal.returns
 returns c =
     let n = c.records-n.result in
-    let l = c.loop-k in
-    let e : l.k ≡ n = omega arith in (
-      raise l.sum (1000000 * n) 2000000000 (omega arith)
-          ∙ sum_end _ 1000000 l.k l.sum n l.invariant.2 e
+    let sum = chain_sum _ _ _ (λ k. part_between partial_of c.args.x c.args.y (rec_row c.args.part.now.numbers.now k)) 1000000 2000000 (λ k r q l h. search rules) _ c.map.ensures.closure c.map.ensures.source _ c.sum-sum.ensures.ran in (
+      raise c.sum-sum.result (1000000 * n) 2000000000 (omega arith)
+          ∙ sum.0
           ∙ ap (sum_from _ 0) c.records-n.ensures.0
-          ∙ energy_by_rows c.requires.0 c.args.x c.args.y c.requires.1,
-      omega arith,
+          ∙ energy_by_rows c.args.part.now.is_sound c.args.x c.args.y c.requires,
+      omega (arith, sum.1),
     )

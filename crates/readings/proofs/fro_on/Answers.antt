@@ -1,19 +1,14 @@
 use mathlib.Core.Path.{refl, ◌∙◌}
 use native.Mathlib.Omega.{arith}
-use Rattle.readings.proofs.Users.{user_more, user_end, fro_few}
-use borrow.Author.Rules.{rules}
+use Rattle.std.proofs.Common.{rules}
+use Rattle.std.proofs.lemmas.Iterator.{YieldsList-from_range}
+use Rattle.std.proofs.lemmas.Iterator.Consumers.{fold_from_yields_List}
+use Rattle.readings.proofs.Users.{user_then, user_fold, fro_few}
 use Rattle.readings.proofs.fro_on.Goals as goal
-
-pub loop-j-init : goal.loop-j-init
-loop-j-init c = (omega arith, refl)
-
-pub loop-j-preserved : goal.loop-j-preserved
-loop-j-preserved c =
-    let l = c.loop-j in
-    (search rules, user_more c.args.p.now c.args.g _ l.j l.user _ (omega arith) c.user_since-user.ensures ∙ l.invariant.1)
 
 pub returns : goal.returns
 returns c =
-    let l = c.loop-j in
-    let e = user_end c.args.p.now c.args.g _ l.j l.user (omega arith) c.registrations-n.ensures.0 l.invariant.1 in
-    (e, omega (arith, e, fro_few c.requires c.args.g))
+    let user =
+    fold_from_yields_List _ (user_then c.args.part.now.numbers.now c.args.g) 0 _ c.fold.ensures.ran (YieldsList-from_range 0 c.registrations.result c.registrations.result refl (omega arith)) (λ u j r q k. search rules)
+    ∙ user_fold c.args.part.now.numbers.now c.args.g _ c.registrations.ensures.0 in
+    (user, omega (arith, user, fro_few c.args.part.now.is_sound c.args.g))

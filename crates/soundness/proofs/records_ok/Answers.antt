@@ -16,7 +16,7 @@ unfolding recs_ok
 loop-k-init c =
     let s = c.args in
     let z : s.n - 0 ≡ s.n = omega arith in
-    (omega arith, rw (z, c.install-day.ensures.0), rw (c.off_from-off.ensures, c.install-day.ensures.0) (awaits_first s.p.now s.m c.requires.3 c.requires.2))
+    (rw (z, c.install-day.ensures.0), rw (c.off_from-off.ensures, c.install-day.ensures.0) (awaits_first s.p.now s.m c.requires.3 c.requires.2))
 
 -- by either way the cursor stands on the first day that is not off
 pub record_ok-requires : goal.record_ok-requires
@@ -28,9 +28,9 @@ record_ok-requires c =
       | then-off-day w ↦
           rw
           (w.day-is, w.j-is, w.off-is, w.off_from-off-then-off-day.ensures, w.on_day-day.ensures.0, add-one l.j)
-          (found_on s.p.now s.m c.requires.3 l.day l.j l.off l.invariant.2 w.if-off-day.true)
+          (found_on s.p.now s.m c.requires.3 l.day l.j l.off l.invariant.1 w.if-off-day.true)
       | else-off-day w ↦
-          rw (w.day-is, w.j-is, w.off-is) (found_here s.p.now s.m c.requires.3 l.day l.j l.off l.invariant.2 w.if-off-day.false)
+          rw (w.day-is, w.j-is, w.off-is) (found_here s.p.now s.m c.requires.3 l.day l.j l.off l.invariant.1 w.if-off-day.false)
     ]
     in
     (search rules, omega (arith, found.small))
@@ -45,15 +45,15 @@ returns-then-not-record_ok c =
       | then-off-day w ↦
           rw
           (w.day-is, w.j-is, w.off-is, w.off_from-off-then-off-day.ensures, w.on_day-day.ensures.0, add-one l.j)
-          (found_on s.p.now s.m c.requires.3 l.day l.j l.off l.invariant.2 w.if-off-day.true)
+          (found_on s.p.now s.m c.requires.3 l.day l.j l.off l.invariant.1 w.if-off-day.true)
       | else-off-day w ↦
-          rw (w.day-is, w.j-is, w.off-is) (found_here s.p.now s.m c.requires.3 l.day l.j l.off l.invariant.2 w.if-off-day.false)
+          rw (w.day-is, w.j-is, w.off-is) (found_here s.p.now s.m c.requires.3 l.day l.j l.off l.invariant.1 w.if-off-day.false)
     ]
     in
     let tested : rec_at s.p.now s.m l.day l.k ≡ c.record_ok.result =
     found_test s.p.now s.m c.requires.3 _ _ _ _ l.k found ∙ sym (rw c.kind-kind.ensures.0 at c.record_ok.ensures)
     in
-    sym (rows_fail _ _ _ l.k _ (omega arith) (tested ∙ c.if-not-record_ok.true)) ∙ l.invariant.1
+    sym (rows_fail _ _ _ l.k _ (omega arith) (tested ∙ c.if-not-record_ok.true)) ∙ l.invariant.0
 
 -- its end, read once more
 pub overflow_add-day : goal.overflow_add-day
@@ -76,9 +76,9 @@ loop-k-preserved c =
       | then-off-day w ↦
           rw
           (w.day-is, w.j-is, w.off-is, w.off_from-off-then-off-day.ensures, w.on_day-day.ensures.0, add-one l.j)
-          (found_on s.p.now s.m c.requires.3 l.day l.j l.off l.invariant.2 w.if-off-day.true)
+          (found_on s.p.now s.m c.requires.3 l.day l.j l.off l.invariant.1 w.if-off-day.true)
       | else-off-day w ↦
-          rw (w.day-is, w.j-is, w.off-is) (found_here s.p.now s.m c.requires.3 l.day l.j l.off l.invariant.2 w.if-off-day.false)
+          rw (w.day-is, w.j-is, w.off-is) (found_here s.p.now s.m c.requires.3 l.day l.j l.off l.invariant.1 w.if-off-day.false)
     ]
     in
     let tested : rec_at s.p.now s.m l.day l.k ≡ c.record_ok.result =
@@ -90,10 +90,9 @@ loop-k-preserved c =
     let r = passes _ _ _ _ _ passed in
     let end : c.bits_at-day.result ≡ rec_end s.p.now l.k = c.bits_at-day.ensures.same (omega (arith, r.end)) in
     let e : c.bits_at-day.result + 1 ≡ suc (rec_end s.p.now l.k) = add-one c.bits_at-day.result ∙ ap suc end in (
-      omega arith,
-      sym (rows_pass _ _ _ l.k _ _ (omega arith) (tested ∙ c.if-not-record_ok.false) e) ∙ l.invariant.1,
+      sym (rows_pass _ _ _ l.k _ _ (omega arith) (tested ∙ c.if-not-record_ok.false) e) ∙ l.invariant.0,
       rw e (found_leaves s.p.now s.m c.requires.3 _ _ _ _ _ _ found passed),
     )
 
 pub returns : goal.returns
-returns c = sym (rows_end _ _ _ c.loop-k.k _ (omega arith)) ∙ c.loop-k.invariant.1
+returns c = sym (rows_end _ _ _ c.loop-k.k _ (omega arith)) ∙ c.loop-k.invariant.0

@@ -1,17 +1,12 @@
 use mathlib.Core.Path.{sym, ◌∙◌}
 use mathlib.Core.Bool.{and-true, and-false}
 use Rattle.soundness.specs.InnerPart.{rows_ok}
-use borrow.Author.Rules.{rules}
 use Rattle.soundness.proofs.rows_ok.Goals as goal
 
 pub returns-then-not-spans_ok : goal.returns-then-not-spans_ok
 unfolding rows_ok
 returns-then-not-spans_ok c =
     rw (rw c.spans-spans.ensures.0 at (sym c.spans_ok.ensures ∙ c.if-not-spans_ok.true), and-false _)
-
-pub records_ok-requires : goal.records_ok-requires
-records_ok-requires c =
-    (search rules, search rules, search rules, sym c.spans_ok.ensures ∙ c.if-not-spans_ok.false)
 
 pub returns : goal.returns
 unfolding rows_ok

@@ -1,10 +1,7 @@
 use mathlib.Core.Path.{◌≡◌}
-use Prim.Native.Nat.{◌≤◌, ◌-◌}
+use Prim.Native.Nat.{◌-◌}
 use Rattle.point.specs.InnerTests.{rows, span_ok_at, span_leaves, spans_ok}
 use Rattle.soundness.proofs.spans_ok.Given as goal
 
 abbrev pub invariant-loop-k : goal.invariant-loop-k
-invariant-loop-k l = (l.k ≤ l.n) × (rows (span_ok_at l.p) (span_leaves l.p) l.lo l.k (l.n - l.k) ≡ spans_ok l.p l.n)
-
-abbrev pub decreases-loop-k : goal.decreases-loop-k
-decreases-loop-k l = l.n - l.k
+invariant-loop-k l = rows (span_ok_at l.p) (span_leaves l.p) l.lo l.k (l.n - l.k) ≡ spans_ok l.p l.n

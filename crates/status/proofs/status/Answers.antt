@@ -1,49 +1,48 @@
-use Rattle.std.proofs.Common.{◌≡◌, sym, ◌∙◌, arith, rules}
-use borrow.Author.Rules.{sfits_of}
+use Rattle.std.proofs.Common.{◌≡◌, refl, sym, arith, rules}
+use Rattle.std.proofs.lemmas.Result.{err_from_is_err_and}
 use Rattle.numbers.specs.Naturals.{nat_of}
-use Rattle.numbers.proofs.Naturals.{natural_read}
-use Rattle.table.proofs.Locating.{told_part, told_row, in_table}
+use Rattle.table.proofs.Locating.{back_numbers, back_unknown, part_found}
 use Rattle.table.proofs.OnPart.{lent_sound}
-use Rattle.status.proofs.Call.{status_bounds, status_back, status_done}
+use Rattle.table.proofs.Registers.{table_passes, located_in}
+use Rattle.status.proofs.Call.{status_read, status_unsound, status_back, status_done}
 use Rattle.status.proofs.status.Goals as goal
 
-pub returns-in-Refused : goal.returns-in-Refused
-returns-in-Refused c =
-    let d = c.edition-ed.ensures in
-    status_back _ d.1 c.args.t.now d.0 c.args.n _ c.own_row.ensures _ (told_row (sfits_of c.struct_told-3-1.given.0.1) c.locate.ensures c.in-Refused.is)
+pub returns-in_err-register : goal.returns-in_err-register
+returns-in_err-register c =
+    let p = err_from_is_err_and c.from_residual.result c.from_residual.ensures.1 in
+    rw (p.1, p.2) (status_unsound c.args.t.now c.args.n _ c.in_err-register.ensures.is)
 
-pub offset_bounds-t-from : goal.offset_bounds-t-from
-offset_bounds-t-from c =
-    let h = in_table c.edition-ed.ensures.1 (told_part {m = c.args.n.mirn} {early = c.own_row.result} (sfits_of c.struct_told-3-1.given.0.1) c.locate.ensures c.in-At.is) in search rules
+pub returns-in_err-own_row : goal.returns-in_err-own_row
+returns-in_err-own_row c =
+    let ed = table_passes c.in_ok-register.register c.in_ok-register.ensures.ok in
+    let exit = c.from_residual-in_err-own_row in
+    let p = err_from_is_err_and exit.result exit.ensures.1 in
+    let back = back_numbers _ ed.2 c.in_err-own_row.ensures in
+    rw (p.1, p.2) (status_back _ ed.0 _ ed.1 c.args.n _ refl _ back)
 
-pub slice_bounds-enter-count : goal.slice_bounds-enter-count
-slice_bounds-enter-count c =
-    let h = in_table c.edition-ed.ensures.1 (told_part {m = c.args.n.mirn} {early = c.own_row.result} (sfits_of c.struct_told-3-1.given.0.1) c.locate.ensures c.in-At.is) in search rules
-
-pub slice_bounds-enter-start : goal.slice_bounds-enter-start
-slice_bounds-enter-start c =
-    let h = in_table c.edition-ed.ensures.1 (told_part {m = c.args.n.mirn} {early = c.own_row.result} (sfits_of c.struct_told-3-1.given.0.1) c.locate.ensures c.in-At.is) in search rules
-
-pub slice_bounds-enter-end : goal.slice_bounds-enter-end
-slice_bounds-enter-end c =
-    let h = in_table c.edition-ed.ensures.1 (told_part {m = c.args.n.mirn} {early = c.own_row.result} (sfits_of c.struct_told-3-1.given.0.1) c.locate.ensures c.in-At.is) in search rules
+pub returns-in_err-place : goal.returns-in_err-place
+returns-in_err-place c =
+    let ed = table_passes c.in_ok-register.register c.in_ok-register.ensures.ok in
+    let exit = c.from_residual-in_err-place in
+    let p = err_from_is_err_and exit.result exit.ensures.1 in
+    let passed = sym c.in_ok-own_row.ensures in
+    let back = back_unknown _ _ _ (search rules) ed.2 passed (located_in c.in_ok-register.register c.in_ok-register.ensures.ok _ c.in_err-place.ensures.is) in
+    rw (p.1, p.2) (status_back _ ed.0 _ ed.1 c.args.n _ refl _ back)
 
 pub enter-requires : goal.enter-requires
 enter-requires c =
     let n = c.args.n in
-    let told = c.struct_told-3-1.given in
-    let h = told_part {m = c.args.n.mirn} {early = c.own_row.result} (sfits_of c.struct_told-3-1.given.0.1) c.locate.ensures c.in-At.is in
-    let b = status_bounds n (sym c.own_row.ensures ∙ h.passed) in
-    let day : c.natural-d.result ≡ nat_of n.day = c.natural-d.ensures.0 ∙ natural_read n.day (sfits_of told.1.0.1) in
-    let on : c.natural-o.result ≡ nat_of n.on = c.natural-o.ensures.0 ∙ natural_read n.on (sfits_of told.1.1.0.1) in
-    (lent_sound c.edition-ed.ensures.1 h, omega (arith, b.0), omega (arith, b.1))
+    let ed = table_passes c.in_ok-register.register c.in_ok-register.ensures.ok in
+    let passed = sym c.in_ok-own_row.ensures in
+    let h = part_found _ _ n.mirn (search rules) ed.2 passed (located_in c.in_ok-register.register c.in_ok-register.ensures.ok _ c.in_ok-place.ensures.is) in
+    let day : c.natural.result ≡ nat_of n.day = search rules in
+    (lent_sound ed.0 h, omega (arith, (status_read n passed).0))
 
-pub returns-in-At : goal.returns-in-At
-returns-in-At c =
+pub returns : goal.returns
+returns c =
     let n = c.args.n in
-    let told = c.struct_told-3-1.given in
-    let d = c.edition-ed.ensures in
-    let h = told_part {m = c.args.n.mirn} {early = c.own_row.result} (sfits_of c.struct_told-3-1.given.0.1) c.locate.ensures c.in-At.is in
-    let day : c.natural-d.result ≡ nat_of n.day = c.natural-d.ensures.0 ∙ natural_read n.day (sfits_of told.1.0.1) in
-    let on : c.natural-o.result ≡ nat_of n.on = c.natural-o.ensures.0 ∙ natural_read n.on (sfits_of told.1.1.0.1) in
-    status_done _ d.1 c.args.t.now d.0 n _ c.own_row.ensures h _ _ (rw (day, on) at c.enter.ensures)
+    let ed = table_passes c.in_ok-register.register c.in_ok-register.ensures.ok in
+    let passed = sym c.in_ok-own_row.ensures in
+    let h = part_found _ _ n.mirn (search rules) ed.2 passed (located_in c.in_ok-register.register c.in_ok-register.ensures.ok _ c.in_ok-place.ensures.is) in
+    let day : c.natural.result ≡ nat_of n.day = search rules in
+    status_done _ ed.0 c.args.t.now ed.1 n _ refl h _ _ (rw (day, (status_read n passed).1) at c.enter.ensures)

@@ -1,4 +1,4 @@
-use Prim.Native.Nat.{suc, ◌≤◌, ◌-◌}
+use Prim.Native.Nat.{suc, ◌-◌}
 use mathlib.Core.Path.{◌≡◌}
 use mathlib.Core.Bool.{true}
 use Rattle.numbers.specs.Rows.{all}
@@ -7,7 +7,4 @@ use Rattle.table.proofs.Laws.{differ_at}
 use Rattle.table.proofs.later_differ.Given as goal
 
 abbrev pub invariant-loop-j : goal.invariant-loop-j
-invariant-loop-j l = (l.j ≤ l.m) × (l.m ≡ l.n - suc l.i) × (l.own ≡ num_at l.t (place_of l.ed l.i)) × (all (differ_at l.ed l.t l.i) l.j ≡ true)
-
-abbrev pub decreases-loop-j : goal.decreases-loop-j
-decreases-loop-j l = l.m - l.j
+invariant-loop-j l = (l.own ≡ num_at l.t (place_of l.ed l.i)) × (all (differ_at l.ed l.t l.i) (l.j - suc l.i) ≡ true)

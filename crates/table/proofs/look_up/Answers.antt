@@ -1,42 +1,23 @@
-use Prim.Native.Nat.{◌≤◌}
-use lib.ListN.{length}
-use borrow.Author.Rules.{rules}
-use Rattle.layout.specs.Layout.{table_length}
-use Rattle.table.proofs.Locating.{told_part, told_row, in_table, looked_up, nothing_found}
+use Rattle.std.proofs.Common.{refl, ap, ◌∙◌}
+use Rattle.daybook.specs.Editions.{editions}
+use Rattle.table.specs.Lookup.{look_up}
+use Rattle.table.proofs.Locating.{nothing_sound, nothing_known, part_found, looked_up}
+use Rattle.table.proofs.Registers.{own_edition}
 use Rattle.table.proofs.look_up.Goals as goal
 
 pub returns-in_default : goal.returns-in_default
-returns-in_default c =
-    nothing_found c.edition-ed.ensures.0 (told_row c.ranges.m c.locate.ensures c.in_default.is)
+returns-in_default c = nothing_sound _ _ c.in_default.ensures.is
 
-pub offset_bounds-t-from : goal.offset_bounds-t-from
-offset_bounds-t-from c =
-    let h : (c.in-At.from ≤ c.in-At.to) × (c.in-At.to ≤ table_length) × (table_length ≤ length c.args.t.now) =
-    in_table c.edition-ed.ensures.1 (told_part c.ranges.m c.locate.ensures c.in-At.is)
-    in
-    search rules
-
-pub slice_bounds-result-count-2 : goal.slice_bounds-result-count-2
-slice_bounds-result-count-2 c =
-    let h : (c.in-At.from ≤ c.in-At.to) × (c.in-At.to ≤ table_length) × (table_length ≤ length c.args.t.now) =
-    in_table c.edition-ed.ensures.1 (told_part c.ranges.m c.locate.ensures c.in-At.is)
-    in
-    search rules
-
-pub slice_bounds-result-start-2 : goal.slice_bounds-result-start-2
-slice_bounds-result-start-2 c =
-    let h : (c.in-At.from ≤ c.in-At.to) × (c.in-At.to ≤ table_length) × (table_length ≤ length c.args.t.now) =
-    in_table c.edition-ed.ensures.1 (told_part c.ranges.m c.locate.ensures c.in-At.is)
-    in
-    search rules
-
-pub slice_bounds-result-end-2 : goal.slice_bounds-result-end-2
-slice_bounds-result-end-2 c =
-    let h : (c.in-At.from ≤ c.in-At.to) × (c.in-At.to ≤ table_length) × (table_length ≤ length c.args.t.now) =
-    in_table c.edition-ed.ensures.1 (told_part c.ranges.m c.locate.ensures c.in-At.is)
-    in
-    search rules
+pub returns-in_default-locate : goal.returns-in_default-locate
+returns-in_default-locate c =
+    let r = c.in-Ok.register in
+    let ok = c.in-Ok.ensures.ok in
+    nothing_known _ _ _ c.ranges.m (own_edition r ok) r.is_sound c.in_default-locate.ensures.is
+    ∙ ap (λ t. look_up editions t c.args.m) ok.0
 
 pub returns : goal.returns
 returns c =
-    looked_up c.edition-ed.ensures.1 (told_part c.ranges.m c.locate.ensures c.in-At.is) c.edition-ed.ensures.0
+    let r = c.in-Ok.register in
+    let ok = c.in-Ok.ensures.ok in
+    looked_up r.fits (part_found _ _ _ c.ranges.m r.is_sound refl c.in-Ok-locate.ensures.is) (own_edition r ok)
+    ∙ ap (λ t. look_up editions t c.args.m) ok.0

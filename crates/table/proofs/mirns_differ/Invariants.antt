@@ -1,4 +1,3 @@
-use Prim.Native.Nat.{◌≤◌, ◌-◌}
 use mathlib.Core.Path.{◌≡◌}
 use mathlib.Core.Bool.{true}
 use Rattle.numbers.specs.Rows.{all}
@@ -6,7 +5,4 @@ use Rattle.layout.specs.InnerMirns.{later_differ}
 use Rattle.table.proofs.mirns_differ.Given as goal
 
 abbrev pub invariant-loop-i : goal.invariant-loop-i
-invariant-loop-i l = (l.i ≤ l.n) × (all (later_differ l.ed l.t l.n) l.i ≡ true)
-
-abbrev pub decreases-loop-i : goal.decreases-loop-i
-decreases-loop-i l = l.n - l.i
+invariant-loop-i l = all (later_differ l.ed l.t l.n) l.i ≡ true

@@ -1,4 +1,3 @@
-use Prim.Native.Nat.{◌≤◌, ◌-◌}
 use mathlib.Core.Path.{◌≡◌}
 use mathlib.Core.Bool.{true}
 use Rattle.numbers.specs.Rows.{all}
@@ -7,7 +6,4 @@ use Rattle.layout.specs.Sound.{part_sound}
 use Rattle.table.proofs.parts_sound.Given as goal
 
 abbrev pub invariant-loop-i : goal.invariant-loop-i
-invariant-loop-i l = (l.i ≤ l.n) × (all (λ k. part_sound (part_of l.ed l.t k)) l.i ≡ true)
-
-abbrev pub decreases-loop-i : goal.decreases-loop-i
-decreases-loop-i l = l.n - l.i
+invariant-loop-i l = all (λ k. part_sound (part_of l.ed l.t k)) l.i ≡ true

@@ -1,50 +1,51 @@
-use Rattle.std.proofs.Common.{◌≡◌, sym, ◌∙◌, arith, rules}
-use borrow.Author.Rules.{sfits_of}
+use Rattle.std.proofs.Common.{◌≡◌, refl, sym, arith, rules}
+use Rattle.std.proofs.lemmas.Result.{err_from_is_err_and}
 use Rattle.numbers.specs.Naturals.{nat_of}
-use Rattle.numbers.proofs.Naturals.{natural_read}
-use Rattle.table.proofs.Locating.{told_part, told_row, in_table}
+use Rattle.table.proofs.Locating.{back_numbers, back_unknown, part_found}
 use Rattle.table.proofs.OnPart.{lent_sound}
-use Rattle.transfer.proofs.Requests.{request_bounds, request_back, request_done}
+use Rattle.table.proofs.Registers.{table_passes, located_in}
+use Rattle.transfer.proofs.Requests.{request_bounds, request_unsound, request_back, request_done}
 use Rattle.transfer.proofs.request.Goals as goal
 
-pub returns-in-Refused : goal.returns-in-Refused
-returns-in-Refused c =
-    let d = c.edition-ed.ensures in
-    request_back _ d.1 c.args.t.now d.0 c.args.n c.args.holidays.now _ c.request_row.ensures _ (told_row (sfits_of c.struct_told-4-1.given.0.1) c.locate.ensures c.in-Refused.is)
+pub returns-in_err-register : goal.returns-in_err-register
+returns-in_err-register c =
+    let p = err_from_is_err_and c.from_residual.result c.from_residual.ensures.1 in
+    rw (p.1, p.2) (request_unsound c.args.t.now c.args.n c.args.holidays.now _ c.in_err-register.ensures.is)
 
-pub offset_bounds-t-from : goal.offset_bounds-t-from
-offset_bounds-t-from c =
-    let h = in_table c.edition-ed.ensures.1 (told_part {m = c.args.n.mirn} {early = c.request_row.result} (sfits_of c.struct_told-4-1.given.0.1) c.locate.ensures c.in-At.is) in search rules
+pub returns-in_err-request_row : goal.returns-in_err-request_row
+returns-in_err-request_row c =
+    let ed = table_passes c.in_ok-register.register c.in_ok-register.ensures.ok in
+    let exit = c.from_residual-in_err-request_row in
+    let p = err_from_is_err_and exit.result exit.ensures.1 in
+    let back = back_numbers _ ed.2 c.in_err-request_row.ensures in
+    rw (p.1, p.2) (request_back _ ed.0 _ ed.1 c.args.n c.args.holidays.now _ refl _ back)
 
-pub slice_bounds-request_at-count : goal.slice_bounds-request_at-count
-slice_bounds-request_at-count c =
-    let h = in_table c.edition-ed.ensures.1 (told_part {m = c.args.n.mirn} {early = c.request_row.result} (sfits_of c.struct_told-4-1.given.0.1) c.locate.ensures c.in-At.is) in search rules
-
-pub slice_bounds-request_at-start : goal.slice_bounds-request_at-start
-slice_bounds-request_at-start c =
-    let h = in_table c.edition-ed.ensures.1 (told_part {m = c.args.n.mirn} {early = c.request_row.result} (sfits_of c.struct_told-4-1.given.0.1) c.locate.ensures c.in-At.is) in search rules
-
-pub slice_bounds-request_at-end : goal.slice_bounds-request_at-end
-slice_bounds-request_at-end c =
-    let h = in_table c.edition-ed.ensures.1 (told_part {m = c.args.n.mirn} {early = c.request_row.result} (sfits_of c.struct_told-4-1.given.0.1) c.locate.ensures c.in-At.is) in search rules
+pub returns-in_err-place : goal.returns-in_err-place
+returns-in_err-place c =
+    let ed = table_passes c.in_ok-register.register c.in_ok-register.ensures.ok in
+    let exit = c.from_residual-in_err-place in
+    let p = err_from_is_err_and exit.result exit.ensures.1 in
+    let passed = sym c.in_ok-request_row.ensures in
+    let back = back_unknown _ _ _ (search rules) ed.2 passed (located_in c.in_ok-register.register c.in_ok-register.ensures.ok _ c.in_err-place.ensures.is) in
+    rw (p.1, p.2) (request_back _ ed.0 _ ed.1 c.args.n c.args.holidays.now _ refl _ back)
 
 pub request_at-requires : goal.request_at-requires
 request_at-requires c =
     let n = c.args.n in
-    let told = c.struct_told-4-1.given in
-    let user : c.natural-u.result ≡ nat_of n.user = c.natural-u.ensures.0 ∙ natural_read n.user (sfits_of told.1.0.1) in
-    let proposed : c.natural.result ≡ nat_of n.proposed = c.natural.ensures.0 ∙ natural_read n.proposed (sfits_of told.1.1.0.1) in
-    let h = told_part {m = c.args.n.mirn} {early = c.request_row.result} (sfits_of c.struct_told-4-1.given.0.1) c.locate.ensures c.in-At.is in
-    let b = request_bounds n c.args.holidays.now (sym c.request_row.ensures ∙ h.passed) in
-    (lent_sound c.edition-ed.ensures.1 h, omega (arith, b.0), omega (arith, b.1))
+    let ed = table_passes c.in_ok-register.register c.in_ok-register.ensures.ok in
+    let passed = sym c.in_ok-request_row.ensures in
+    let h = part_found _ _ n.mirn (search rules) ed.2 passed (located_in c.in_ok-register.register c.in_ok-register.ensures.ok _ c.in_ok-place.ensures.is) in
+    let b = request_bounds n c.args.holidays.now passed in
+    let user : c.natural-user.result ≡ nat_of n.user = search rules in
+    let proposed : c.natural.result ≡ nat_of n.proposed = search rules in
+    (lent_sound ed.0 h, omega (arith, b.0), omega (arith, b.1))
 
-pub returns-in-At : goal.returns-in-At
-returns-in-At c =
+pub returns : goal.returns
+returns c =
     let n = c.args.n in
-    let told = c.struct_told-4-1.given in
-    let user : c.natural-u.result ≡ nat_of n.user = c.natural-u.ensures.0 ∙ natural_read n.user (sfits_of told.1.0.1) in
-    let proposed : c.natural.result ≡ nat_of n.proposed = c.natural.ensures.0 ∙ natural_read n.proposed (sfits_of told.1.1.0.1) in
-    let nochange : c.natural-flag.result ≡ nat_of n.nochange = c.natural-flag.ensures.0 ∙ natural_read n.nochange (sfits_of told.1.1.1.0.1) in
-    let d = c.edition-ed.ensures in
-    let h = told_part {m = c.args.n.mirn} {early = c.request_row.result} (sfits_of c.struct_told-4-1.given.0.1) c.locate.ensures c.in-At.is in
-    request_done _ d.1 c.args.t.now d.0 n c.args.holidays.now _ c.request_row.ensures h _ _ (rw (user, proposed, nochange) at c.request_at.ensures)
+    let ed = table_passes c.in_ok-register.register c.in_ok-register.ensures.ok in
+    let h = part_found _ _ n.mirn (search rules) ed.2 (sym c.in_ok-request_row.ensures) (located_in c.in_ok-register.register c.in_ok-register.ensures.ok _ c.in_ok-place.ensures.is) in
+    let user : c.natural-user.result ≡ nat_of n.user = search rules in
+    let proposed : c.natural.result ≡ nat_of n.proposed = search rules in
+    let nochange : c.natural-nochange.result ≡ nat_of n.nochange = search rules in
+    request_done _ ed.0 c.args.t.now ed.1 n c.args.holidays.now _ refl h _ _ (rw (user, proposed, nochange) at c.request_at.ensures)

@@ -1,26 +1,14 @@
-use mathlib.Core.Path.{sym, ◌∙◌, ap, subst}
-use native.Mathlib.Omega.{arith}
+use Rattle.std.proofs.Common.{◌≡◌, ◌∙◌, pos, ℕ, ◌<◌, get_or, rules, w64}
+use Rattle.std.specs.Int.{cast_signed}
 use Rattle.daybook.specs.Calls.{energy_numbers}
-use Rattle.daybook.specs.Trials.{removed_in}
-use Rattle.trial.specs.InnerTrial.{SmallNumbers}
+use Rattle.trial.proofs.Tried.{five_numbers, numbers_back, removed_back}
 use Rattle.trial.proofs.put_answer.Goals as goal
 
-pub put_five-requires : goal.put_five-requires
-put_five-requires c =
-    let small = subst (λ a. SmallNumbers (energy_numbers a)) c.in-Entered.is c.requires.1 in
-    (c.requires.0, omega arith, omega (arith, small 1), omega (arith, small 2), omega (arith, small 3), omega (arith, small 4))
-
-pub put_five-requires-in-Refused : goal.put_five-requires-in-Refused
-put_five-requires-in-Refused c =
-    let small = subst (λ a. SmallNumbers (energy_numbers a)) c.in-Refused.is c.requires.1 in
-    (c.requires.0, omega (arith, small 0), omega arith, omega arith, omega arith, omega arith)
-
-pub returns-in-Entered : goal.returns-in-Entered
-returns-in-Entered c =
-    let is = c.in-Entered.is in
-    (c.put_five.ensures ∙ sym (ap energy_numbers is), sym (ap (λ a. removed_in (energy_numbers a)) is))
-
-pub returns-in-Refused : goal.returns-in-Refused
-returns-in-Refused c =
-    let is = c.in-Refused.is in
-    (c.put_five-in-Refused.ensures ∙ sym (ap energy_numbers is), sym (ap (λ a. removed_in (energy_numbers a)) is))
+pub returns : goal.returns
+returns c =
+    let xs = energy_numbers c.args.a in
+    let five = five_numbers c.args.a in
+    let read : (i : ℕ) → i < 5 → get_or c.map.result i (pos 0) ≡ cast_signed w64 (get_or c.energy_numbers-numbers.result i 0) =
+    λ i h. let (p, q, z) = c.map.ensures.items.at i 0 (pos 0) h in search rules in
+    let each = rw c.energy_numbers-numbers.ensures at read in
+    (c.copy_from_slice.ensures.after ∙ numbers_back xs _ c.requires.1 five c.map.ensures.items.long each, rw c.energy_numbers-numbers.ensures (removed_back xs c.requires.1 five))

@@ -1,12 +1,7 @@
-use Rattle.std.proofs.Common.{◌≡◌, ◌-◌, ◌≤◌, length}
 use Rattle.layout.specs.Layout.{table_book}
 use Rattle.trial.proofs.Batch.{SoFar}
 use Rattle.trial.proofs.try_all.Given as goal
 
 abbrev pub invariant-loop-k : goal.invariant-loop-k
 invariant-loop-k l =
-    (l.k ≤ l.count) × (length l.t ≡ length l.fn.t) × (length l.answers ≡ length l.fn.answers)
-    × SoFar l.ed l.count l.notices (table_book l.ed l.fn.t) l.fn.answers l.k l.t l.answers l.most l.removed
-
-abbrev pub decreases-loop-k : goal.decreases-loop-k
-decreases-loop-k l = l.count - l.k
+    SoFar l.ed l.count l.notices (table_book l.ed l.fn.t) l.fn.answers l.k l.t l.answers l.most l.removed

@@ -1,8 +1,0 @@
-use mathlib.Core.Path.{sym, ◌∙◌}
-use Rattle.journal.proofs.pick.Goals as goal
-
-pub returns-then-same : goal.returns-then-same
-returns-then-same c = rw (sym c.same.ensures ∙ c.if-same.true)
-
-pub returns : goal.returns
-returns c = rw (sym c.same.ensures ∙ c.if-same.false)

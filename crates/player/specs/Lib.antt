@@ -1,2 +1,0 @@
--- Where a player stands between two bytes.
-pub mod InnerReady
