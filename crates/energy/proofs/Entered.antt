@@ -1,11 +1,14 @@
 -- A notice that its point does not send back: the entry and, after an append, the request are the lists' one step.
 -- Assumes nothing.
 use mathlib.Core.Path.{◌≡◌, refl, sym, ◌∙◌, ap, subst}
-use mathlib.Core.Option.{none}
+use mathlib.Core.Bool.{Bool, true, false, cond}
+use mathlib.Core.Option.{Option, none, some}
 use mathlib.Core.List.{List, [], ◌∷◌, map}
 use Prim.Native.Nat.{ℕ, zero, suc}
 use native.Mathlib.Omega.{arith}
+use lib.Dec.{ltb}
 use lib.IntN.{ℤ, pos}
+use borrow.Author.Tests.{le-leb}
 use Rattle.std.specs.Prelude.{Ok, Err}
 use Rattle.refusals.specs.declared.Refusal.{Refusal}
 use Rattle.refusals.specs.Refusals.{number_of}
@@ -13,12 +16,12 @@ use Rattle.refusals.proofs.Numbers.{number_within}
 use Rattle.daybook.specs.declared.Settlement.{Settlement}
 use Rattle.daybook.specs.declared.EnergyEntry.TheVariants.{Append, Replacement}
 use Rattle.daybook.specs.declared.EnergyEntry.TheVariants as EnergyEntry·
-use Rattle.daybook.specs.Book.{Entry}
-use Rattle.daybook.specs.Notices.{Row, least, Which, append, replacement, recut, which_number, later_starts, removed, Outcome, registers, lapses, stays, outcome_of, outcome_numbers, entry_of, energy_early}
+use Rattle.daybook.specs.Book.{Entry, Pending}
+use Rattle.daybook.specs.Notices.{Row, least, Which, append, replacement, recut, which_number, later_starts, removed, Outcome, registers, lapses, stays, outcome_of, append_registers, outcome_numbers, entry_of, energy_early}
 use Rattle.daybook.specs.Calls.{energy_numbers}
 use Rattle.lists.specs.Lists.{Lists}
 use Rattle.lists.specs.InnerSteps.{latest_of, which_in, append_day_of, with_pending_lists, entered_lists, enter_lists, energy_lists_rows}
-use Rattle.lists.specs.InnerWell.{nopending, Well, MayEnter}
+use Rattle.lists.specs.InnerWell.{PendingOk, nopending, pending, Well, MayEnter}
 use Rattle.lists.proofs.Rows.{above, least_append_none}
 use Rattle.lists.proofs.EnergyStep.{energy_clear, enter_keeps}
 use Rattle.layout.specs.Layout.{point_numbers, point_from}
@@ -33,6 +36,7 @@ use Rattle.entering.specs.declared.RaisedNotice.{RaisedNotice}
 use Rattle.entering.specs.declared.Kept.{Kept}
 use Rattle.entering.specs.declared.Kept.TheVariants.{Appended, Replaced, Recut}
 use Rattle.entering.specs.InnerEntering.{notice_of, entry_from, InRange, recorded, kept_of, Recorded, outcome_at, settled_lists, settlement_of, SettledTo}
+use Rattle.energy.specs.Energy.{user_named}
 use Rattle.energy.specs.InnerParts.{register_with, edition_with, energy_rows_of, energy_part}
 use Rattle.energy.proofs.Raised.{in_range_clear}
 
@@ -99,6 +103,25 @@ settled_numbers : (o : Outcome) → energy_numbers (Ok (Append (settlement_of o)
 settled_numbers (registers u) = refl
 settled_numbers lapses = refl
 settled_numbers stays = refl
+
+-- a User that is registered had a request pending
+outcome_named : {regs : List (ℕ × ℕ)} (section : ℕ) (e : Entry) (start : ℕ) (o : Option Pending) → PendingOk regs o
+    → user_named (Ok (Append (settlement_of (outcome_of append section e start o)))) ≡ true
+outcome_named section e start none ok = refl
+outcome_named section e start (some r) (pending low high other first last few) =
+    go (append_registers section e start r) (ltb r.last e.end)
+  where
+    go : (t u : Bool) → user_named (Ok (Append (settlement_of (cond t (registers r.user) (cond u lapses stays))))) ≡ true
+    go true u = le-leb 1 r.user low
+    go false true = refl
+    go false false = refl
+
+pub named : {p : List ℤ} {x : RaisedNotice} → SoundPart p → (s : Settlement) {p' : List ℤ} → SettledTo p x s p'
+    → user_named (Ok (Append s)) ≡ true
+named {p} {x} ok s h =
+    let q = point_from p in
+    ap (λ s. user_named (Ok (Append s))) h.settlement_is
+    ∙ outcome_named q.facts.section (entry_from x) (latest_of q.regs).0 q.pending (part_well ok).pending_ok
 
 module _ {p : List ℤ} (ok : SoundPart p) (x : RaisedNotice) (inside : InRange x) (a b : ℕ) where
   abbrev q : Lists

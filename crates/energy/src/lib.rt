@@ -14,7 +14,7 @@ ghost use Rattle.layout.specs.Sound.{sound};
 ghost use Rattle.layout.specs.InnerParts.{room_of, SoundPart};
 ghost use Rattle.point.specs.Parts.{lists_of};
 ghost use Rattle.entering.specs.InnerEntering.{raised_notice, InRange};
-ghost use Rattle.energy.specs.Energy.{energy_call};
+ghost use Rattle.energy.specs.Energy.{energy_call, user_named};
 ghost use Rattle.energy.specs.InnerParts.{energy_rows_of, energy_part, energy_in};
 
 use daybook::{Edition, EnergyEntry, EnergyNotice};
@@ -95,7 +95,7 @@ fn check(part: &Part, x: RaisedNotice, nondaily: u64, daily: u64) -> Result<(), 
 // A notice on its point's part, which a refusal leaves as found.
 fn enter(p: &mut [i64], x: RaisedNotice, nondaily: u64, daily: u64) -> Result<EnergyEntry, Refusal>
     requires { SoundPart p.old × InRange x × (nondaily ≤ 2000000) × (daily ≤ 2000000) }
-    ensures { (energy_numbers result ≡ (energy_part x nondaily daily p.old).0) × (p.new ≡ (energy_part x nondaily daily p.old).1) }
+    ensures { (energy_numbers result ≡ (energy_part x nondaily daily p.old).0) × (p.new ≡ (energy_part x nondaily daily p.old).1) × (user_named result ≡ true) }
 {
     let part = Part { numbers: p };
     check(&part, x, nondaily, daily)?;
@@ -109,7 +109,7 @@ fn enter(p: &mut [i64], x: RaisedNotice, nondaily: u64, daily: u64) -> Result<En
 // A notice on a table that is known to be sound.
 pub fn enter_in_sound(t: &mut [i64], ed: Edition, n: EnergyNotice) -> Result<EnergyEntry, Refusal>
     requires { Fits ed × (sound ed t.old ≡ true) }
-    ensures { (energy_numbers result ≡ (energy_in ed t.old n).0) × (t.new ≡ (energy_in ed t.old n).1) }
+    ensures { (energy_numbers result ≡ (energy_in ed t.old n).0) × (t.new ≡ (energy_in ed t.old n).1) × (user_named result ≡ true) }
 {
     own_row(n)?;
     let register = Register {
@@ -124,7 +124,7 @@ pub fn enter_in_sound(t: &mut [i64], ed: Edition, n: EnergyNotice) -> Result<Ene
 
 // On any table and any numbers.
 pub fn energy(t: &mut [i64], n: EnergyNotice) -> Result<EnergyEntry, Refusal>
-    ensures { (energy_numbers result ≡ (energy_call editions t.old n).0) × (t.new ≡ (energy_call editions t.old n).1) }
+    ensures { (energy_numbers result ≡ (energy_call editions t.old n).0) × (t.new ≡ (energy_call editions t.old n).1) × (user_named result ≡ true) }
 {
     let edition = Register::of(t)?.edition;
     enter_in_sound(t, edition, n)

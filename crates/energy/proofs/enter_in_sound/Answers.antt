@@ -11,13 +11,13 @@ pub returns-in_err-own_row : goal.returns-in_err-own_row
 returns-in_err-own_row c =
     let s = c.args in
     let gone : c.from_residual.result ≡ Err c.in_err-own_row.field-0.0 = search rules in
-    rw gone (energy_back _ c.requires.0 s.t.now s.n _ refl _ (back_numbers _ c.requires.1 c.in_err-own_row.ensures))
+    let w = energy_back _ c.requires.0 s.t.now s.n _ refl _ (back_numbers _ c.requires.1 c.in_err-own_row.ensures) in rw gone (w.0, w.1, refl)
 
 pub returns-in_err-place : goal.returns-in_err-place
 returns-in_err-place c =
     let s = c.args in
     let gone : c.from_residual-in_err-place.result ≡ Err c.in_err-place.field-0.0 = search rules in
-    rw gone (energy_back _ c.requires.0 s.t.now s.n _ refl _ (back_unknown s.ed s.t.now s.n.mirn (search rules) c.requires.1 (sym c.in_ok-own_row.ensures) c.in_err-place.ensures.is))
+    let w = energy_back _ c.requires.0 s.t.now s.n _ refl _ (back_unknown s.ed s.t.now s.n.mirn (search rules) c.requires.1 (sym c.in_ok-own_row.ensures) c.in_err-place.ensures.is) in rw gone (w.0, w.1, refl)
 
 pub nondaily-nondaily-requires : goal.nondaily-nondaily-requires
 nondaily-nondaily-requires c = omega (arith, (sound_long _ _ c.requires.1).0)
@@ -36,4 +36,6 @@ pub returns : goal.returns
 returns c =
     let s = c.args in
     let h = part_found s.ed s.t.now s.n.mirn (search rules) c.requires.1 (sym c.in_ok-own_row.ensures) c.in_ok-place.ensures.is in
-    energy_done _ c.requires.0 s.t.now s.n _ refl h _ _ c.nondaily-nondaily.ensures c.daily-daily.ensures _ c.read.ensures _ _ c.enter.ensures
+    let e = c.enter.ensures in
+    let w = energy_done _ c.requires.0 s.t.now s.n _ refl h _ _ c.nondaily-nondaily.ensures c.daily-daily.ensures _ c.read.ensures _ _ (e.0, e.1) in
+    (w.0, w.1, e.2)
