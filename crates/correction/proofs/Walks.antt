@@ -110,7 +110,7 @@ module _ (test : ℕ → Bool) (d : ℕ) where
       go true e = refl
       go false e = e
 
-  some_none : (l : List (ℕ × ℕ)) → ((k : ℕ) → k < length l → Has l false k) → some_user test d l ≡ false
+  pub some_none : (l : List (ℕ × ℕ)) → ((k : ℕ) → k < length l → Has l false k) → some_user test d l ≡ false
   unfolding some_user
   some_none [] h = refl
   some_none (x ∷ l) h = rw (h 0 (omega arith)) (some_none l (λ k e. h (suc k) (omega arith)))

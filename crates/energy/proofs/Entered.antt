@@ -165,7 +165,7 @@ module _ {p : List ℤ} (ok : SoundPart p) (x : RaisedNotice) (inside : InRange 
       o = outcome_of (which_in q e) q.facts.section e (latest_of q.regs).0 q.pending
 
       -- a correction leaves the request
-      corrected : (w : Which) → which_in q e ≡ w → outcome_of w q.facts.section e (latest_of q.regs).0 q.pending ≡ stays
+      pub corrected : (w : Which) → which_in q e ≡ w → outcome_of w q.facts.section e (latest_of q.regs).0 q.pending ≡ stays
           → (pos 0 ∷ map pos (which_number w ∷ removed w x.entry.start q.recs ∷ 0 ∷ 0 ∷ []) ≡ (energy_part x a b p).0) × (p'' ≡ (energy_part x a b p).1)
       unfolding energy_part enter_lists entered_lists with_recs
       corrected w i z =

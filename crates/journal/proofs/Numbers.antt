@@ -16,7 +16,7 @@ use Rattle.journal.specs.Text.{is_digit, digits_after, value_of_digits, non_nega
 use Rattle.journal.specs.InnerText.{fitting}
 
 -- digits only add to a number that is too large already
-too_large : (n : ℕ) (s : List ℕ) → 2 ^ 64 ≤ n → fitting (digits_after n s) ≡ None
+pub too_large : (n : ℕ) (s : List ℕ) → 2 ^ 64 ≤ n → fitting (digits_after n s) ≡ None
 unfolding digits_after
 too_large n [] h = rw (le-ltb n (2 ^ 64) h)
 too_large n (b ∷ s) h = go (is_digit b) refl (too_large (10 * n + (b - 48)) s (omega arith))
@@ -89,11 +89,11 @@ of_some f (some n) m e = go (ltb n (2 ^ 64)) refl
     go true q = let k : Some m ≡ Some n = rw q at e in cc
     go false q = let k : Some m ≡ None = rw q at e in cc
 
-pub negative_large : (m : ℕ) → 2 ^ 64 ≤ m → negative m ≡ none
-negative_large m h = rw (lt-leb m (2 ^ 63) (omega arith))
+pub negative_large : (m : ℕ) → 2 ^ 63 < m → negative m ≡ none
+negative_large m h = rw (lt-leb m (2 ^ 63) h)
 
-pub non_negative_large : (m : ℕ) → 2 ^ 64 ≤ m → non_negative m ≡ none
-non_negative_large m h = rw (le-ltb m (2 ^ 63) (omega arith))
+pub non_negative_large : (m : ℕ) → 2 ^ 63 ≤ m → non_negative m ≡ none
+non_negative_large m h = rw (le-ltb m (2 ^ 63) h)
 
 minus_is : (m : ℕ) → (pos 0 -ℤ pos m) ≡ sub_ℕ 0 m
 minus_is zero = refl

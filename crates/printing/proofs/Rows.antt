@@ -85,7 +85,7 @@ row_at : (xs : List ℤ) (i : ℕ) (d : ℤ) → i < length xs → row_of (drop 
 unfolding row_of
 row_at xs i d h = rw (add-one i, drop-cons xs i d)
 
-row_more : (xs : List ℤ) (i : ℕ) (d : ℤ) (before shown : List ℕ) (after : ℕ) → i < length xs → after ≡ cond (eqb (length xs - 1 - i) 0) 10 32 → shown ≡ before ++ (text_of (get_or xs i d) ++ (after ∷ [])) → shown ++ row_of (drop (i + 1) xs) ≡ before ++ row_of (drop i xs)
+pub row_more : (xs : List ℤ) (i : ℕ) (d : ℤ) (before shown : List ℕ) (after : ℕ) → i < length xs → after ≡ cond (eqb (length xs - 1 - i) 0) 10 32 → shown ≡ before ++ (text_of (get_or xs i d) ++ (after ∷ [])) → shown ++ row_of (drop (i + 1) xs) ≡ before ++ row_of (drop i xs)
 row_more xs i d before shown after h a e = rw (e, a, ending_is xs i h, row_at xs i d h, append_assoc, append_assoc)
 
 -- one more of the numbers xs, of any type, with the values f

@@ -1,3 +1,4 @@
+use Rattle.std.proofs.Common.{arith}
 use Rattle.journal.specs.Text.{value_of_digits, negative, non_negative}
 use Rattle.journal.proofs.Numbers.{number_minus, number_plain, of_nothing, of_some, negative_large, non_negative_large, negative_checked, non_negative_checked}
 use Rattle.journal.proofs.number.Goals as goal
@@ -6,12 +7,12 @@ pub returns-in_err-magnitude-in-Some : goal.returns-in_err-magnitude-in-Some
 returns-in_err-magnitude-in-Some c =
     let h = c.in-Some.ensures.cases in
     let digits = value_of_digits c.in-Some.digits.now in
-    rw (c.from_residual.ensures, number_minus c.args.s.now h.0, ← h.1) (of_nothing negative digits negative_large c.in_err-magnitude-in-Some.ensures)
+    rw (c.from_residual.ensures, number_minus c.args.s.now h.0, ← h.1) (of_nothing negative digits (λ m h. negative_large m (omega arith)) c.in_err-magnitude-in-Some.ensures)
 
 pub returns-in_err-magnitude-in-None : goal.returns-in_err-magnitude-in-None
 returns-in_err-magnitude-in-None c =
     let digits = value_of_digits c.args.s.now in
-    rw (c.from_residual-in_err-magnitude-in-None.ensures, number_plain c.args.s.now c.in-None.ensures.cases) (of_nothing non_negative digits non_negative_large c.in_err-magnitude-in-None.ensures)
+    rw (c.from_residual-in_err-magnitude-in-None.ensures, number_plain c.args.s.now c.in-None.ensures.cases) (of_nothing non_negative digits (λ m h. non_negative_large m (omega arith)) c.in_err-magnitude-in-None.ensures)
 
 pub returns-in_ok-magnitude-in-Some : goal.returns-in_ok-magnitude-in-Some
 returns-in_ok-magnitude-in-Some c =
