@@ -1,7 +1,7 @@
 // Plays a journal: reads calls from its input, one a line, on one register, and writes a row of numbers for each.
 #![tactic(auto)]
 
-ghost use Rattle.std.specs.Prelude.{◌≡◌, ◌+◌, ◌≤◌, length, IfSome};
+ghost use Rattle.std.specs.Prelude.{◌≡◌, ◌+◌, ◌≤◌, false, length, IfSome};
 ghost use Rattle.printing.specs.Rows.{row_bytes};
 ghost use Rattle.lines.specs.Lines.{buffer_numbers, buffer_bytes, line_numbers, most_room};
 
@@ -36,14 +36,13 @@ impl Screen {
         self.output.clear();
     }
 
-    // What waits, which has room for one more row.
-    fn with_room(&mut self) -> &mut Output<OUTPUT_BYTES>
-        ensures { length result.now + row_bytes ≤ OUTPUT_BYTES }
+    // Room for one more row.
+    fn make_room(&mut self)
+        ensures { length self.new.output + row_bytes ≤ OUTPUT_BYTES }
     {
         if OUTPUT_BYTES - printing::ROW_BYTES < self.output.len() {
             self.flush();
         }
-        &mut self.output
     }
 }
 
@@ -69,50 +68,55 @@ struct Register {
 }
 
 impl Register {
-    // The call tlen. It answers, as those below, whether it is a call.
-    fn lend(&mut self, nums: &[i64], screen: &mut Screen) -> bool {
+    // The call tlen. It answers, as those below, whether it is a call: then it prints a row, else nothing.
+    fn lend<const N: usize>(&mut self, nums: &[i64], out: &mut Output<N>) -> bool
+        requires { length out.old + row_bytes ≤ N }
+        ensures row { length out.new ≤ length out.old + row_bytes }
+        ensures nothing { result ≡ false → out.new ≡ out.old }
+    {
         let Some(lent) = only_number(nums, lines::BUFFER_NUMBERS) else {
             return false;
         };
         self.lent = lent;
-        screen.with_room().row(&[0u64]);
+        out.row(&[0u64]);
         true
     }
 
     // The call alen.
-    fn make_room(&mut self, nums: &[i64], screen: &mut Screen) -> bool {
+    fn set_room<const N: usize>(&mut self, nums: &[i64], out: &mut Output<N>) -> bool
+        requires { length out.old + row_bytes ≤ N }
+        ensures row { length out.new ≤ length out.old + row_bytes }
+        ensures nothing { result ≡ false → out.new ≡ out.old }
+    {
         let Some(room) = only_number(nums, lines::MOST_ROOM) else {
             return false;
         };
         self.room = room;
-        screen.with_room().row(&[0u64]);
+        out.row(&[0u64]);
         true
     }
 
     // Any line but those on bytes, with its numbers.
-    fn obey(&mut self, command: Command, nums: &[i64], screen: &mut Screen) -> bool
-        requires { length nums.now ≤ line_numbers }
+    fn obey<const N: usize>(&mut self, command: Command, nums: &[i64], out: &mut Output<N>) -> bool
+        requires { (length nums.now ≤ line_numbers) × (length out.old + row_bytes ≤ N) }
+        ensures row { length out.new ≤ length out.old + row_bytes }
+        ensures nothing { result ≡ false → out.new ≡ out.old }
     {
         match command {
-            Command::Lend => self.lend(nums, screen),
-            Command::Room => self.make_room(nums, screen),
-            Command::Image(word) => imagelines::answer(
-                word,
-                &mut self.bytes,
-                self.lent,
-                &mut self.images,
-                nums,
-                screen.with_room(),
-            ),
-            Command::Trial => triallines::answer(&self.bytes, self.lent, nums, screen.with_room()),
-            _ => lines::answer(
-                command,
-                &mut self.bytes,
-                self.lent,
-                self.room,
-                nums,
-                screen.with_room(),
-            ),
+            Command::Lend => self.lend(nums, out),
+            Command::Room => self.set_room(nums, out),
+            Command::Image(word) => {
+                imagelines::answer(
+                    word,
+                    &mut self.bytes,
+                    self.lent,
+                    &mut self.images,
+                    nums,
+                    out,
+                )
+            }
+            Command::Trial => triallines::answer(&self.bytes, self.lent, nums, out),
+            _ => lines::answer(command, &mut self.bytes, self.lent, self.room, nums, out),
         }
     }
 }
@@ -141,7 +145,9 @@ struct Player {
 impl Player {
     // A call on bytes. The first word from at on names it.
     fn on_bytes(&mut self, at: usize) -> bool
-        requires { at ≤ length self.old.line.items }
+        requires { (at ≤ length self.old.line.items) × (length self.old.screen.output + row_bytes ≤ OUTPUT_BYTES) }
+        ensures row { length self.new.screen.output ≤ length self.old.screen.output + row_bytes }
+        ensures nothing { result ≡ false → self.new.screen.output ≡ self.old.screen.output }
     {
         let line = self.line.as_slice();
         let (word, end) = first_word(line, at);
@@ -155,12 +161,16 @@ impl Player {
             call,
             &mut self.register.bytes,
             &self.nums[..n],
-            self.screen.with_room(),
+            &mut self.screen.output,
         )
     }
 
     // Whether the line is a call, or none is to be made of it.
-    fn play(&mut self) -> bool {
+    fn play(&mut self) -> bool
+        requires { length self.old.screen.output + row_bytes ≤ OUTPUT_BYTES }
+        ensures row { length self.new.screen.output ≤ length self.old.screen.output + row_bytes }
+        ensures nothing { result ≡ false → self.new.screen.output ≡ self.old.screen.output }
+    {
         let line = self.line.as_slice();
         let (word, end) = first_word(line, 0);
         if word.is_empty() || line.starts_with(b"#") {
@@ -174,15 +184,24 @@ impl Player {
             return false;
         };
         self.register
-            .obey(command, &self.nums[..n], &mut self.screen)
+            .obey(command, &self.nums[..n], &mut self.screen.output)
+    }
+
+    // What a line prints, one row at most: that of a call, or of a line that is none.
+    fn answer(&mut self, number: u64)
+        requires { length self.old.screen.output + row_bytes ≤ OUTPUT_BYTES }
+        ensures { length self.new.screen.output ≤ length self.old.screen.output + row_bytes }
+    {
+        if self.too_long || !self.play() {
+            self.screen.output.unknown(number);
+        }
     }
 
     // The line has ended.
     fn end_line(&mut self) {
         let number = self.ended.wrapping_add(1);
-        if self.too_long || !self.play() {
-            self.screen.with_room().unknown(number);
-        }
+        self.screen.make_room();
+        self.answer(number);
         self.ended = number;
         self.line.clear();
         self.too_long = false;
