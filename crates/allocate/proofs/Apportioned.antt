@@ -21,7 +21,7 @@ use Rattle.lists.proofs.Bounds.{within_bounds}
 use Rattle.lists.proofs.Splits.{split_length}
 use Rattle.layout.specs.Calls.{placed}
 use Rattle.table.specs.declared.register.Register.{Register}
-use Rattle.table.specs.Registers.{book, number_of_points}
+use Rattle.table.specs.InnerRegisters.{book, number_of_points}
 use Rattle.allocate.specs.InnerParts.{padded, SharesBelow, total_to, load_of, MaySplit, given_of}
 use Rattle.allocate.proofs.Loads.{is_load, next_order}
 use Rattle.allocate.proofs.Arrays.{points_few_lem}

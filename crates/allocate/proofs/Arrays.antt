@@ -20,7 +20,7 @@ use Rattle.layout.specs.Layout.{Fits, num_at, table_book}
 use Rattle.layout.specs.Sound.{sound}
 use Rattle.point.proofs.Rows.{rows_at, length_rows, rows_join}
 use Rattle.table.specs.declared.register.Register.{Register}
-use Rattle.table.specs.Registers.{book, number_of_points}
+use Rattle.table.specs.InnerRegisters.{book, number_of_points}
 use Rattle.table.proofs.Laws.{sound_long}
 use Rattle.readings.proofs.Points.{part_point, points_are}
 use Rattle.allocate.specs.InnerParts.{padded}

@@ -8,7 +8,7 @@ use Rattle.daybook.specs.Notices.{Numbers, users}
 use Rattle.daybook.specs.Queries.{share_count, allocation_in_range, nsl_of, weights, total, point_shares, total_of}
 use Rattle.layout.specs.Layout.{num_at}
 use Rattle.table.specs.declared.register.Register.{Register}
-use Rattle.table.specs.Registers.{book}
+use Rattle.table.specs.InnerRegisters.{book}
 
 -- Numbers of points, in an array with a place for each share.
 unfoldable pub padded : List ℕ → List ℕ

@@ -12,7 +12,7 @@ ghost use Rattle.daybook.specs.Calls.{allocation_numbers};
 ghost use Rattle.daybook.specs.Editions.{editions};
 ghost use Rattle.layout.specs.Layout.{stride};
 ghost use Rattle.layout.specs.Calls.{placed};
-ghost use Rattle.table.specs.Registers.{book, number_of_points};
+ghost use Rattle.table.specs.InnerRegisters.{book, number_of_points};
 ghost use Rattle.readings.specs.InnerReadings.{point_of_part};
 ghost use Rattle.allocate.specs.Allocate.{allocate_call};
 ghost use Rattle.allocate.specs.InnerParts.{padded, most_total, SharesBelow, total_to, load_of, MaySplit, given_of};
@@ -79,7 +79,8 @@ fn sum_of(ws: &[u64]) -> u64
     ws.iter().sum()
 }
 
-// The load split by 32 weights, of which s is the sum; a point with weight 0 gets 0.
+// The load split by 32 weights, of which s is the sum; a point with weight 0 gets 0. A `for`, since it carries two
+// numbers on and writes.
 fn split_to(ws: &[u64], load: u64, s: u64, out: &mut [i64])
     requires { (length ws.now ≡ 32) × (32 ≤ length out.old) × (load ≤ 3032000000) × (0 < s) × (s ≤ most_total) × (s ≡ total_weight ws.now) }
     ensures { out.new ≡ placed (split load s 0 ws.now) out.old }

@@ -10,7 +10,7 @@ ghost use Rattle.calendar.specs.Calendar.{is_day, leap, days_before, month_lengt
 
 use refusals::Refusal;
 
-// A day, counted from 1 January 1970 = 0.
+// A day, counted from 1 January 1970 = 0. Its bound is a clause's: not all functions ask for the same.
 #[derive(Clone, Copy)]
 pub struct Day(pub u64);
 

@@ -6,7 +6,7 @@ use Rattle.lists.specs.Lists.{Lists, book_facts, with_facts}
 use Rattle.layout.specs.Layout.{table_length, Fits, part_of, point_numbers, point_from}
 use Rattle.layout.specs.InnerWrites.{with_part}
 use Rattle.table.specs.declared.register.Register.{Register}
-use Rattle.table.specs.Registers.{book}
+use Rattle.table.specs.InnerRegisters.{book}
 
 -- A register, an edition that has room for its book, and a second table for it.
 pub record Convertible (r : Register) (to : Edition) (second : List ℤ) : Type 0 where

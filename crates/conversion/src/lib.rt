@@ -8,8 +8,8 @@ ghost use Rattle.daybook.specs.Editions.{editions, no_room};
 ghost use Rattle.layout.specs.Places.{rec_count, rec_place};
 ghost use Rattle.layout.specs.Layout.{Fits, with_new_book};
 ghost use Rattle.layout.specs.InnerParts.{room_of};
-ghost use Rattle.point.specs.Parts.{number_in};
-ghost use Rattle.table.specs.Registers.{book, number_of_points};
+ghost use Rattle.point.specs.InnerParts.{number_in};
+ghost use Rattle.table.specs.InnerRegisters.{book, number_of_points};
 ghost use Rattle.conversion.specs.InnerConversion.{Convertible, copied_part, parts_into};
 ghost use Rattle.conversion.specs.Conversion.{convert_call};
 
@@ -39,7 +39,7 @@ fn copy_part(part: &Part, q: &mut [i64])
     numbers::put(q, places::OPERATOR, reserves::operator(part.numbers));
 }
 
-// The parts of all points.
+// The parts of all points, by a `for`, since it writes another table.
 fn copy_parts(register: &Register, to: Edition, second: &mut [i64])
     requires { Convertible register.now to second.old }
     ensures { second.new ≡ parts_into register.now.edition to register.now.table.now second.old (number_of_points register.now) }

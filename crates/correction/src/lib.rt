@@ -14,7 +14,7 @@ ghost use Rattle.lists.specs.InnerSteps.{latest_of, some_user, earlier, user_fro
 ghost use Rattle.layout.specs.Places.{reg_count};
 ghost use Rattle.layout.specs.Layout.{point_numbers, point_from};
 ghost use Rattle.layout.specs.InnerParts.{room_of, SoundPart};
-ghost use Rattle.point.specs.Parts.{lists_of, number_in};
+ghost use Rattle.point.specs.InnerParts.{lists_of, number_in};
 ghost use Rattle.correction.specs.Correction.{correct_call};
 ghost use Rattle.correction.specs.InnerParts.{start_of, loses_day, correct_part};
 

@@ -147,6 +147,7 @@ pub struct TrialCounts {
     pub removed: u64,
 }
 
+// Tests of a range, each by the name of the rule that it decides.
 pub fn is_mirn(x: i64) -> bool
     ensures { result ≡ is_mirn x }
 {
@@ -220,7 +221,8 @@ pub fn request_numbers(a: Result<Period, Refusal>) -> [u64; 3]
     }
 }
 
-// 1 for a User who is affected.
+// 1 for a User who is affected. A `for` writes them behind the refusal, as it does the totals below: of a chain that
+// writes what it captures nothing is said.
 pub fn correction_numbers(a: Result<[bool; 16], Refusal>) -> [u64; 17]
     ensures { result ≡ bits_of (correction_numbers a) }
 {

@@ -12,7 +12,7 @@ ghost use Rattle.daybook.specs.Editions.{editions};
 ghost use Rattle.layout.specs.Layout.{Fits};
 ghost use Rattle.layout.specs.Sound.{sound};
 ghost use Rattle.layout.specs.InnerParts.{room_of, SoundPart};
-ghost use Rattle.point.specs.Parts.{lists_of};
+ghost use Rattle.point.specs.InnerParts.{lists_of};
 ghost use Rattle.entering.specs.InnerEntering.{raised_notice, InRange};
 ghost use Rattle.energy.specs.Energy.{energy_call, user_named};
 ghost use Rattle.energy.specs.InnerParts.{energy_rows_of, energy_part, energy_in};

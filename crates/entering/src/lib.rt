@@ -10,7 +10,7 @@ ghost use Rattle.layout.specs.Places.{rec_count};
 ghost use Rattle.layout.specs.Layout.{point_from};
 ghost use Rattle.layout.specs.InnerParts.{room_of, SoundPart};
 ghost use Rattle.point.specs.InnerTests.{day_if};
-ghost use Rattle.point.specs.Parts.{lists_of, number_in};
+ghost use Rattle.point.specs.InnerParts.{lists_of, number_in};
 ghost use Rattle.entering.specs.InnerEntering.{entry_from, InRange, row_in, Recorded, SettledTo};
 
 use daybook::Settlement;

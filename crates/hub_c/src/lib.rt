@@ -1,5 +1,5 @@
-// The register's C interface: each function of `hub` under its C name. include/petlumas.h says in C's words what it
-// does.
+// The register's C interface: each function of `hub` under its C name, which C asks for one by one.
+// include/petlumas.h says in C's words what it does.
 #![tactic(auto)]
 
 ghost use Rattle.std.specs.Prelude.{◌≡◌, ◌/◌, length};

@@ -39,6 +39,7 @@ pub fn fresh(t: &mut [i64], n: NewRegister) -> Result<(), Refusal>
     Ok(())
 }
 
+// Tests of a range, each by the name of its rule.
 fn is_base(x: i64) -> bool
     ensures { result ≡ within (negsuc 0) (pos 10000) x }
 {

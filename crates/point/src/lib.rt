@@ -10,7 +10,8 @@ ghost use Rattle.layout.specs.Sound.{zeros};
 ghost use Rattle.layout.specs.InnerParts.{SoundPart};
 ghost use Rattle.point.specs.InnerTests.{Bits, until_of, on_day, past, first_on, no_off};
 
-// One point's part of a sound table.
+// One point's part of a sound table, to read. What writes a part is lent its numbers, and requires the fact: it is
+// known at entry alone.
 #[derive(Clone, Copy)]
 pub struct Part<'a> {
     pub numbers: &'a [i64],

@@ -10,7 +10,7 @@ ghost use Rattle.daybook.specs.Book.{day_share, filled};
 ghost use Rattle.daybook.specs.Queries.{active as is_active, all_filled, at_least0, base_over, daily_gas, metered_of, weight as weight_of};
 ghost use Rattle.layout.specs.Places.{rec_count};
 ghost use Rattle.point.specs.InnerTests.{reg_start, reg_user, rec_row};
-ghost use Rattle.point.specs.Parts.{number_in};
+ghost use Rattle.point.specs.InnerParts.{number_in};
 ghost use Rattle.readings.specs.InnerReadings.{point_of_part, days_passed, filled_days};
 ghost use Rattle.readings.specs.InnerRecords.{part_between, partial_of, day_count};
 

@@ -13,7 +13,7 @@ use Rattle.lists.proofs.Operators.{operator, operators_are, held_append}
 use Rattle.layout.specs.Layout.{num_at, point_from, register_of, table_book}
 use Rattle.point.proofs.Rows.{rows_at, rows_join, map_rows, points_read}
 use Rattle.table.specs.declared.register.Register.{Register}
-use Rattle.table.specs.Registers.{operators, number_of_points, part_of}
+use Rattle.table.specs.InnerRegisters.{operators, number_of_points, part_of}
 
 module _ (r : Register) where
   -- The book's operator of point i.

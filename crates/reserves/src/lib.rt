@@ -7,7 +7,7 @@ ghost use Rattle.daybook.specs.Notices.{held as held_by, unfilled as unfilled_of
 ghost use Rattle.lists.specs.Lists.{operator_of};
 ghost use Rattle.layout.specs.Places.{operator_place, recs_place};
 ghost use Rattle.layout.specs.Layout.{Fits, num_at};
-ghost use Rattle.table.specs.Registers.{operators};
+ghost use Rattle.table.specs.InnerRegisters.{operators};
 
 use daybook::Edition;
 use table::Register;
@@ -62,7 +62,7 @@ pub fn others_unfilled(register: &Register, o: u64) -> usize
         + unless_own(register, 4, o)
 }
 
-// The unfilled reserves of all four, in the edition `to`.
+// The unfilled reserves of all four, in the edition `to`. As a chain over the four two goals of the sum stayed open.
 pub fn all_unfilled(register: &Register, to: Edition) -> usize
     requires { Fits to }
     ensures { (result ≡ over_four (unfilled_of to (operators register.now))) × (result ≤ 32) }

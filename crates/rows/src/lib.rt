@@ -45,7 +45,7 @@ pub fn put_pair(p: &mut [i64], i: usize, x: u64, y: u64)
     numbers::put(p, i + 1, y);
 }
 
-// The n places from a on.
+// The n places from a on, by the layout's word (`cleared`).
 pub fn clear(p: &mut [i64], a: usize, n: usize)
     requires { a + n ≤ length p.old }
     ensures { p.new ≡ cleared p.old a n }
@@ -53,7 +53,7 @@ pub fn clear(p: &mut [i64], a: usize, n: usize)
     p[a..a + n].fill(0);
 }
 
-// The first n numbers of another part or table.
+// The first n numbers of another part or table, in the words of the layout's laws.
 pub fn copy_first(p: &mut [i64], from: &[i64], n: usize)
     requires { (n ≤ length p.old) × (n ≤ length from.now) }
     ensures { p.new ≡ take n from.now ++ drop n p.old }

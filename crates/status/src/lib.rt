@@ -10,7 +10,7 @@ ghost use Rattle.daybook.specs.Calls.{notice_numbers};
 ghost use Rattle.daybook.specs.Editions.{editions};
 ghost use Rattle.layout.specs.Layout.{point_numbers, point_from};
 ghost use Rattle.layout.specs.InnerParts.{room_of, SoundPart};
-ghost use Rattle.point.specs.Parts.{lists_of};
+ghost use Rattle.point.specs.InnerParts.{lists_of};
 ghost use Rattle.status.specs.InnerParts.{filled_from, cannot_switch, status_rows_of, switched_lists, status_part};
 ghost use Rattle.status.specs.Status.{status_call};
 

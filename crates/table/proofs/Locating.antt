@@ -94,7 +94,7 @@ module _ (ed : Edition) (t : List ℤ) where
 
 -- what a caller is told, whose MIRN is read as the machine holds it
 module _ (ed : Edition) (t : List ℤ) (m : ℤ) (f : SFits w64 m) where
-  copied : {r : Result Located Refusal} → r ≡ place_of_mirn ed t (to_z w64 (of_z w64 m)) → r ≡ place_of_mirn ed t m
+  pub copied : {r : Result Located Refusal} → r ≡ place_of_mirn ed t (to_z w64 (of_z w64 m)) → r ≡ place_of_mirn ed t m
   copied e = e ∙ ap (λ m. place_of_mirn ed t m) (to_z-of_z f)
 
   unknown_mirn : {e : Refusal} → Err e ≡ place_of_mirn ed t (to_z w64 (of_z w64 m)) → (e ≡ Refusal·.UnknownMirn) × (index_of ed t (nat_of m) ≡ none)

@@ -10,7 +10,7 @@ use Rattle.layout.proofs.SoundParts.{part_length, sound_at}
 use Rattle.table.specs.declared.Located.{Located}
 use Rattle.table.specs.InnerTable.{place_of_mirn}
 use Rattle.table.specs.declared.register.Register.{Register}
-use Rattle.table.specs.Registers.{number_of_points, part_of}
+use Rattle.table.specs.InnerRegisters.{number_of_points, part_of}
 use Rattle.table.proofs.Laws.{sound_long}
 
 module _ (r : Register) where

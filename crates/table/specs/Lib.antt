@@ -1,4 +1,4 @@
 -- The look-up of a point by its MIRN.
 pub mod Lookup
 pub mod InnerTable
-pub mod Registers
+pub mod InnerRegisters

@@ -142,7 +142,9 @@ fn body_sound(t: &[i64], ed: Edition, n: usize) -> bool
         & point::zeros_in(t, end, places::TABLE_LENGTH)
 }
 
-// Is this a sound register of that edition? Any numbers, any length.
+// Is this a sound register of that edition? Any numbers, any length. It stays a function of its own in the machine's
+// code: inlined into its one caller, its loops may be laid out so that they take a third longer.
+#[inline(never)]
 pub fn sound(t: &[i64], ed: Edition) -> bool
     requires { Fits ed }
     ensures { result ≡ table_sound ed t.now }
@@ -158,7 +160,7 @@ pub fn sound(t: &[i64], ed: Edition) -> bool
 }
 
 // The point of a MIRN.
-fn index_of(t: &[i64], ed: Edition, m: u64) -> Option<usize>
+pub fn index_of(t: &[i64], ed: Edition, m: u64) -> Option<usize>
     requires { Fits ed × (table_length ≤ length t.now) × (num_at t.now points_place ≤ ed.points) }
     ensures is { option_of result ≡ index_of ed t.now m }
     ensures some { IfSome result (λ i. i < ed.points) }

@@ -1,4 +1,5 @@
-// A table that is sound, of its edition: what a call reads once row 1 has let the table pass.
+// A table that is sound, of its edition: what a call reads once row 1 has let the table pass. What writes a table is
+// lent its numbers, and requires the fact: it is known at entry alone.
 
 ghost use Rattle.std.specs.Prelude.{◌≡◌, true};
 ghost use Rattle.layout.specs.Layout.{Fits};
@@ -24,7 +25,7 @@ impl<'a> Register<'a> {
     ghost use Rattle.layout.specs.InnerParts.{SoundPart};
     ghost use Rattle.table.specs.InnerTable.{sound_edition, place_of_mirn};
     ghost use Rattle.table.specs.Lookup.{index_of};
-    ghost use Rattle.table.specs.Registers.{edition_or_refusal, book, number_of_points, part_of};
+    ghost use Rattle.table.specs.InnerRegisters.{edition_or_refusal, book, number_of_points, part_of};
 
     // The register in a table; one that is not sound is sent back, as row 1 says.
     pub fn of(t: &'a [i64]) -> Result<Self, Refusal>

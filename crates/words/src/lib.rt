@@ -49,7 +49,8 @@ pub fn put_word(b: &mut [u8], at: usize, x: i64)
     put_number::<8>(b, at, x.cast_unsigned());
 }
 
-// The n words of b from byte at on into the places of t from to on.
+// The n words of b from byte at on into the places of t from to on. A `for`, and one in encode: of a chain that writes
+// what it captures nothing is said.
 #[tactic(auto, using(crate::proofs::Tables::decoded_more), unfolding(crate::specs::Tables::decoded_into))]
 pub fn decode(b: &[u8], at: usize, t: &mut [i64], to: usize, n: usize)
     requires { (at + 8 * n ≤ length b.now) × (to + n ≤ length t.old) }

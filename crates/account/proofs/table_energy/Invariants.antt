@@ -3,7 +3,7 @@ use mathlib.Core.Path.{◌≡◌}
 use lib.IntN.{sub_ℕ}
 use Rattle.numbers.specs.Sums.{sum_from}
 use Rattle.daybook.specs.Queries.{own_share}
-use Rattle.table.specs.Registers.{part_of}
+use Rattle.table.specs.InnerRegisters.{part_of}
 use Rattle.readings.specs.InnerReadings.{point_at}
 use Rattle.account.proofs.table_energy.Given as goal
 

@@ -4,7 +4,7 @@ use Rattle.numbers.specs.Naturals.{nat_of}
 use Rattle.daybook.specs.declared.AllocationQuery.{AllocationQuery}
 use Rattle.daybook.specs.Book.{Book}
 use Rattle.daybook.specs.Queries.{weight, weights, total}
-use Rattle.table.specs.Registers.{book}
+use Rattle.table.specs.InnerRegisters.{book}
 use Rattle.table.proofs.Locating.{not_sound}
 use Rattle.table.proofs.Registers.{own_edition, table_passes}
 use Rattle.daybook.specs.Editions.{editions}

@@ -11,7 +11,7 @@ use Rattle.numbers.specs.Naturals.{nat_of}
 use Rattle.numbers.proofs.Naturals.{natural_read}
 use Rattle.daybook.specs.Notices.{users}
 use Rattle.daybook.specs.Queries.{at_least0, tdm_of, split}
-use Rattle.table.specs.Registers.{book}
+use Rattle.table.specs.InnerRegisters.{book}
 use Rattle.layout.specs.Calls.{placed}
 use Rattle.allocate.specs.InnerParts.{padded, SharesBelow, total_to, load_of, given_of}
 use Rattle.allocate.proofs.Apportioned.{in_range_tells, in_range_lem, load_is, fros_32, weigh_32, split_32, placed_long, shares_are, shares_small, totals_are}

@@ -5,7 +5,7 @@ use lib.IntN.{sub_ℕ}
 use Rattle.numbers.specs.Sums.{sum_from}
 use Rattle.numbers.proofs.Sums.{sum_none, sum_turn}
 use Rattle.daybook.specs.Queries.{metered_of, tdm_of}
-use Rattle.table.specs.Registers.{number_of_points}
+use Rattle.table.specs.InnerRegisters.{number_of_points}
 use Rattle.readings.specs.InnerReadings.{point_at}
 use Rattle.readings.proofs.Points.{part_point, points_sum}
 use Rattle.allocate.proofs.metered.Goals as goal

@@ -3,7 +3,7 @@ use Prim.Native.Nat.{◌+◌, ◌*◌, ◌<◌, ◌≤◌}
 use native.Mathlib.Omega.{arith}
 use lib.ListN.{length, set}
 use Rattle.daybook.specs.Queries.{total}
-use Rattle.table.specs.Registers.{number_of_points}
+use Rattle.table.specs.InnerRegisters.{number_of_points}
 use Rattle.table.proofs.Registers.{register_stride}
 use Rattle.readings.specs.InnerReadings.{point_at}
 use Rattle.readings.proofs.Points.{part_point}

@@ -3,7 +3,7 @@ use native.Mathlib.Omega.{arith}
 use Rattle.std.proofs.Common.{rules}
 use Rattle.daybook.specs.Queries.{weight}
 use Rattle.layout.specs.Layout.{stride}
-use Rattle.table.specs.Registers.{number_of_points}
+use Rattle.table.specs.InnerRegisters.{number_of_points}
 use Rattle.table.proofs.Laws.{place_small}
 use Rattle.table.proofs.Registers.{register_few}
 use Rattle.allocate.proofs.Arrays.{spread}

@@ -2,7 +2,7 @@ use mathlib.Core.Path.{◌≡◌, ◌∙◌, ap}
 use native.Mathlib.Omega.{arith}
 use lib.ListN.{length}
 use Rattle.layout.specs.Layout.{stride, num_at}
-use Rattle.table.specs.Registers.{number_of_points}
+use Rattle.table.specs.InnerRegisters.{number_of_points}
 use Rattle.table.proofs.Laws.{lent}
 use Rattle.conversion.specs.InnerConversion.{parts_into}
 use Rattle.conversion.proofs.Room.{points_fit, records_fit}

@@ -1,6 +1,6 @@
 use mathlib.Core.Path.{◌≡◌}
 use Prim.Native.Nat.{◌≤◌}
-use Rattle.table.specs.Registers.{number_of_points}
+use Rattle.table.specs.InnerRegisters.{number_of_points}
 use Rattle.conversion.specs.InnerConversion.{parts_into}
 use Rattle.conversion.proofs.copy_parts.Given as goal
 

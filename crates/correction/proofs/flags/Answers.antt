@@ -1,5 +1,5 @@
 use Rattle.std.proofs.Common.{ℕ, ◌+◌, Bool, rules}
-use Rattle.point.specs.Parts.{lists_of}
+use Rattle.point.specs.InnerParts.{lists_of}
 use Rattle.correction.specs.InnerParts.{loses_day}
 use Rattle.correction.proofs.Made.{made_is}
 use Rattle.correction.proofs.flags.Goals as goal

@@ -3,7 +3,7 @@ use Prim.Native.Nat.{◌-◌, ◌<◌}
 use native.Mathlib.Omega.{arith}
 use lib.Dec.{eqb}
 use lib.ListN.{length}
-use Rattle.point.specs.Parts.{lists_of}
+use Rattle.point.specs.InnerParts.{lists_of}
 use Rattle.correction.proofs.Walks.{count_is_lem, user_at, latest_of_none, latest_of_first}
 use Rattle.correction.proofs.is_last.Goals as goal
 

@@ -1,5 +1,5 @@
 use Rattle.std.proofs.Common.{sym, ap, ◌∙◌, ◌+◌, length}
-use Rattle.point.specs.Parts.{lists_of}
+use Rattle.point.specs.InnerParts.{lists_of}
 use Rattle.correction.proofs.Walks.{last_before, repeats, adds_one}
 use Rattle.correction.proofs.left.Goals as goal
 

@@ -3,7 +3,7 @@ use native.Mathlib.Omega.{arith}
 use Prim.Native.Nat.{◌+◌, ◌<◌}
 use lib.Dec.{ltb}
 use lib.ListN.{length}
-use Rattle.point.specs.Parts.{lists_of}
+use Rattle.point.specs.InnerParts.{lists_of}
 use Rattle.correction.proofs.Walks.{count_is_lem, start_at, next_none, next_at}
 use Rattle.correction.proofs.reaches.Goals as goal
 

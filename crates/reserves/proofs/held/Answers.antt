@@ -7,7 +7,7 @@ use Rattle.daybook.specs.Notices.{held}
 use Rattle.lists.specs.Lists.{operator_of}
 use Rattle.layout.specs.Layout.{num_at}
 use Rattle.point.proofs.Rows.{rows_at}
-use Rattle.table.specs.Registers.{number_of_points}
+use Rattle.table.specs.InnerRegisters.{number_of_points}
 use Rattle.reserves.proofs.Holders.{operator_at, operators_at, held_next, as_number, at_most_one}
 use Rattle.reserves.proofs.held.Goals as goal
 
