@@ -1,5 +1,5 @@
 -- Numbers and rows, as the code goes. Assumes nothing.
-use Rattle.std.proofs.Common.{◌≡◌, refl, sym, ap, ◌∙◌, ℕ, ◌+◌, ◌-◌, ◌<◌, ◌≤◌, ◌%◌, ◌/◌, ◌^◌, Bool, true, false, List, [], ◌∷◌, ◌++◌, length, drop, map, get_or, cond, append_assoc, arith}
+use Rattle.std.proofs.Common.{◌≡◌, refl, sym, ap, ◌∙◌, ℕ, ◌+◌, ◌-◌, ◌<◌, ◌≤◌, ◌%◌, ◌/◌, ◌^◌, Bool, true, false, List, [], ◌∷◌, ◌++◌, length, drop, map, get_or, cond, append_assoc, length-append, arith}
 use borrow.Author.Tests.{lt-ltb, le-ltb, eqb-true, eqb-false, ltb-true}
 use mathlib.Core.List.{append-nil}
 use lib.Dec.{eqb}
@@ -65,6 +65,20 @@ module _ (x : ℤ) (f : SFits w64 x) (n : ℕ) (u v digits : List ℕ) (is : n �
       let r : rd x ≡ x = to_z-of_z w64 x f in
       let amount : n ≡ nat_abs x = rw r at is in
       rw (more, g, e, other_text x (rw r at h), ← amount, decimal_is n (omega arith))
+
+-- a number x behind what stands before it: u is that, with its sign where it has one; its amount n follows in digits
+module _ (x : ℤ) (n : ℕ) (before u digits : List ℕ) (is : n ≡ nat_abs x) (e : digits ≡ decimal n) where
+  pub signed_fits : n ≤ 2 ^ 63 → u ≡ before ++ (45 ∷ []) → length u + length digits ≤ length before + 20
+  signed_fits bound g = rw (g, e, length-append) (omega (arith, nineteen n bound))
+
+  pub plain_fits : n < 2 ^ 64 → u ≡ before → length u + length digits ≤ length before + 20
+  plain_fits bound g = rw (g, e) (omega (arith, length-decimal-le 20 n (omega arith) (omega arith) bound))
+
+  pub signed_is : n < 2 ^ 64 → lt_z x (pos 0) ≡ true → u ≡ before ++ (45 ∷ []) → u ++ digits ≡ before ++ text_of x
+  signed_is bound h g = rw (g, e, negative_text x h, ← is, decimal_is n bound, append_assoc)
+
+  pub plain_is : n < 2 ^ 64 → lt_z x (pos 0) ≡ false → u ≡ before → u ++ digits ≡ before ++ text_of x
+  plain_is bound h g = rw (g, e, other_text x h, ← is, decimal_is n bound)
 
 -- ---- rows
 

@@ -8,6 +8,7 @@ ghost use Rattle.printing.specs.Rows.{text_of, row_of, unknown_of, hex_digits, h
 mod number;
 
 use arrayvec::ArrayVec;
+use itoa::Buffer;
 pub use number::Number;
 use std::marker::Model;
 
@@ -42,13 +43,27 @@ fn digit(d: u8) -> u8
     if d < 10 { b'0' + d } else { b'a' + (d - 10) }
 }
 
+// Appends a number in base ten.
+fn append_number<T: Number, const N: usize>(bytes: &mut ArrayVec<u8, N>, x: T)
+    requires { length bytes.old.items + 20 ≤ N }
+    ensures text { bytes.new.items ≡ bytes.old.items ++ text_of (T.value x) }
+    ensures room { length bytes.new.items ≤ length bytes.old.items + 20 }
+{
+    if x.is_negative() {
+        bytes.push(b'-');
+    }
+    bytes
+        .try_extend_from_slice(Buffer::new().format(x.amount()).as_bytes())
+        .unwrap();
+}
+
 // Appends a number in base ten, and the byte after it.
 fn append<T: Number, const N: usize>(bytes: &mut ArrayVec<u8, N>, x: T, after: u8)
     requires { length bytes.old.items + 21 ≤ N }
     ensures text { bytes.new.items ≡ bytes.old.items ++ (text_of (T.value x) ++ (after ∷ [])) }
     ensures room { length bytes.new.items ≤ length bytes.old.items + 21 }
 {
-    bytes.try_extend_from_slice(x.digits().as_slice()).unwrap();
+    append_number(bytes, x);
     bytes.push(after);
 }
 

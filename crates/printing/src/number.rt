@@ -1,43 +1,39 @@
 // Numbers that are printed.
-ghost use Rattle.std.specs.Prelude.{◌≡◌, ℤ, pos};
-ghost use Rattle.printing.specs.Rows.{text_of};
-
-use arrayvec::ArrayVec;
-use itoa::Buffer;
-
-// The bytes of a number of 64 bits at most.
-const NUMBER_BYTES: usize = 20;
+ghost use Rattle.std.specs.Prelude.{◌≡◌, ◌≤◌, ◌^◌, ℤ, pos, true, nat_abs, int_lt};
 
 // A number of 64 bits, with or without a sign.
 pub trait Number: Copy {
     ghost value: { Self → ℤ };
 
-    // The number in base ten.
-    fn digits(self) -> ArrayVec<u8, NUMBER_BYTES>
-        ensures { result.items ≡ text_of (value self) };
+    fn is_negative(self) -> bool
+        ensures { result ≡ int_lt (value self) (pos 0) };
+
+    // The number without its sign.
+    fn amount(self) -> u64
+        ensures amount { result ≡ nat_abs (value self) }
+        ensures bound { int_lt (value self) (pos 0) ≡ true → result ≤ 2 ^ 63 };
 }
 
 impl Number for u64 {
     ghost value = { pos };
 
-    fn digits(self) -> ArrayVec<u8, NUMBER_BYTES> {
-        let mut text = ArrayVec::new();
-        text.try_extend_from_slice(Buffer::new().format(self).as_bytes())
-            .unwrap();
-        text
+    fn is_negative(self) -> bool {
+        false
+    }
+
+    fn amount(self) -> u64 {
+        self
     }
 }
 
 impl Number for i64 {
     ghost value = { λ x. x };
 
-    fn digits(self) -> ArrayVec<u8, NUMBER_BYTES> {
-        let mut text = ArrayVec::new();
-        if self < 0 {
-            text.push(b'-');
-        }
-        text.try_extend_from_slice(Buffer::new().format(self.unsigned_abs()).as_bytes())
-            .unwrap();
-        text
+    fn is_negative(self) -> bool {
+        self < 0
+    }
+
+    fn amount(self) -> u64 {
+        self.unsigned_abs()
     }
 }
